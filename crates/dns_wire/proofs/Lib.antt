@@ -1,0 +1,7 @@
+-- The crate's own lemmas.
+pub mod Digits
+pub mod Lent
+pub mod Lowered
+pub mod Spelled
+pub mod Told
+pub mod Walk

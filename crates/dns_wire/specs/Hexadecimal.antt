@@ -1,0 +1,59 @@
+-- Octets as hexadecimal text (RFC 4648 section 8).
+use Rattle.std.specs.Prelude.{◌≡◌, ℕ, ◌+◌, ◌-◌, ◌*◌, ◌/◌, ◌%◌, ◌==◌, ◌||◌, ◌&&◌, nat_le, Bool, if◌then◌else◌, List, [], ◌∷◌, ◌++◌, Option, Some, None, codes, slice_index, flat_map}
+
+-- ---- reading
+
+-- a space, a tab, CR or LF
+abbrev pub is_blank : ℕ → Bool
+is_blank b = b == 32 || b == 9 || b == 13 || b == 10
+
+-- an octet and the text behind it, which has no blank at its end
+abbrev pub trim_cons : ℕ → List ℕ → List ℕ
+trim_cons b [] = if is_blank b then [] else b ∷ []
+trim_cons b (c ∷ rest) = b ∷ c ∷ rest
+
+-- a text without the blanks at its end
+unfoldable pub trim : List ℕ → List ℕ
+trim [] = []
+trim (b ∷ rest) = trim_cons b (trim rest)
+
+-- the value of a digit: `A` to `F` are 10 to 15, `a` to `f` too, and `0` to `9` are 0 to 9
+abbrev pub digit_value : ℕ → Option ℕ
+digit_value c =
+    if nat_le 65 c && nat_le c 70 then Some (c - 55)
+    else if nat_le 97 c && nat_le c 102 then Some (c - 87)
+    else if nat_le 48 c && nat_le c 57 then Some (c - 48)
+    else None
+
+-- the octet of two digits, before the octets behind it
+abbrev pub pair_before : Option ℕ → Option ℕ → Option (List ℕ) → Option (List ℕ)
+pair_before (Some high) (Some low) (Some octets) = Some ((high * 16 + low) ∷ octets)
+pair_before high low octets = None
+
+-- the octets that pairs of digits spell; none where the text is no pairs of digits
+unfoldable pub spelled : List ℕ → Option (List ℕ)
+spelled [] = Some []
+spelled (c ∷ []) = None
+spelled (c ∷ d ∷ rest) = pair_before (digit_value c) (digit_value d) (spelled rest)
+
+-- but for blanks at its end, the text is pairs of digits, and they spell these octets
+abbrev pub Spells : List ℕ → List ℕ → Type 0
+Spells text octets = spelled (trim text) ≡ Some octets
+
+-- the text spells no octets
+abbrev pub SpellsNothing : List ℕ → Type 0
+SpellsNothing text = spelled (trim text) ≡ None
+
+-- ---- writing
+
+-- the digits of an octet, in lowercase
+abbrev pub shown : ℕ → List ℕ
+shown octet = slice_index (codes "0123456789abcdef") (octet / 16) ∷ slice_index (codes "0123456789abcdef") (octet % 16) ∷ []
+
+-- the digits of some octets, and LF
+abbrev pub line : List ℕ → List ℕ
+line octets = flat_map shown octets ++ 10 ∷ []
+
+-- a line for each list of octets
+abbrev pub lines : List (List ℕ) → List ℕ
+lines lists = flat_map line lists

@@ -1,0 +1,62 @@
+-- Names: lists of labels without the root, and how they stand on the wire (RFC 1035 sections 2.3.4 and 3.1).
+use Rattle.std.specs.Prelude.{ℕ, zero, suc, ◌<◌, ◌≤◌, List, [], ◌∷◌, ◌++◌, length, take, drop, map, Option, Some, None, nat_lt, ◌==◌, ◌||◌, if◌then◌else◌}
+use Rattle.std.specs.List.{AllByRecursion}
+use Rattle.std.specs.Str.{str_to_ascii_lowercase}
+
+-- ---- names, and their octets
+
+-- a label has 1 to 63 octets
+abbrev pub IsLabel : List ℕ → Type 0
+IsLabel label = (0 < length label) × (length label < 64)
+
+-- labels, each behind its length
+abbrev pub heads : List (List ℕ) → List ℕ
+heads [] = []
+heads (label ∷ labels) = length label ∷ (label ++ heads labels)
+
+-- a name's octets: its labels, each behind its length, and the root's length, which is 0
+abbrev pub wire : List (List ℕ) → List ℕ
+wire labels = heads labels ++ 0 ∷ []
+
+-- labels are a name where their octets are at most 255
+pub record IsName (labels : List (List ℕ)) : Type 0 where
+  pub sizes : AllByRecursion IsLabel labels
+  pub size : length (wire labels) ≤ 255
+
+-- the name in small letters: `A` to `Z` become `a` to `z`, and all other octets stay (RFC 4343 section 3)
+abbrev pub lowered : List (List ℕ) → List (List ℕ)
+lowered labels = map str_to_ascii_lowercase labels
+
+-- ---- reading a name without pointers
+
+-- what is read after these labels, with them in front
+abbrev pub after_labels : List (List ℕ) → Option (List (List ℕ) × List ℕ) → Option (List (List ℕ) × List ℕ)
+after_labels labels None = None
+after_labels labels (Some (others, rest)) = Some (labels ++ others, rest)
+
+-- the labels up to the root, and what follows it, where no more than steps lengths are read
+unfoldable pub labels_within : ℕ → List ℕ → Option (List (List ℕ) × List ℕ)
+labels_within zero bytes = None
+labels_within (suc steps) [] = None
+labels_within (suc steps) (size ∷ rest) =
+    if size == 0 then Some ([], rest)
+    else if nat_lt 63 size || nat_lt (length rest) size then None
+    else after_labels (take size rest ∷ []) (labels_within steps (drop size rest))
+
+-- a reading of labels whose octets are at most 255
+abbrev pub up_to_255 : Option (List (List ℕ) × List ℕ) → Option (List (List ℕ) × List ℕ)
+up_to_255 None = None
+up_to_255 (Some (labels, rest)) = if nat_lt 255 (length (wire labels)) then None else Some (labels, rest)
+
+-- The name at the front, and what follows it. `plain_names` says it in other words: labels are read exactly where they
+-- are a name whose octets stand at the front.
+unfoldable pub plain_name : List ℕ → Option (List (List ℕ) × List ℕ)
+plain_name bytes = up_to_255 (labels_within (length bytes) bytes)
+
+abbrev pub labels_or_none : Option (List (List ℕ) × List ℕ) → List (List ℕ)
+labels_or_none None = []
+labels_or_none (Some (labels, rest)) = labels
+
+-- the labels of a name's octets
+unfoldable pub labels_of : List ℕ → List (List ℕ)
+labels_of bytes = labels_or_none (plain_name bytes)

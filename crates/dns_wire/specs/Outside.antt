@@ -1,0 +1,46 @@
+-- The outside: octets left to read, octets written, and faults.
+use Rattle.std.specs.Prelude.{◌≡◌, ℕ, ◌+◌, ◌-◌, ◌^◌, ◌≤◌, List, [], length, take, Bool, false, min, nat_lt, if◌then◌else◌, OnOk, OnErr, IfSome, MatchResult, Option, Some, None, Result}
+use Rattle.std.specs.Io.KnownBytes.{Appends}
+
+-- ---- faults
+
+-- a count of faults, which stops at its last value, has counted one
+abbrev pub Rose : ℕ → ℕ → Type 0
+Rose before now = min (before + 1) (2 ^ 64 - 1) ≤ now
+
+-- a count never falls, stays at `Ok`, and rises where the call fails
+pub record HasCause {T E : Type 0} (before now : ℕ) (result : Result T E) : Type 0 where
+  pub later : before ≤ now
+  pub steady : OnOk result (now ≡ before)
+  pub failed : OnErr result (Rose before now)
+
+-- ---- the flag of a sink: all that was taken has arrived
+
+-- the flag, where it is told, is now this
+abbrev pub BecomesFlag : Option Bool → Option Bool → Bool → Type 0
+BecomesFlag None new value = Unit {0}
+BecomesFlag (Some old) new value = new ≡ Some value
+
+-- the flag, where it is told, stays
+abbrev pub KeepsFlag : Option Bool → Option Bool → Type 0
+KeepsFlag None new = Unit {0}
+KeepsFlag (Some old) new = new ≡ Some old
+
+-- a write that takes an octet makes the flag false, and no other does anything to it
+abbrev pub WriteFlag : {E : Type 0} → Option Bool → Option Bool → Result ℕ E → Type 0
+WriteFlag None new result = Unit {0}
+WriteFlag (Some old) new result = MatchResult result (λ n. new ≡ Some (if nat_lt 0 n then false else old)) (λ _. new ≡ Some old)
+
+-- ---- whole texts
+
+-- all that was left has been read, and nothing is left, where octets are told
+abbrev pub ReadsAll : Option (List ℕ) → Option (List ℕ) → List ℕ → Type 0
+ReadsAll old new text = IfSome old (λ all. (text ≡ all) × (new ≡ Some []))
+
+-- some front of the text has been written
+abbrev pub WritesFront : Option (List ℕ) → Option (List ℕ) → List ℕ → Type 0
+WritesFront old new text = (n : ℕ) × (n ≤ length text) × Appends old new (take n text)
+
+-- the text has been written at `Ok`, and some front of it at `Err`
+abbrev pub Puts : {E : Type 0} → Option (List ℕ) → Option (List ℕ) → List ℕ → Result (Unit {0}) E → Type 0
+Puts old new text result = MatchResult result (λ _. Appends old new text) (λ _. WritesFront old new text)

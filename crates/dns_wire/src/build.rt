@@ -1,0 +1,87 @@
+//! Writing values as octets.
+
+ghost use Rattle.std.specs.Prelude.{◌≡◌, ℕ, ◌≤◌, ◌<◌, ◌^◌, List, [], ◌∷◌, length, drop, IfOk, OnOk, OnErr, ⊤};
+ghost use Rattle.std.specs.Borrow.{sem};
+ghost use Rattle.dns_wire.specs.Building.{Builds, LendsRest};
+
+use crate::error::TruncationError;
+
+/// A type whose values are written as octets.
+pub trait BuildBytes {
+    /// The value's octets.
+    ghost octets: { Self → List ℕ };
+
+    /// All its prefixed data fit their prefixes.
+    ghost fits: { Self → Type 0 };
+
+    /// Writes the value at a place of the buffer, and gives the place where it ends. It is accepted
+    /// exactly where the prefixed data fit and the octets are at most those from `start` on.
+    /// After `TruncationError` the octets before `start` are as before.
+    fn build_at(&self, bytes: &mut [u8], start: usize) -> Result<usize, TruncationError>
+        requires { start ≤ length bytes.old }
+        ensures { Builds (fits self.now) (octets self.now) bytes.old start bytes.new result };
+
+    /// The number of octets that an accepted call writes.
+    fn built_bytes_size(&self) -> usize
+        requires { length (octets self.now) < 2 ^ 64 }
+        ensures { result ≡ length (octets self.now) };
+
+    /// Writes the value at the front of the buffer, and gives back the rest, unchanged. It is accepted
+    /// exactly where the prefixed data fit and the octets are at most the buffer's. After
+    /// `TruncationError` the buffer's octets are open.
+    final fn build_bytes<'b>(&self, bytes: &'b mut [u8]) -> Result<&'b mut [u8], TruncationError>
+        ensures* written { sem 𝓛 (LendsRest bytes.entry result (octets self.now)) }
+        ensures rest { IfOk result (λ rest. rest.now ≡ drop (length (octets self.now)) bytes.old) }
+        ensures accepted { OnOk result (fits self.now × (length (octets self.now) ≤ length bytes.old)) }
+        ensures refused { OnErr result (fits self.now → length bytes.old < length (octets self.now)) }
+    {
+        match self.build_at(bytes, 0) {
+            Ok(end) => Ok(&mut bytes[end..]),
+            Err(error) => Err(error),
+        }
+    }
+}
+
+/// Writes the octets at a place of the buffer, if they are at most those from `start` on, and gives
+/// the place where they end.
+pub fn put(octets: &[u8], bytes: &mut [u8], start: usize) -> Result<usize, TruncationError>
+    requires { start ≤ length bytes.old }
+    ensures { Builds ⊤ octets.now bytes.old start bytes.new result }
+{
+    if bytes.len() - start < octets.len() {
+        return Err(TruncationError);
+    }
+    let end = start + octets.len();
+    bytes[start..end].copy_from_slice(octets);
+    Ok(end)
+}
+
+/// One octet.
+impl BuildBytes for u8 {
+    ghost octets = { λ v. v ∷ [] };
+
+    ghost fits = { λ _. ⊤ };
+
+    fn build_at(&self, bytes: &mut [u8], start: usize) -> Result<usize, TruncationError> {
+        put(&[*self], bytes, start)
+    }
+
+    fn built_bytes_size(&self) -> usize {
+        1
+    }
+}
+
+/// The octets, as they stand.
+impl BuildBytes for &[u8] {
+    ghost octets = { λ v. v.now };
+
+    ghost fits = { λ _. ⊤ };
+
+    fn build_at(&self, bytes: &mut [u8], start: usize) -> Result<usize, TruncationError> {
+        put(self, bytes, start)
+    }
+
+    fn built_bytes_size(&self) -> usize {
+        self.len()
+    }
+}

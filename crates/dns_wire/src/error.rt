@@ -1,0 +1,14 @@
+//! Why octets could not be read or written.
+
+use thiserror::Error;
+
+/// The octets are not in the grammar of the value that was to be read.
+#[derive(Clone, Copy, Debug, PartialEq, Eq, Hash, Error)]
+#[error("DNS data could not be parsed from the wire format")]
+pub struct ParseError;
+
+/// The octets to be written are more than the free ones, or prefixed data are longer than their
+/// prefix can say.
+#[derive(Clone, Copy, Debug, PartialEq, Eq, Error)]
+#[error("a buffer was too small")]
+pub struct TruncationError;

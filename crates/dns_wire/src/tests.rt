@@ -1,0 +1,99 @@
+//! Each public call once, and the devices where a call fails in mid-stream.
+
+use crate::{
+    BuildBytes, Failed, NullSink, ParseBytes, ParseError, PlainSource, ReadSource, Sink, Source,
+    SplitBytes, TextSink, TextSource, TruncationError, WriteSink, hexadecimal_text, plain_names,
+    put,
+};
+use std::io;
+use std::test::Fail;
+
+#[test]
+fn reads_and_writes_octets(rt: HostRuntime) -> Result<(), Fail> {
+    let (first, rest) = u8::split_bytes(b"abc")?;
+    let (pair, end) = <[u8; 2]>::split_bytes(rest)?;
+    assert_eq!(rt; first, b'a');
+    assert_eq!(rt; pair, *b"bc");
+    assert!(rt; end.is_empty());
+    assert!(rt; u8::parse_bytes(rest).is_err());
+    assert!(rt; <[u8; 3]>::parse_bytes(rest).is_err());
+    assert_eq!(rt; <&[u8]>::parse_bytes(rest)?, b"bc".as_slice());
+
+    let mut buffer = *b"......";
+    let start = put(b"ab", &mut buffer, 1)?;
+    let octets: &[u8] = b"cd";
+    assert_eq!(rt; octets.build_at(&mut buffer, start)?, 5);
+    assert_eq!(rt; octets.built_bytes_size(), 2);
+    assert_eq!(rt; buffer, *b".abcd.");
+    let rest = b'x'.build_bytes(&mut buffer)?;
+    let rest = octets.build_bytes(rest)?;
+    assert_eq!(rt; &*rest, b"cd.".as_slice());
+    assert!(rt; put(b"abcd", rest, 0).is_err());
+    plain_names();
+    hexadecimal_text();
+    Ok(())
+}
+
+#[test]
+fn says_why(rt: HostRuntime) -> Result<(), Fail> {
+    let parse = ParseError.to_string(rt.alloc())?;
+    let truncation = TruncationError.to_string(rt.alloc())?;
+    assert_eq!(rt;
+        parse.as_str(),
+        "DNS data could not be parsed from the wire format"
+    );
+    assert_eq!(rt; truncation.as_str(), "a buffer was too small");
+    Ok(())
+}
+
+#[test]
+fn sources_fail_where_they_are_told(rt: HostRuntime) -> Result<(), Fail> {
+    let mut into = [0u8; 4];
+    let mut source = TextSource::new(b"abcdef", 3, &[1, 3]);
+    assert_eq!(rt; source.read(&mut into), Ok(3));
+    assert_eq!(rt; source.read(&mut into), Err(Failed));
+    assert_eq!(rt; source.read(&mut into), Ok(3));
+    assert_eq!(rt; into, *b"def\0");
+    assert_eq!(rt; source.read(&mut into), Err(Failed));
+    assert_eq!(rt; source.read(&mut into), Ok(0));
+
+    let mut plain = PlainSource::new(b"abcdef");
+    assert_eq!(rt; plain.read(&mut into), Ok(4));
+    assert_eq!(rt; plain.read(&mut into), Ok(2));
+    assert_eq!(rt; plain.read(&mut into), Ok(0));
+    Ok(())
+}
+
+#[test]
+fn sinks_fail_where_they_are_told_and_where_they_are_full(rt: HostRuntime) -> Result<(), Fail> {
+    let mut buffer = [0u8; 4];
+    let mut sink = TextSink::new(&mut buffer, 3, &[1, 5]);
+    assert_eq!(rt; sink.write(b"abcdef"), Ok(3));
+    assert_eq!(rt; sink.flush(), Err(Failed));
+    assert!(rt; !sink.flushed());
+    assert_eq!(rt; sink.write(b"def"), Ok(1));
+    assert_eq!(rt; sink.write(b"ef"), Err(Failed));
+    assert_eq!(rt; sink.write(b""), Ok(0));
+    assert_eq!(rt; sink.flush(), Err(Failed));
+    assert_eq!(rt; sink.flush(), Ok(()));
+    assert!(rt; sink.flushed());
+    assert_eq!(rt; sink.written(), b"abcd".as_slice());
+
+    assert_eq!(rt; NullSink.write(b"abc"), Ok(3));
+    assert_eq!(rt; NullSink.flush(), Ok(()));
+    Ok(())
+}
+
+#[test]
+fn adapters_pass_octets_on(rt: HostRuntime) -> Result<(), Fail> {
+    let mut into = [0u8; 2];
+    let mut source = ReadSource::new(b"abc".as_slice());
+    assert_eq!(rt; source.read(&mut into), Ok(2));
+    assert_eq!(rt; into, *b"ab");
+    assert_eq!(rt; source.read(&mut into), Ok(1));
+    assert_eq!(rt; source.read(&mut into), Ok(0));
+    let mut sink = WriteSink::new(io::sink());
+    assert_eq!(rt; sink.write(b"abc"), Ok(3));
+    assert_eq!(rt; sink.flush(), Ok(()));
+    Ok(())
+}
