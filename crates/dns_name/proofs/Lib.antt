@@ -1,0 +1,3 @@
+-- The crate's own lemmas.
+pub mod Ordered
+pub mod Sameness

@@ -1,0 +1,125 @@
+//! A name as a view over its octets.
+
+ghost use Rattle.std.specs.Prelude.{◌≡◌, ◌≤◌, ◌<◌, ◌^◌, ◌↔◌, ℕ, List, [], ◌∷◌, length, Option, Some, IfOk, IsTrue, MatchOption};
+ghost use Rattle.std.proofs.Props.{props};
+ghost use Rattle.dns_wire.specs.Reading.{Gives, all_of, plain_at};
+ghost use Rattle.dns_wire.specs.Names.{plain_name, labels_of, wire};
+
+use dns_wire::{BuildBytes, ParseBytes, ParseError, SplitBytes, TruncationError, put};
+
+/// A name without pointers: labels of 1 to 63 octets, each behind its length, and the root's length 0,
+/// at most 255 octets in all (RFC 1035 section 3.1).
+#[derive(Clone, Copy, Debug)]
+pub struct Name<'a> {
+    /// All the octets, the last of them the root's 0.
+    pub slice: &'a [u8],
+    ghost is_name: { all_of (plain_name slice.now) ≡ Some (labels_of slice.now) } by { Prim.hlevel props },
+}
+
+impl<'a> Name<'a> {
+    /// The most octets of a name, the root's 0 included (RFC 1035 section 2.3.4).
+    pub const MAX_SIZE: usize = 255;
+
+    /// The root: a name without labels.
+    pub fn root() -> Name<'a>
+        ensures { labels_of result.slice.now ≡ [] }
+    {
+        Name { slice: &[0] }
+    }
+
+    /// The number of octets, from 1 to 255.
+    pub fn len(&self) -> usize
+        ensures octets { result ≡ length self.now.slice.now }
+        ensures wire { result ≡ length (wire (labels_of self.now.slice.now)) }
+        ensures short { result ≤ 255 }
+    {
+        self.as_bytes().len()
+    }
+
+    /// Whether there are no labels before the root.
+    pub fn is_root(&self) -> bool
+        ensures { IsTrue result ↔ (labels_of self.now.slice.now ≡ []) }
+    {
+        self.split_first().is_none()
+    }
+
+    /// The octets: the labels, each behind its length, and the root's 0.
+    pub fn as_bytes(&self) -> &'a [u8]
+        ensures octets { result.now ≡ self.now.slice.now }
+        ensures name { all_of (plain_name result.now) ≡ Some (labels_of self.now.slice.now) }
+        ensures wire { result.now ≡ wire (labels_of self.now.slice.now) }
+        ensures short { length result.now ≤ 255 }
+    {
+        self.slice
+    }
+
+    /// The first label, and the name behind it; none where the name is the root.
+    pub(crate) fn split_first(&self) -> Option<(&'a [u8], Name<'a>)>
+        ensures { MatchOption result (labels_of self.now.slice.now ≡ [])
+            (λ x. labels_of self.now.slice.now ≡ x.0.now ∷ labels_of x.1.slice.now) }
+    {
+        let size = self.slice[0] as usize;
+        if size == 0 {
+            return None;
+        }
+        let (_head, behind) = self.slice.split_at(1);
+        let (label, rest) = behind.split_at(size);
+        Some((label, Name { slice: rest }))
+    }
+}
+
+impl<'a> ParseBytes<'a> for Name<'a> {
+    ghost Seen = { List (List ℕ) };
+
+    ghost seen = { λ v. labels_of v.slice.now };
+
+    ghost reads = { plain_name };
+
+    ghost reads_at = { plain_at plain_name };
+
+    ghost labels = { λ x. x };
+
+    fn parse_bytes(bytes: &'a [u8]) -> Result<Name<'a>, ParseError> {
+        let (name, rest) = Name::split_bytes(bytes)?;
+        if rest.is_empty() {
+            Ok(name)
+        } else {
+            Err(ParseError)
+        }
+    }
+}
+
+impl<'a> SplitBytes<'a> for Name<'a> {
+    fn split_bytes(bytes: &'a [u8]) -> Result<(Name<'a>, &'a [u8]), ParseError> {
+        let mut end = 0;
+        while end < bytes.len() && end < Name::MAX_SIZE {
+            let size = bytes[end] as usize;
+            if size == 0 {
+                let (front, rest) = bytes.split_at(end + 1);
+                return Ok((Name { slice: front }, rest));
+            }
+            if size > 63 || bytes.len() - end <= size {
+                return Err(ParseError);
+            }
+            end += 1 + size;
+        }
+        Err(ParseError)
+    }
+}
+
+impl<'a> BuildBytes for Name<'a> {
+    ghost use Rattle.std.specs.Prelude.{⊤};
+    ghost use Rattle.dns_wire.specs.Building.{Builds};
+
+    ghost octets = { λ v. wire (labels_of v.slice.now) };
+
+    ghost fits = { λ _. ⊤ };
+
+    fn build_at(&self, bytes: &mut [u8], start: usize) -> Result<usize, TruncationError> {
+        put(self.as_bytes(), bytes, start)
+    }
+
+    fn built_bytes_size(&self) -> usize {
+        self.len()
+    }
+}
