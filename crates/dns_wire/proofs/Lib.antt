@@ -1,5 +1,6 @@
 -- The crate's own lemmas.
 pub mod Digits
+pub mod Following
 pub mod Lent
 pub mod Lowered
 pub mod Spelled

@@ -4,4 +4,5 @@ pub mod Devices
 pub mod Hexadecimal
 pub mod Names
 pub mod Outside
+pub mod Pointers
 pub mod Reading

@@ -48,3 +48,8 @@ with_end contents (Some (y, rest)) = Some (y, length contents - length rest)
 abbrev pub plain_at : {Y : Type 0} → (List ℕ → Option (Y × List ℕ)) → List ℕ → ℕ → Option (Y × ℕ)
 plain_at grammar contents start =
     if nat_lt (length contents) start then None else with_end contents (grammar (drop start contents))
+
+-- what a grammar reads that knows no places, where no octet is left over; nothing from a place behind the end
+abbrev pub all_plain_at : {Y : Type 0} → (List ℕ → Option (Y × List ℕ)) → List ℕ → ℕ → Option Y
+all_plain_at grammar contents start =
+    if nat_lt (length contents) start then None else all_of (grammar (drop start contents))

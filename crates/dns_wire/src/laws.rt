@@ -1,8 +1,9 @@
 //! The definitions of this crate in other words.
 
-ghost use Rattle.std.specs.Prelude.{◌≡◌, ◌≤◌, ◌++◌, ℕ, List, Some, length, flat_map};
+ghost use Rattle.std.specs.Prelude.{◌≡◌, ◌≤◌, ◌<◌, ◌+◌, ◌++◌, ℕ, List, Some, length, flat_map};
 ghost use Rattle.dns_wire.specs.Hexadecimal.{spelled, shown};
 ghost use Rattle.dns_wire.specs.Names.{IsName, wire, plain_name};
+ghost use Rattle.dns_wire.specs.Pointers.{Segment, NameAt, head_count, name_at};
 ghost use Rattle.dns_wire.specs.Reading.{AreOctets, plain_at};
 
 /// A name is read exactly where its octets stand at the front. It is one name, and has at most 255
@@ -17,6 +18,43 @@ pub fn plain_names()
     ensures one { (contents : List ℕ) (at : ℕ) (labels others : List (List ℕ)) (end other : ℕ) →
         plain_at plain_name contents at ≡ Some (labels, end) →
         plain_at plain_name contents at ≡ Some (others, other) → (labels ≡ others) × (end ≡ other) }
+{}
+
+/// A name is read in a message exactly where the rules of pointers read it (RFC 1035 section 4.1.4).
+pub fn names_follow_pointers()
+    ensures follows { (contents : List ℕ) (at : ℕ) (labels : List (List ℕ)) (end : ℕ) →
+        name_at contents at ≡ Some (labels, end) → NameAt contents at labels end }
+    ensures read { (contents : List ℕ) (at : ℕ) (labels : List (List ℕ)) (end : ℕ) →
+        NameAt contents at labels end → name_at contents at ≡ Some (labels, end) }
+{}
+
+/// What the rules of pointers read at a place is one name. It has at most 255 octets, and what stands at
+/// the place has an octet and ends within the contents.
+pub fn pointed_names()
+    ensures one { (contents : List ℕ) (at : ℕ) (labels others : List (List ℕ)) (end other : ℕ) →
+        NameAt contents at labels end → NameAt contents at others other → (labels ≡ others) × (end ≡ other) }
+    ensures name { (contents : List ℕ) (at : ℕ) (labels : List (List ℕ)) (end : ℕ) →
+        NameAt contents at labels end → IsName labels }
+    ensures within { (contents : List ℕ) (at : ℕ) (labels : List (List ℕ)) (end : ℕ) →
+        NameAt contents at labels end → (at < end) × (end ≤ length contents) }
+{}
+
+/// Reading a name ends, since each pointer leads strictly before the start of its segment: there are at
+/// most as many pointers as places before the first segment. So a name's heads are at most 128, and one
+/// more for each of these places.
+pub fn pointers_lead_back()
+    ensures segment { (contents : List ℕ) (start at : ℕ) (labels : List (List ℕ)) (end : ℕ)
+        (reads : Segment contents start at labels end) → head_count reads ≤ length labels + start + 1 }
+    ensures name { (contents : List ℕ) (at : ℕ) (labels : List (List ℕ)) (end : ℕ)
+        (found : NameAt contents at labels end) → head_count found.reads ≤ 128 + at }
+{}
+
+/// A name is read the same way when octets are added behind the contents.
+pub fn added_octets()
+    ensures follows { (contents more : List ℕ) (at : ℕ) (labels : List (List ℕ)) (end : ℕ) →
+        NameAt contents at labels end → NameAt (contents ++ more) at labels end }
+    ensures read { (contents more : List ℕ) (at : ℕ) (labels : List (List ℕ)) (end : ℕ) →
+        name_at contents at ≡ Some (labels, end) → name_at (contents ++ more) at ≡ Some (labels, end) }
 {}
 
 /// What is written in hexadecimal is read back (RFC 4648 section 8).

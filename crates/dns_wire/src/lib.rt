@@ -1,10 +1,11 @@
-//! The wire layer: what it means to read and to write octets, names as lists of labels, and the
-//! sources and sinks through which a program meets the outside.
+//! The wire layer: what it means to read and to write octets, names as lists of labels with and without
+//! pointers, and the sources and sinks through which a program meets the outside.
 #![tactic(auto)]
 
 mod adapters;
 mod build;
 mod error;
+mod follow;
 mod laws;
 mod memory;
 mod outside;
@@ -13,10 +14,17 @@ mod parse;
 pub use adapters::{ReadSource, WriteSink};
 pub use build::{BuildBytes, put};
 pub use error::{ParseError, TruncationError};
-pub use laws::{hexadecimal_text, plain_names};
+pub use follow::{Head, read_head};
+pub use laws::{
+    added_octets, hexadecimal_text, names_follow_pointers, plain_names, pointed_names,
+    pointers_lead_back,
+};
 pub use memory::{NullSink, PlainSource, TextSink, TextSource};
 pub use outside::{Failed, Sink, Source};
-pub use parse::{ParseBytes, SplitBytes};
+pub use parse::{
+    ParseBytes, ParseMessageBytes, SplitBytes, SplitMessageBytes, parse_without_compression,
+    split_without_compression,
+};
 
 #[cfg(test)]
 mod tests;

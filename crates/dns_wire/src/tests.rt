@@ -1,9 +1,10 @@
 //! Each public call once, and the devices where a call fails in mid-stream.
 
 use crate::{
-    BuildBytes, Failed, NullSink, ParseBytes, ParseError, PlainSource, ReadSource, Sink, Source,
-    SplitBytes, TextSink, TextSource, TruncationError, WriteSink, hexadecimal_text, plain_names,
-    put,
+    BuildBytes, Failed, Head, NullSink, ParseBytes, ParseError, ParseMessageBytes, PlainSource,
+    ReadSource, Sink, Source, SplitBytes, SplitMessageBytes, TextSink, TextSource, TruncationError,
+    WriteSink, added_octets, hexadecimal_text, names_follow_pointers, parse_without_compression,
+    plain_names, pointed_names, pointers_lead_back, put, read_head, split_without_compression,
 };
 use std::io;
 use std::test::Fail;
@@ -31,6 +32,43 @@ fn reads_and_writes_octets(rt: HostRuntime) -> Result<(), Fail> {
     assert!(rt; put(b"abcd", rest, 0).is_err());
     plain_names();
     hexadecimal_text();
+    Ok(())
+}
+
+#[test]
+fn reads_at_places(rt: HostRuntime) -> Result<(), Fail> {
+    let contents = b"abcd";
+    assert_eq!(rt; u8::split_message_bytes(contents, 1)?, (b'b', 2));
+    assert_eq!(rt; u8::parse_message_bytes(contents, 3)?, b'd');
+    assert!(rt; u8::parse_message_bytes(contents, 2).is_err());
+    assert!(rt; u8::split_message_bytes(contents, 4).is_err());
+    assert_eq!(rt; <[u8; 2]>::split_message_bytes(contents, 1)?, (*b"bc", 3));
+    assert_eq!(rt; <[u8; 2]>::parse_message_bytes(contents, 2)?, *b"cd");
+    let none: &[u8] = b"";
+    assert_eq!(rt; <&[u8]>::parse_message_bytes(contents, 4)?, none);
+    assert!(rt; <&[u8]>::parse_message_bytes(contents, 5).is_err());
+    assert_eq!(rt; split_without_compression::<[u8; 0]>(contents, 4)?, ([], 4));
+    assert!(rt; split_without_compression::<[u8; 0]>(contents, 5).is_err());
+    assert_eq!(rt; parse_without_compression::<u8>(contents, 3)?, b'd');
+    assert!(rt; parse_without_compression::<u8>(contents, 5).is_err());
+    Ok(())
+}
+
+/// Places count from the end of the header, and offsets from its front.
+#[test]
+fn reads_heads(rt: HostRuntime) -> Result<(), Fail> {
+    let contents = b"\x01a\0\xc0\x0c\xc0\x0b\x40";
+    assert!(rt; matches!(read_head(contents, 0, 0), Ok(Head::Label(1))));
+    assert!(rt; matches!(read_head(contents, 0, 2), Ok(Head::Root)));
+    assert!(rt; matches!(read_head(contents, 1, 3), Ok(Head::Pointer(0))));
+    assert!(rt; read_head(contents, 0, 3).is_err());
+    assert!(rt; read_head(contents, 5, 5).is_err());
+    assert!(rt; read_head(contents, 7, 7).is_err());
+    assert!(rt; read_head(contents, 8, 8).is_err());
+    names_follow_pointers();
+    pointed_names();
+    pointers_lead_back();
+    added_octets();
     Ok(())
 }
 

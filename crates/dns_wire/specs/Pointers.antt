@@ -1,0 +1,78 @@
+-- Names in a message, where a pointer may stand in place of the labels to come (RFC 1035 section 4.1.4). Contents are
+-- the octets behind the header, and end where reading may go.
+use Rattle.std.specs.Prelude.{◌≡◌, ℕ, zero, suc, ◌+◌, ◌-◌, ◌*◌, ◌<◌, ◌≤◌, List, [], ◌∷◌, ◌++◌, length, take, drop, slice_index, Option, Some, None, unwrap_or, nat_lt, nat_le, ◌==◌, ◌||◌, if◌then◌else◌}
+use Rattle.dns_wire.specs.declared.follow.Head.{Head}
+use Rattle.dns_wire.specs.declared.follow.Head.TheVariants.{Root, Label, Pointer}
+use Rattle.dns_wire.specs.Names.{wire}
+
+-- the low 14 bits of the two octets at a place, whose two high bits are ones
+abbrev pub offset_at : List ℕ → ℕ → ℕ
+offset_at contents at = (slice_index contents at - 192) * 256 + slice_index contents (at + 1)
+
+-- ---- as a relation
+
+-- At a place of the segment that begins at start, these labels are read, and the octets at the place end at end.
+-- It holds in three cases. The octet at the place is 0, which ends the name. Or it is from 1 to 63, and so many octets
+-- behind it are a label, with other labels behind that. Or it is at least 192, and with the octet behind it a pointer.
+-- A pointer's offset counts from the header's first octet, so that it is at least 12; less 12 it is the target, a place
+-- strictly before the start of the segment. There another segment begins, and its labels are read.
+pub data Segment (contents : List ℕ) : ℕ → ℕ → List (List ℕ) → ℕ → Type 0 where
+  at_root : {start at end : ℕ} {labels : List (List ℕ)} → at < length contents → slice_index contents at ≡ 0 → labels ≡ [] → end ≡ at + 1 → Segment contents start at labels end
+  at_label : {start at end : ℕ} {labels others : List (List ℕ)} → 0 < slice_index contents at → slice_index contents at < 64 → at + 1 + slice_index contents at ≤ length contents → labels ≡ take (slice_index contents at) (drop (at + 1) contents) ∷ others → Segment contents start (at + 1 + slice_index contents at) others end → Segment contents start at labels end
+  at_pointer : {start at end target later : ℕ} {labels : List (List ℕ)} → 192 ≤ slice_index contents at → at + 2 ≤ length contents → offset_at contents at ≡ target + 12 → target < start → Segment contents target target labels later → end ≡ at + 2 → Segment contents start at labels end
+
+-- at a place a name of at most 255 octets is read, and what stands there ends at end
+pub record NameAt (contents : List ℕ) (at : ℕ) (labels : List (List ℕ)) (end : ℕ) : Type 0 where
+  pub reads : Segment contents at at labels end
+  pub short : length (wire labels) ≤ 255
+
+-- how many heads a reading goes over: one for each label and each pointer, and one for the root
+abbrev pub head_count : {contents : List ℕ} {start at end : ℕ} {labels : List (List ℕ)} → Segment contents start at labels end → ℕ
+head_count (at_root within is labels_is end_is) = 1
+head_count (at_label some small room labels_is later) = head_count later + 1
+head_count (at_pointer high room is before later end_is) = head_count later + 1
+
+-- ---- as a function
+
+-- what stands at a place of the segment that begins at start
+unfoldable pub head_at : List ℕ → ℕ → ℕ → Option Head
+head_at contents start at =
+    if nat_le (length contents) at then None
+    else if slice_index contents at == 0 then Some Root
+    else if nat_lt (slice_index contents at) 64 then (if nat_lt (length contents) (at + 1 + slice_index contents at) then None else Some (Label (slice_index contents at)))
+    else if nat_lt (slice_index contents at) 192 || nat_lt (length contents) (at + 2) then None
+    else if nat_lt (offset_at contents at) 12 || nat_le start (offset_at contents at - 12) then None
+    else Some (Pointer (offset_at contents at - 12))
+
+-- what there is room for, and where it leads
+abbrev pub HeadFits : List ℕ → ℕ → ℕ → Head → Type 0
+HeadFits contents start at Root = at < length contents
+HeadFits contents start at (Label size) = (slice_index contents at ≡ size) × (0 < size) × (size < 64) × (at + 1 + size ≤ length contents)
+HeadFits contents start at (Pointer target) = (at + 2 ≤ length contents) × (target < start)
+
+-- what is read after these labels, with them in front; the octets end where a pointer has been, if one has
+abbrev pub joined : List (List ℕ) → Option ℕ → Option (List (List ℕ) × ℕ) → Option (List (List ℕ) × ℕ)
+joined labels end None = None
+joined labels end (Some (others, at)) = Some (labels ++ others, unwrap_or end at)
+
+-- what is read from a head on
+abbrev pub after_head : (ℕ → ℕ → Option (List (List ℕ) × ℕ)) → List ℕ → ℕ → ℕ → Option Head → Option (List (List ℕ) × ℕ)
+after_head more contents start at None = None
+after_head more contents start at (Some Root) = Some ([], at + 1)
+after_head more contents start at (Some (Label size)) = joined (take size (drop (at + 1) contents) ∷ []) None (more start (at + 1 + size))
+after_head more contents start at (Some (Pointer target)) = joined [] (Some (at + 2)) (more target target)
+
+-- the labels at a place of a segment, and where the octets there end, where no more than steps heads are read
+unfoldable pub segment_within : ℕ → List ℕ → ℕ → ℕ → Option (List (List ℕ) × ℕ)
+segment_within zero contents start at = None
+segment_within (suc steps) contents start at = after_head (λ s p. segment_within steps contents s p) contents start at (head_at contents start at)
+
+-- a reading of labels whose octets are at most 255
+abbrev pub short_name : Option (List (List ℕ) × ℕ) → Option (List (List ℕ) × ℕ)
+short_name None = None
+short_name (Some (labels, end)) = if nat_lt 255 (length (wire labels)) then None else Some (labels, end)
+
+-- The name at a place, and where its octets end. `names_follow_pointers` says it in other words: labels are read exactly
+-- where the relation has them.
+unfoldable pub name_at : List ℕ → ℕ → Option (List (List ℕ) × ℕ)
+name_at contents at = short_name (segment_within (256 + at) contents at at)
