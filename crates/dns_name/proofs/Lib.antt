@@ -1,3 +1,4 @@
 -- The crate's own lemmas.
+pub mod Followed
 pub mod Ordered
 pub mod Sameness

@@ -12,16 +12,18 @@ use Rattle.dns_wire.specs.Reading.{all_of}
 use Rattle.dns_wire.specs.Names.{plain_name, labels_of, wire, lowered, IsName}
 use Rattle.dns_wire.proofs.Lowered.{lower_wire, name_lowered, wire_one}
 use Rattle.dns_wire.proofs.Spelled.{name_octets}
+use Rattle.dns_name.specs.Hashing.{lowered_from_keys}
 use Rattle.dns_name.specs.Order.{key, key_of, key_cmp}
 
 -- names whose lowered octets are equal are equal when lowered
 pub lowered_from_octets : (a b : List (List ℕ)) → IsName a → IsName b → str_to_ascii_lowercase (wire a) ≡ str_to_ascii_lowercase (wire b) → lowered a ≡ lowered b
 lowered_from_octets a b is js e = wire_one (lowered a) (lowered b) (name_lowered a is) (name_lowered b js) (sym (lower_wire a is.sizes) ∙ e ∙ lower_wire b js.sizes)
 
--- equal keys are of names that are equal when lowered
-pub lowered_from_keys : (a b : List (List ℕ)) → key_cmp (key a) (key b) ≡ Equal → lowered a ≡ lowered b
-lowered_from_keys a b e =
-    sym (reverse-reverse (lowered a)) ∙ ap reverse (slice_cmp-IsAntisymmetric (slice_cmp-IsAntisymmetric nat_cmp-IsAntisymmetric) (key a) (key b) e) ∙ reverse-reverse (lowered b)
+-- a name's octets in small letters are those of its labels in small letters
+pub octets_lowered : (bytes : List ℕ) → all_of (plain_name bytes) ≡ Some (labels_of bytes) → str_to_ascii_lowercase bytes ≡ wire (lowered (labels_of bytes))
+octets_lowered bytes is =
+    let t = name_octets bytes (labels_of bytes) is in
+    ap str_to_ascii_lowercase t.1 ∙ lower_wire (labels_of bytes) t.0.sizes
 
 pub keys_total : IsTotalOrder key_cmp
 keys_total = lists_total nat_list_cmp_total

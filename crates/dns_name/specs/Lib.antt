@@ -1,2 +1,3 @@
 -- What the contracts of names cite.
+pub mod Hashing
 pub mod Order

@@ -1,0 +1,187 @@
+//! A name with its octets.
+
+ghost use Rattle.std.specs.Prelude.{◌≡◌, ◌+◌, ◌≤◌, ℕ, List, ◌++◌, length, take, IfOk, OnErr, ⊤};
+ghost use Rattle.dns_wire.specs.Reading.{Gives, all_of, all_at};
+ghost use Rattle.dns_wire.specs.Names.{plain_name, labels_of};
+ghost use Rattle.dns_wire.specs.Pointers.{NameAt, name_at};
+
+use crate::name::Name;
+use dns_wire::{
+    BuildBytes, Head, ParseBytes, ParseError, ParseMessageBytes, SplitBytes, SplitMessageBytes,
+    TruncationError, read_head,
+};
+use std::alloc::AllocError;
+use std::marker::Model;
+
+/// A name that owns its octets, and is seen as its labels. It takes no memory.
+#[derive(Debug, Drop)]
+pub struct NameBuf {
+    size: u8,
+    buffer: [u8; 255],
+}
+
+impl Model for NameBuf {
+    ghost use Rattle.std.specs.Prelude.{◌≡◌, ◌≤◌, ℕ, List, take, Some};
+    ghost use Rattle.dns_wire.specs.Reading.{all_of};
+    ghost use Rattle.dns_wire.specs.Names.{plain_name, labels_of};
+
+    ghost Value = { List (List ℕ) };
+
+    ghost view = { λ b. labels_of (take b.size b.buffer) };
+
+    ghost invariant = { λ b. (b.size ≤ 255) × (all_of (plain_name (take b.size b.buffer)) ≡ Some (labels_of (take b.size b.buffer))) };
+}
+
+impl NameBuf {
+    /// A copy of the name.
+    pub fn copy_from(name: Name<'_>) -> NameBuf
+        ensures { result ≡ labels_of name.entry.slice.now }
+    {
+        let octets = name.as_bytes();
+        let mut buffer = [0; 255];
+        copy_at(octets, &mut buffer, 0);
+        NameBuf {
+            size: octets.len() as u8,
+            buffer,
+        }
+    }
+
+    /// The name as a view.
+    pub fn as_name(&self) -> Name<'_>
+        ensures { labels_of result.slice.now ≡ self.now }
+    {
+        Name {
+            slice: &self.buffer[..self.size as usize],
+        }
+    }
+}
+
+/// Copies the octets to a place of the buffer.
+fn copy_at(octets: &[u8], buffer: &mut [u8], at: usize)
+    requires { at + length octets.now ≤ length buffer.old }
+    ensures { take (at + length octets.now) buffer.new ≡ take at buffer.old ++ octets.now }
+{
+    buffer[at..at + octets.len()].copy_from_slice(octets);
+}
+
+/// Reads the name at a place, follows its pointers, and gives the place where it ends there. Each label is
+/// copied once, and the first that does not fit is refused.
+fn read_name(contents: &[u8], start: usize) -> Result<(NameBuf, usize), ParseError>
+    ensures exact { Gives (λ x. (x.0, x.1)) result (name_at contents.now start) }
+    ensures within { IfOk result (λ x. (start ≤ x.1) × (x.1 ≤ length contents.now)) }
+{
+    let mut buffer = [0; 255];
+    let mut size = 0;
+    let mut segment = start;
+    let mut at = start;
+    let mut end = None;
+    loop {
+        match read_head(contents, segment, at)? {
+            Head::Root => {
+                copy_at(&[0], &mut buffer, size);
+                let name = NameBuf {
+                    size: (size + 1) as u8,
+                    buffer,
+                };
+                return Ok((name, end.unwrap_or(at + 1)));
+            }
+            Head::Label(label) => {
+                if size + label > 253 {
+                    return Err(ParseError);
+                }
+                copy_at(&contents[at..at + 1 + label], &mut buffer, size);
+                size += 1 + label;
+                at += 1 + label;
+            }
+            Head::Pointer(target) => {
+                end = Some(end.unwrap_or(at + 2));
+                segment = target;
+                at = target;
+            }
+        }
+    }
+}
+
+impl Clone for NameBuf {
+    ghost is_clone = { λ a b. b ≡ a };
+
+    ghost is_infallible = { λ _. ⊤ };
+
+    fn clone(&self) -> Result<NameBuf, AllocError> {
+        Ok(NameBuf::copy_from(self.as_name()))
+    }
+}
+
+/// A name without pointers.
+impl<'a> ParseBytes<'a> for NameBuf {
+    ghost Seen = { List (List ℕ) };
+
+    ghost seen = { λ v. v };
+
+    ghost reads = { plain_name };
+
+    ghost reads_at = { name_at };
+
+    ghost labels = { λ x. x };
+
+    fn parse_bytes(bytes: &'a [u8]) -> Result<NameBuf, ParseError> {
+        let name = Name::parse_bytes(bytes)?;
+        Ok(NameBuf::copy_from(name))
+    }
+}
+
+impl<'a> SplitBytes<'a> for NameBuf {
+    fn split_bytes(bytes: &'a [u8]) -> Result<(NameBuf, &'a [u8]), ParseError> {
+        let (name, rest) = Name::split_bytes(bytes)?;
+        Ok((NameBuf::copy_from(name), rest))
+    }
+}
+
+/// A name whose pointers are followed (RFC 1035 section 4.1.4).
+impl<'a> ParseMessageBytes<'a> for NameBuf {
+    /// Reads the name that stands from the place to the end of the contents. `ParseError` comes exactly
+    /// where none does.
+    fn parse_message_bytes(contents: &'a [u8], start: usize) -> Result<NameBuf, ParseError>
+        ensures exact { Gives (λ v. v) result (all_at contents.now (name_at contents.now start)) }
+        ensures follows { IfOk result (λ v. NameAt contents.now start v (length contents.now)) }
+        ensures refused { OnErr result ((labels : List (List ℕ)) → ¬ NameAt contents.now start labels (length contents.now)) }
+    {
+        let (name, end) = read_name(contents, start)?;
+        if end == contents.len() {
+            Ok(name)
+        } else {
+            Err(ParseError)
+        }
+    }
+}
+
+impl<'a> SplitMessageBytes<'a> for NameBuf {
+    /// Reads the name at the place, and gives the place where it ends. `ParseError` comes exactly where
+    /// none stands there.
+    fn split_message_bytes(contents: &'a [u8], start: usize) -> Result<(NameBuf, usize), ParseError>
+        ensures exact { Gives (λ x. (x.0, x.1)) result (name_at contents.now start) }
+        ensures within { IfOk result (λ x. (start ≤ x.1) × (x.1 ≤ length contents.now)) }
+        ensures follows { IfOk result (λ x. NameAt contents.now start x.0 x.1) }
+        ensures refused { OnErr result ((labels : List (List ℕ)) (end : ℕ) → ¬ NameAt contents.now start labels end) }
+    {
+        read_name(contents, start)
+    }
+}
+
+impl BuildBytes for NameBuf {
+    ghost use Rattle.std.specs.Prelude.{⊤};
+    ghost use Rattle.dns_wire.specs.Building.{Builds};
+    ghost use Rattle.dns_wire.specs.Names.{wire};
+
+    ghost octets = { λ v. wire v };
+
+    ghost fits = { λ _. ⊤ };
+
+    fn build_at(&self, bytes: &mut [u8], start: usize) -> Result<usize, TruncationError> {
+        self.as_name().build_at(bytes, start)
+    }
+
+    fn built_bytes_size(&self) -> usize {
+        self.as_name().built_bytes_size()
+    }
+}
