@@ -2,18 +2,15 @@
 use Rattle.std.proofs.Common.{◌≡◌, ℕ, List, Bool, true, false, Some, refl, sym, ap, ◌∙◌}
 use Rattle.std.specs.Prelude.{◌↔◌, IsTrue, reverse}
 use Rattle.std.specs.Ordering.{is_eq}
-use Rattle.std.specs.declared.cmp.Ordering.TheVariants.{Equal}
 use Rattle.std.specs.Cmp.{Equal-is, IsTotalOrder}
-use Rattle.std.specs.FinMap.{nat_cmp-IsAntisymmetric, slice_cmp-IsAntisymmetric}
 use Rattle.std.specs.Str.{str_to_ascii_lowercase}
 use Rattle.std.proofs.lemmas.Cmp.{lists_total, nat_list_cmp_total, tied_itself}
-use Rattle.std.proofs.lemmas.List.{reverse-reverse}
 use Rattle.dns_wire.specs.Reading.{all_of}
 use Rattle.dns_wire.specs.Names.{plain_name, labels_of, wire, lowered, IsName}
 use Rattle.dns_wire.proofs.Lowered.{lower_wire, name_lowered, wire_one}
 use Rattle.dns_wire.proofs.Spelled.{name_octets}
 use Rattle.dns_name.specs.Hashing.{lowered_from_keys}
-use Rattle.dns_name.specs.Order.{key, key_of, key_cmp}
+use Rattle.dns_name.specs.Order.{key_of, key_cmp}
 
 -- names whose lowered octets are equal are equal when lowered
 pub lowered_from_octets : (a b : List (List ℕ)) → IsName a → IsName b → str_to_ascii_lowercase (wire a) ≡ str_to_ascii_lowercase (wire b) → lowered a ≡ lowered b

@@ -17,7 +17,7 @@ use std::marker::Model;
 #[derive(Debug, Drop)]
 pub struct NameBuf {
     size: u8,
-    buffer: [u8; 255],
+    buffer: [u8; Name::MAX_SIZE],
 }
 
 impl Model for NameBuf {
@@ -38,7 +38,7 @@ impl NameBuf {
         ensures { result ≡ labels_of name.entry.slice.now }
     {
         let octets = name.as_bytes();
-        let mut buffer = [0; 255];
+        let mut buffer = [0; Name::MAX_SIZE];
         copy_at(octets, &mut buffer, 0);
         NameBuf {
             size: octets.len() as u8,
@@ -64,13 +64,13 @@ fn copy_at(octets: &[u8], buffer: &mut [u8], at: usize)
     buffer[at..at + octets.len()].copy_from_slice(octets);
 }
 
-/// Reads the name at a place, follows its pointers, and gives the place where it ends there. Each label is
-/// copied once, and the first that does not fit is refused.
+/// Reads the name at the place, its pointers followed, and gives the place where it ends. Each label is
+/// copied once, and the first that leaves no room for the root ends the reading.
 fn read_name(contents: &[u8], start: usize) -> Result<(NameBuf, usize), ParseError>
     ensures exact { Gives (λ x. (x.0, x.1)) result (name_at contents.now start) }
     ensures within { IfOk result (λ x. (start ≤ x.1) × (x.1 ≤ length contents.now)) }
 {
-    let mut buffer = [0; 255];
+    let mut buffer = [0; Name::MAX_SIZE];
     let mut size = 0;
     let mut segment = start;
     let mut at = start;
@@ -86,7 +86,7 @@ fn read_name(contents: &[u8], start: usize) -> Result<(NameBuf, usize), ParseErr
                 return Ok((name, end.unwrap_or(at + 1)));
             }
             Head::Label(label) => {
-                if size + label > 253 {
+                if size + 1 + label >= Name::MAX_SIZE {
                     return Err(ParseError);
                 }
                 copy_at(&contents[at..at + 1 + label], &mut buffer, size);

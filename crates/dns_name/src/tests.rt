@@ -1,8 +1,9 @@
-//! Each public call once, and the order of names that RFC 4034 shows.
+//! Each public call once, the order of names that RFC 4034 shows, and pointers in the contents of messages.
 
-use crate::Name;
-use dns_wire::{BuildBytes, ParseBytes, SplitBytes};
+use crate::{Name, NameBuf};
+use dns_wire::{BuildBytes, ParseBytes, ParseMessageBytes, SplitBytes, SplitMessageBytes};
 use std::cmp::Ordering;
+use std::hash::{DefaultHasher, Hash, Hasher};
 use std::test::Fail;
 
 #[test]
@@ -99,5 +100,107 @@ fn compares_labels_from_the_root_on(rt: HostRuntime) -> Result<(), Fail> {
     assert_eq!(rt; one.cmp(&other), Ordering::Equal);
     assert!(rt; one == other);
     assert!(rt; one <= other);
+    Ok(())
+}
+
+#[test]
+fn owns_names(rt: HostRuntime) -> Result<(), Fail> {
+    let (name, rest) = NameBuf::split_bytes(b"\x03www\x07Example\0rest")?;
+    assert_eq!(rt;
+        name.as_name().as_bytes(),
+        b"\x03www\x07Example\0".as_slice()
+    );
+    assert_eq!(rt; rest, b"rest".as_slice());
+    assert!(rt; NameBuf::parse_bytes(b"\x01a\0.").is_err());
+    assert!(rt; NameBuf::split_bytes(b"\x01a\xc0\x0c").is_err());
+
+    let mut buffer = [0u8; 14];
+    assert_eq!(rt; name.build_at(&mut buffer, 1)?, 14);
+    assert_eq!(rt; name.built_bytes_size(), 13);
+    assert_eq!(rt; buffer, *b"\0\x03www\x07Example\0");
+
+    let other = NameBuf::parse_bytes(b"\x03WWW\x07eXAMPLE\0")?;
+    assert_eq!(rt; name, other);
+    assert_eq!(rt; name.cmp(&other), Ordering::Equal);
+    assert!(rt; NameBuf::copy_from(Name::root()) < name);
+    let copy = name.clone()?;
+    assert_eq!(rt; copy.as_name().as_bytes(), name.as_name().as_bytes());
+    Ok(())
+}
+
+fn hash_of<T: Hash>(value: &T) -> u64 {
+    let mut state = DefaultHasher::new();
+    value.hash(&mut state);
+    state.finish()
+}
+
+#[test]
+fn equal_names_hash_alike(rt: HostRuntime) -> Result<(), Fail> {
+    let one = Name::parse_bytes(b"\x03www\x07Example\0")?;
+    let other = NameBuf::parse_bytes(b"\x03WWW\x07eXAMPLE\0")?;
+    assert_eq!(rt; hash_of(&one), hash_of(&other));
+    assert_eq!(rt;
+        hash_of(&NameBuf::copy_from(one)),
+        hash_of(&other.as_name())
+    );
+    assert!(rt; hash_of(&one) != hash_of(&Name::root()));
+    Ok(())
+}
+
+/// The places of the contents count from 0, and the offsets of the pointers from 12.
+#[test]
+fn follows_pointers(rt: HostRuntime) -> Result<(), Fail> {
+    let at_itself = b"\xc0\x0c\0\x01\0\x01\0\0\0\x3c\0\x04\xc0\0\x02\x01";
+    assert!(rt; NameBuf::split_message_bytes(at_itself, 0).is_err());
+    let below_12 = b"\xc0\x0b\0\x01\0\x01\0\0\0\x3c\0\x04\xc0\0\x02\x01";
+    assert!(rt; NameBuf::split_message_bytes(below_12, 0).is_err());
+
+    // The segment at 1 goes over the pointer at 5, which leads to it.
+    let over_its_own = b"\0\x04abc\xc0\x0d\0\x01\0\x01\0\0\0\0\0\x04\xc0\0\x02\0";
+    let (name, end) = NameBuf::split_message_bytes(over_its_own, 5)?;
+    assert_eq!(rt; end, 7);
+    assert_eq!(rt;
+        name.as_name().as_bytes(),
+        b"\x04abc\xc0\x0d\0\x01\0\x01\0\0\0\0\0\x04\xc0\0\x02\0".as_slice()
+    );
+    let (name, end) = NameBuf::split_message_bytes(over_its_own, 1)?;
+    assert_eq!(rt; end, 21);
+    assert_eq!(rt; name.as_name().len(), 20);
+
+    // From 18 to 16, 14, 12 and 11.
+    let chain =
+        b"\0\xff\0\0\x01\0\0\0\0\0\x07\0\xc0\x17\xc0\x18\xc0\x1a\xc0\x1c\0\x01\0\x01\0\0\0\0\0\x04\xc0\0\x02\x01";
+    let (name, end) = NameBuf::split_message_bytes(chain, 18)?;
+    assert_eq!(rt; end, 20);
+    assert!(rt; name.as_name().is_root());
+
+    let ends = b"\x01a\0\x01b\xc0\x0c";
+    let name = NameBuf::parse_message_bytes(ends, 3)?;
+    assert_eq!(rt; name.as_name().as_bytes(), b"\x01b\x01a\0".as_slice());
+    assert!(rt; NameBuf::parse_message_bytes(ends, 0).is_err());
+    assert!(rt; NameBuf::parse_message_bytes(ends, 7).is_err());
+    Ok(())
+}
+
+/// Two labels make 126 octets with their lengths, and the two behind the pointer make 129 with the root.
+#[test]
+fn keeps_the_limit_through_pointers(rt: HostRuntime) -> Result<(), Fail> {
+    let mut contents = [b'a'; 258];
+    contents[0] = 63;
+    contents[64] = 63;
+    contents[128] = 0;
+    contents[129] = 63;
+    contents[193] = 61;
+    contents[255] = 0xc0;
+    contents[256] = 0x0c;
+    let (name, end) = NameBuf::split_message_bytes(&contents, 129)?;
+    assert_eq!(rt; end, 257);
+    assert_eq!(rt; name.as_name().len(), Name::MAX_SIZE);
+
+    contents[193] = 62;
+    contents[255] = b'a';
+    contents[256] = 0xc0;
+    contents[257] = 0x0c;
+    assert!(rt; NameBuf::split_message_bytes(&contents, 129).is_err());
     Ok(())
 }

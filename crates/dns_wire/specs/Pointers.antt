@@ -1,27 +1,29 @@
--- Names in a message, where a pointer may stand in place of the labels to come (RFC 1035 section 4.1.4). Contents are
--- the octets behind the header, and end where reading may go.
+-- Names in a message, which may go on at an earlier place (RFC 1035 section 4.1.4). Places are those of the octets behind
+-- the header, as far as a name may be read, and are counted from 0.
 use Rattle.std.specs.Prelude.{◌≡◌, ℕ, zero, suc, ◌+◌, ◌-◌, ◌*◌, ◌<◌, ◌≤◌, List, [], ◌∷◌, ◌++◌, length, take, drop, slice_index, Option, Some, None, unwrap_or, nat_lt, nat_le, ◌==◌, ◌||◌, if◌then◌else◌}
 use Rattle.dns_wire.specs.declared.follow.Head.{Head}
 use Rattle.dns_wire.specs.declared.follow.Head.TheVariants.{Root, Label, Pointer}
 use Rattle.dns_wire.specs.Names.{wire}
 
--- the low 14 bits of the two octets at a place, whose two high bits are ones
+-- what a pointer's two octets say: the 14 bits behind the two ones in front
 abbrev pub offset_at : List ℕ → ℕ → ℕ
 offset_at contents at = (slice_index contents at - 192) * 256 + slice_index contents (at + 1)
 
 -- ---- as a relation
 
--- At a place of the segment that begins at start, these labels are read, and the octets at the place end at end.
--- It holds in three cases. The octet at the place is 0, which ends the name. Or it is from 1 to 63, and so many octets
--- behind it are a label, with other labels behind that. Or it is at least 192, and with the octet behind it a pointer.
--- A pointer's offset counts from the header's first octet, so that it is at least 12; less 12 it is the target, a place
--- strictly before the start of the segment. There another segment begins, and its labels are read.
+-- The labels to be read at a place, and where what stands at that very place ends. A segment is a row of labels that
+-- begins with the name, or where a pointer leads; this one began at start. There is a case for each kind of octet at
+-- the place:
+--     0            the root: no more labels
+--     1 to 63      a label of so many octets, and then what is read behind it
+--     192 and up   with the octet behind it a pointer: another segment is read at its target. Pointers count the header's
+--                  12 octets too, and places do not. The target is before start, so that no chain of pointers is endless
 pub data Segment (contents : List ℕ) : ℕ → ℕ → List (List ℕ) → ℕ → Type 0 where
   at_root : {start at end : ℕ} {labels : List (List ℕ)} → at < length contents → slice_index contents at ≡ 0 → labels ≡ [] → end ≡ at + 1 → Segment contents start at labels end
   at_label : {start at end : ℕ} {labels others : List (List ℕ)} → 0 < slice_index contents at → slice_index contents at < 64 → at + 1 + slice_index contents at ≤ length contents → labels ≡ take (slice_index contents at) (drop (at + 1) contents) ∷ others → Segment contents start (at + 1 + slice_index contents at) others end → Segment contents start at labels end
   at_pointer : {start at end target later : ℕ} {labels : List (List ℕ)} → 192 ≤ slice_index contents at → at + 2 ≤ length contents → offset_at contents at ≡ target + 12 → target < start → Segment contents target target labels later → end ≡ at + 2 → Segment contents start at labels end
 
--- at a place a name of at most 255 octets is read, and what stands there ends at end
+-- a name of at most 255 octets is read at a place, and what stands there ends at end
 pub record NameAt (contents : List ℕ) (at : ℕ) (labels : List (List ℕ)) (end : ℕ) : Type 0 where
   pub reads : Segment contents at at labels end
   pub short : length (wire labels) ≤ 255

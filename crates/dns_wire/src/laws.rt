@@ -28,8 +28,8 @@ pub fn names_follow_pointers()
         NameAt contents at labels end → name_at contents at ≡ Some (labels, end) }
 {}
 
-/// What the rules of pointers read at a place is one name. It has at most 255 octets, and what stands at
-/// the place has an octet and ends within the contents.
+/// What the rules of pointers read at a place is one name, of at most 255 octets. At least an octet of it
+/// stands at the place, and none behind the contents.
 pub fn pointed_names()
     ensures one { (contents : List ℕ) (at : ℕ) (labels others : List (List ℕ)) (end other : ℕ) →
         NameAt contents at labels end → NameAt contents at others other → (labels ≡ others) × (end ≡ other) }
@@ -39,9 +39,9 @@ pub fn pointed_names()
         NameAt contents at labels end → (at < end) × (end ≤ length contents) }
 {}
 
-/// Reading a name ends, since each pointer leads strictly before the start of its segment: there are at
-/// most as many pointers as places before the first segment. So a name's heads are at most 128, and one
-/// more for each of these places.
+/// No chain of pointers is endless, as each leads to a segment that begins before its own. A reading goes
+/// over a head for each label, one for the root, and one for each pointer, of which there are no more than
+/// places before the segment: 128 heads of a name, and its place, are the most.
 pub fn pointers_lead_back()
     ensures segment { (contents : List ℕ) (start at : ℕ) (labels : List (List ℕ)) (end : ℕ)
         (reads : Segment contents start at labels end) → head_count reads ≤ length labels + start + 1 }
@@ -49,7 +49,7 @@ pub fn pointers_lead_back()
         (found : NameAt contents at labels end) → head_count found.reads ≤ 128 + at }
 {}
 
-/// A name is read the same way when octets are added behind the contents.
+/// Octets behind the contents change no name that is read in them.
 pub fn added_octets()
     ensures follows { (contents more : List ℕ) (at : ℕ) (labels : List (List ℕ)) (end : ℕ) →
         NameAt contents at labels end → NameAt (contents ++ more) at labels end }

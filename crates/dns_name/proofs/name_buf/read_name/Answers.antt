@@ -27,8 +27,8 @@ returns-in-Root-clause-exact c = rw (c.unwrap_or.ensures, c.copy_at.ensures) (fo
 pub returns-in-Root-clause-within : goal.returns-in-Root-clause-within
 returns-in-Root-clause-within c = rw c.unwrap_or.ensures (found (goal.at.returns-in-Root-clause-within c).In-Root).within
 
-pub returns-then-size-label-gt253-clause-exact : goal.returns-then-size-label-gt253-clause-exact
-returns-then-size-label-gt253-clause-exact c =
+pub returns-then-size-label-ge-MAX_SIZE-clause-exact : goal.returns-then-size-label-ge-MAX_SIZE-clause-exact
+returns-then-size-label-ge-MAX_SIZE-clause-exact c =
     followed_long _ _ _ _ _ _ _ c.loop-buffer.invariant.followed (rw c.in-Label.is at c.in_ok-read_head.ensures.exact) (rw c.in-Label.is at c.in_ok-read_head.ensures.fits) (omega (arith, length-take c.loop-buffer.size c.loop-buffer.buffer))
 
 pub loop-buffer-preserved-in-Label : goal.loop-buffer-preserved-in-Label
