@@ -38,8 +38,8 @@ impl<R: Read> Source for ReadSource<R> {
     }
 }
 
-/// A writer of std. Each error raises the count of faults, and so does a write that takes nothing of a
-/// piece that is not empty.
+/// A writer of std. The count of faults rises at each error, and where the writer takes no octet though
+/// it was given some.
 #[derive(Drop)]
 pub struct WriteSink<W> {
     writer: W,

@@ -26,9 +26,9 @@ pub trait BuildBytes {
         requires { length (octets self.now) < 2 ^ 64 }
         ensures { result ≡ length (octets self.now) };
 
-    /// Writes the value at the front of the buffer, and gives back the rest, unchanged. It is accepted
-    /// exactly where the prefixed data fit and the octets are at most the buffer's. After
-    /// `TruncationError` the buffer's octets are open.
+    /// Writes the value's octets to the beginning of the buffer. What is behind them is lent back as it
+    /// was. `TruncationError` comes exactly where the value does not fit; what the buffer holds then is
+    /// open.
     final fn build_bytes<'b>(&self, bytes: &'b mut [u8]) -> Result<&'b mut [u8], TruncationError>
         ensures* written { sem 𝓛 (LendsRest bytes.entry result (octets self.now)) }
         ensures rest { IfOk result (λ rest. rest.now ≡ drop (length (octets self.now)) bytes.old) }

@@ -7,8 +7,8 @@ use thiserror::Error;
 #[error("DNS data could not be parsed from the wire format")]
 pub struct ParseError;
 
-/// The octets to be written are more than the free ones, or prefixed data are longer than their
-/// prefix can say.
+/// There is less room in a buffer than a value needs, or data are too long for the number that says
+/// their size.
 #[derive(Clone, Copy, Debug, PartialEq, Eq, Error)]
 #[error("a buffer was too small")]
 pub struct TruncationError;

@@ -1,0 +1,15 @@
+-- The crate's own lemmas.
+pub mod Answering
+pub mod Decoding
+pub mod Exclusive
+pub mod Going
+pub mod Kept
+pub mod NoItem
+pub mod Ordering
+pub mod Phrased
+pub mod Pointed
+pub mod Sections
+pub mod Sorting
+pub mod Transfers
+pub mod Trimming
+pub mod WordLemmas

@@ -1,0 +1,136 @@
+-- The order of records, and the canonical list.
+use Rattle.std.proofs.Common.{◌≡◌, ℕ, ◌+◌, ◌/◌, ◌%◌, ◌^◌, ◌<◌, ◌⊎◌, inl, inr, Bool, true, false, cond, List, [], ◌∷◌, ◌++◌, length, map, filter, refl, sym, ap, ◌∙◌, arith}
+use Rattle.std.specs.Prelude.{◌↔◌, reverse}
+use Rattle.std.specs.Int.{w16, w32, to_be_bytes}
+use Rattle.std.specs.declared.cmp.Ordering.{Ordering}
+use Rattle.std.specs.declared.cmp.Ordering.TheVariants.{Less, Equal, Greater}
+use Rattle.std.specs.Ordering.{ordering_reverse}
+use Rattle.std.specs.Cmp.{IsTotalOrder}
+use Rattle.std.specs.List.Sorted.{IsPermutation}
+use Rattle.std.proofs.lemmas.Cmp.{on_total, tied_itself}
+use Rattle.std.proofs.lemmas.List.{reverse-reverse, length-append}
+use Rattle.std.proofs.lemmas.List.Sorted.{IsPermutation-refl, IsPermutation-cons, IsPermutation-middle, IsPermutation-trans, IsPermutation-map}
+use Rattle.dns_wire.specs.Names.{wire, lowered}
+use Rattle.dns_wire.proofs.Lowered.{wire_parts, name_lowered, lowered_long}
+use Rattle.dns_canon.specs.Canonical.{canon, folded_fields, is_folded, is_kept, octets_of_parts}
+use Rattle.dns_canon.specs.Fields.{Field, fields_octets, folded_field}
+use Rattle.dns_canon.specs.Fields.Field.{Named, Raw}
+use Rattle.dns_canon.specs.Messages.{Rec}
+use Rattle.dns_canon.specs.Order.{SortKey, sort_key, sort_key_cmp, record_cmp, Before, precedes, inserted, in_order, octets_of_key, output}
+use Rattle.dns_canon.specs.Sorted.{times, NoneBelow, Ascends}
+use Rattle.dns_canon.specs.WellFormed.{WellFormed}
+use Rattle.dns_canon.proofs.Sorting.{SameSums, sort_key_cmp_total, sort_key_cmp_same, sorted_unique, sums_permuted, in_order_sums, ascends_in_order, octets_of_keys}
+
+-- ---- the order
+
+pub records_total : IsTotalOrder record_cmp
+records_total = on_total sort_key sort_key_cmp_total
+
+-- ---- ties
+
+-- numbers of two and of four octets are their octets' number
+two_octets : (n m : ℕ) (x y : List ℕ) → n < 2 ^ 16 → m < 2 ^ 16 → to_be_bytes w16 n ++ x ≡ to_be_bytes w16 m ++ y → (n ≡ m) × (x ≡ y)
+two_octets n m x y p q e =
+    let high : n / 256 % 256 ≡ m / 256 % 256 = cc in
+    let low : n % 256 ≡ m % 256 = cc in
+    (omega arith, cc)
+
+four_octets : (n m : ℕ) (x y : List ℕ) → n < 2 ^ 32 → m < 2 ^ 32 → to_be_bytes w32 n ++ x ≡ to_be_bytes w32 m ++ y → (n ≡ m) × (x ≡ y)
+four_octets n m x y p q e =
+    let a : n / 16777216 % 256 ≡ m / 16777216 % 256 = cc in
+    let b : n / 65536 % 256 ≡ m / 65536 % 256 = cc in
+    let c : n / 256 % 256 ≡ m / 256 % 256 = cc in
+    let d : n % 256 ≡ m % 256 = cc in
+    (omega arith, cc)
+
+-- small letters change no length
+folded_long : (fields : List Field) → length (fields_octets (map folded_field fields)) ≡ length (fields_octets fields)
+folded_long [] = refl
+folded_long (Named labels ∷ fields) =
+    length-append (wire (lowered labels)) (fields_octets (map folded_field fields)) ∙ omega (arith, lowered_long labels, folded_long fields, length-append (wire labels) (fields_octets fields))
+folded_long (Raw octets ∷ fields) =
+    length-append octets (fields_octets (map folded_field fields)) ∙ omega (arith, folded_long fields, length-append octets (fields_octets fields))
+
+octets_long : (r : Rec) → WellFormed r → length (fields_octets (folded_fields r.rtype r.content)) < 2 ^ 16
+octets_long r is = by (is_folded r.rtype) where
+  by : (b : Bool) → length (fields_octets (cond b (map folded_field r.content) r.content)) < 2 ^ 16
+  by true = omega (arith, is.size, folded_long r.content)
+  by false = is.size
+
+-- the canonical octets are those of what is compared
+key_canon : (r : Rec) → octets_of_key (sort_key r) ≡ canon r
+key_canon r = ap (λ (small : List (List ℕ)). octets_of_parts small r.rtype r.class r.ttl (fields_octets (folded_fields r.rtype r.content))) (reverse-reverse (lowered r.owner))
+
+-- equal canonical octets are of records that are compared as equal
+keys_from_canon : (r s : Rec) → WellFormed r → WellFormed s → canon r ≡ canon s → sort_key r ≡ sort_key s
+keys_from_canon r s is js e =
+    let owner = wire_parts (lowered r.owner) (lowered s.owner) _ _ (name_lowered r.owner is.owner) (name_lowered s.owner js.owner) e in
+    let rtype = two_octets r.rtype s.rtype _ _ is.rtype js.rtype owner.1 in
+    let class = two_octets r.class s.class _ _ is.class js.class rtype.1 in
+    let ttl = four_octets r.ttl s.ttl _ _ is.ttl js.ttl class.1 in
+    let size = two_octets _ _ _ _ (octets_long r is) (octets_long s js) ttl.1 in
+    λ i. record { owner = reverse (owner.0 i); class = class.0 i; rtype = rtype.0 i; octets = size.1 i; ttl = ttl.0 i }
+
+canon_from_equal : (r s : Rec) → record_cmp r s ≡ Equal → canon r ≡ canon s
+canon_from_equal r s e = sym (key_canon r) ∙ ap octets_of_key (sort_key_cmp_same (sort_key r) (sort_key s) e) ∙ key_canon s
+
+pub ties : (r s : Rec) → WellFormed r → WellFormed s → (record_cmp r s ≡ Equal) ↔ (canon r ≡ canon s)
+ties r s is js = (
+  canon_from_equal r s,
+  λ e. ap (λ (k : SortKey). sort_key_cmp k (sort_key s)) (keys_from_canon r s is js e) ∙ tied_itself sort_key_cmp_total (sort_key s),
+)
+
+pub before : (r s : Rec) → WellFormed r → WellFormed s → (Before r s ⊎ Before s r) ⊎ (canon r ≡ canon s)
+before r s is js = by (record_cmp r s) refl where
+  by : (o : Ordering) → record_cmp r s ≡ o → (Before r s ⊎ Before s r) ⊎ (canon r ≡ canon s)
+  by Less e = inl (inl e)
+  by Equal e = inr (canon_from_equal r s e)
+  by Greater e = inl (inr (records_total.antisymm s r ∙ ap ordering_reverse e))
+
+-- ---- the list
+
+inserted_moves : (r : Rec) (rs : List Rec) → IsPermutation (r ∷ rs) (inserted r rs)
+unfolding inserted
+inserted_moves r [] = IsPermutation-refl (r ∷ [])
+inserted_moves r (s ∷ rs) =
+    elim (precedes r s) as (λ b. IsPermutation (r ∷ s ∷ rs) (cond b (r ∷ s ∷ rs) (s ∷ inserted r rs))) [
+      | true ↦ IsPermutation-refl (r ∷ s ∷ rs)
+      | false ↦ IsPermutation-trans (r ∷ s ∷ rs) (s ∷ r ∷ rs) (s ∷ inserted r rs) (IsPermutation-middle (r ∷ []) s rs) (IsPermutation-cons s (r ∷ rs) (inserted r rs) (inserted_moves r rs))
+    ]
+
+in_order_moves : (rs : List Rec) → IsPermutation rs (in_order rs)
+unfolding in_order
+in_order_moves [] = IsPermutation-refl []
+in_order_moves (r ∷ rs) = IsPermutation-trans (r ∷ rs) (r ∷ in_order rs) (inserted r (in_order rs)) (IsPermutation-cons r rs (in_order rs) (in_order_moves rs)) (inserted_moves r (in_order rs))
+
+pub output_moves : (rs : List Rec) → IsPermutation (map canon (filter is_kept rs)) (output rs)
+output_moves rs = IsPermutation-map canon (filter is_kept rs) (in_order (filter is_kept rs)) (in_order_moves (filter is_kept rs))
+
+none_unmapped : (x : Rec) (zs : List Rec) → NoneBelow sort_key_cmp (sort_key x) (map sort_key zs) → NoneBelow record_cmp x zs
+none_unmapped x [] h = tt
+none_unmapped x (z ∷ zs) h = (h.0, none_unmapped x zs h.1)
+
+ascends_unmapped : (rs : List Rec) → Ascends sort_key_cmp (map sort_key rs) → Ascends record_cmp rs
+ascends_unmapped [] h = tt
+ascends_unmapped (r ∷ rs) h = (none_unmapped r rs h.0, ascends_unmapped rs h.1)
+
+pub output_ascends : (rs : List Rec) → Ascends record_cmp (in_order (filter is_kept rs))
+output_ascends rs = ascends_unmapped (in_order (filter is_kept rs)) (ascends_in_order (filter is_kept rs))
+
+-- what is added up over the kept records is added up over all
+kept_sums : (f : SortKey → ℕ) (rs : List Rec) → times f (map sort_key (filter is_kept rs)) ≡ times (λ r. cond (is_kept r) (f (sort_key r)) 0) rs
+kept_sums f [] = refl
+kept_sums f (r ∷ rs) = by (is_kept r) (kept_sums f rs) where
+  by : (b : Bool) → times f (map sort_key (filter is_kept rs)) ≡ times (λ r. cond (is_kept r) (f (sort_key r)) 0) rs
+      → times f (map sort_key (cond b (r ∷ filter is_kept rs) (filter is_kept rs))) ≡ cond b (f (sort_key r)) 0 + times (λ r. cond (is_kept r) (f (sort_key r)) 0) rs
+  by true h = ap (λ (n : ℕ). f (sort_key r) + n) h
+  by false h = h ∙ omega arith
+
+pub output_one : (rs ss : List Rec) → IsPermutation rs ss → output rs ≡ output ss
+output_one rs ss moved =
+    let one = in_order (filter is_kept rs) in
+    let two = in_order (filter is_kept ss) in
+    let sums : SameSums (map sort_key one) (map sort_key two) = λ f.
+    in_order_sums (filter is_kept rs) f ∙ kept_sums f rs ∙ sym (sums_permuted rs ss moved (λ r. cond (is_kept r) (f (sort_key r)) 0)) ∙ sym (kept_sums f ss) ∙ sym (in_order_sums (filter is_kept ss) f) in
+    let keys = sorted_unique sort_key_cmp sort_key_cmp_total sort_key_cmp_same (map sort_key one) (map sort_key two) (ascends_in_order (filter is_kept rs)) (ascends_in_order (filter is_kept ss)) sums in
+    sym (octets_of_keys one) ∙ ap (map octets_of_key) keys ∙ octets_of_keys two

@@ -1,0 +1,25 @@
+use Rattle.std.proofs.Common.{◌∙◌, ap, map, inl, inr, Err}
+use Rattle.std.proofs.lemmas.Result.{err_from_is_err_and}
+use Rattle.dns_canon.specs.Order.{octets_of_key}
+use Rattle.dns_canon.specs.Seen.{owned_seen}
+use Rattle.dns_canon.proofs.Exclusive.{memory_alone, that_or_memory, refused_not_valid}
+use Rattle.dns_canon.proofs.Sorting.{output_sorted}
+use Rattle.dns_canon.proofs.canonical.canonicalise.Goals as goal
+
+pub returns-in_err-records-clause-valid : goal.returns-in_err-records-clause-valid
+returns-in_err-records-clause-valid c =
+    let p = err_from_is_err_and c.from_residual.result c.from_residual.ensures.1 in
+    rw (p.1, p.2) (λ rs valid. ap Err (memory_alone c.args.message.now rs _ valid c.in_err-records.ensures.refused))
+
+pub returns-in_err-records-clause-exactly : goal.returns-in_err-records-clause-exactly
+returns-in_err-records-clause-exactly c =
+    let p = err_from_is_err_and c.from_residual.result c.from_residual.ensures.1 in
+    rw (p.1, p.2) (λ error refused. elim (that_or_memory c.args.message.now _ error c.in_err-records.ensures.refused refused) [ inl same ↦ inl (ap Err same) | inr memory ↦ inr (ap Err memory) ])
+
+pub returns-clause-ok : goal.returns-clause-ok
+returns-clause-ok c =
+    let read = c.in_ok-records.ensures.read in
+    (read.0, read.1, c.in_ok-lists.ensures ∙ ap (λ items. map octets_of_key (map owned_seen items)) c.deref.ensures.value ∙ output_sorted read.0 _ _ read.2 c.in_ok-sort_records.ensures.same c.in_ok-sort_records.ensures.sorted)
+
+pub returns-clause-exactly : goal.returns-clause-exactly
+returns-clause-exactly c = λ error refused. absurd (refused_not_valid c.args.message.now _ error c.in_ok-records.ensures.read.1 refused)

@@ -1,0 +1,35 @@
+-- Canonical octets (RFC 4034 section 6.2, RFC 6840 section 5.1).
+use Rattle.std.specs.Prelude.{ℕ, List, ◌++◌, length, map, Bool, not, ◌==◌, ◌||◌, if◌then◌else◌}
+use Rattle.std.specs.Int.{w16, w32, to_be_bytes}
+use Rattle.dns_wire.specs.Names.{wire, lowered}
+use Rattle.dns_canon.specs.Fields.{Field, folded_field, fields_octets}
+use Rattle.dns_canon.specs.Messages.{Rec}
+
+-- the types whose names count without regard to ASCII case: NS, CNAME, SOA, PTR, MX, RP, SRV, DNAME and RRSIG
+abbrev pub is_folded : ℕ → Bool
+is_folded rtype = rtype == 2 || rtype == 5 || rtype == 6 || rtype == 12 || rtype == 15 || rtype == 17 || rtype == 33 || rtype == 39 || rtype == 46
+
+-- the fields, with names in small letters where the type is one of the nine
+abbrev pub folded_fields : ℕ → List Field → List Field
+folded_fields rtype fields = if is_folded rtype then map folded_field fields else fields
+
+-- the record with its owner in small letters, and its names where its type is one of the nine
+abbrev pub fold : Rec → Rec
+fold r = record { owner = lowered r.owner; rtype = r.rtype; class = r.class; ttl = r.ttl; content = folded_fields r.rtype r.content }
+
+-- owner, type, class, time to live, the number of the data's octets, and these octets
+abbrev pub octets_of_parts : List (List ℕ) → ℕ → ℕ → ℕ → List ℕ → List ℕ
+octets_of_parts owner rtype class ttl octets =
+    wire owner ++ (to_be_bytes w16 rtype ++ (to_be_bytes w16 class ++ (to_be_bytes w32 ttl ++ (to_be_bytes w16 (length octets) ++ octets))))
+
+-- a record's octets, names whole
+abbrev pub record_octets : Rec → List ℕ
+record_octets r = octets_of_parts r.owner r.rtype r.class r.ttl (fields_octets r.content)
+
+-- the canonical octets: those of the folded record
+abbrev pub canon : Rec → List ℕ
+canon r = record_octets (fold r)
+
+-- a record of another type than OPT, which is a record in form alone (RFC 6891 section 6.1.1)
+abbrev pub is_kept : Rec → Bool
+is_kept r = not (r.rtype == 41)

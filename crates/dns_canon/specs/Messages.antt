@@ -1,0 +1,86 @@
+-- Messages: the counted items one after another, and the first that is not read (RFC 1035 section 4.1).
+use Rattle.std.specs.Prelude.{◌≡◌, ℕ, zero, suc, ◌+◌, ◌*◌, List, [], ◌∷◌, ◌++◌, length, drop, Option, Some, None, nat_lt, slice_index, ◌==◌, if◌then◌else◌}
+use Rattle.dns_wire.specs.Names.{plain_name}
+use Rattle.dns_wire.specs.Reading.{plain_at}
+use Rattle.dns_canon.specs.Fields.{Field}
+use Rattle.dns_canon.specs.Data.{data_in}
+use Rattle.dns_canon.specs.Records.{QuestionOf, RecordOf, question_in, record_in, first_to}
+
+-- a question, with its name's labels
+abbrev pub Question : Type 0
+Question = QuestionOf (List (List ℕ))
+
+-- a record, with its owner's labels and its data's fields
+abbrev pub Rec : Type 0
+Rec = RecordOf (List (List ℕ)) (List Field)
+
+pub data Item : Type 0 where
+  Asked : Question → Item
+  Told : Rec → Item
+
+-- the item at a place in the contents; those of section 0 are questions, and all others are records
+unfoldable pub item_at : ℕ → List ℕ → ℕ → Option (Item × ℕ)
+item_at section contents at =
+    if section == 0 then first_to Asked (question_in (plain_at plain_name) contents at)
+    else first_to Told (record_in (plain_at plain_name) data_in contents at)
+
+-- ---- which items are counted
+
+-- the items of a section from an index on, each by its section and its index
+unfoldable pub slots : ℕ → ℕ → ℕ → List (ℕ × ℕ)
+slots section index zero = []
+slots section index (suc n) = (section, index) ∷ slots section (index + 1) n
+
+-- those of a section and the sections behind it, by their counts
+unfoldable pub slots_from : ℕ → List ℕ → List (ℕ × ℕ)
+slots_from section [] = []
+slots_from section (count ∷ counts) = slots section 0 count ++ slots_from (section + 1) counts
+
+-- the four counts of the header: questions, answers, authorities and additional records
+abbrev pub counts_of : List ℕ → List ℕ
+counts_of m =
+    (slice_index m 4 * 256 + slice_index m 5) ∷ (slice_index m 6 * 256 + slice_index m 7)
+    ∷ (slice_index m 8 * 256 + slice_index m 9) ∷ (slice_index m 10 * 256 + slice_index m 11) ∷ []
+
+-- ---- reading a message
+
+-- A message is shorter than its header; or it is read up to an item, by section and index, at whose place none is read;
+-- or it is read whole, up to the place where its items end.
+pub data Reading : Type 0 where
+  Short : Reading
+  Stopped : List Item → ℕ → ℕ → ℕ → Reading
+  Whole : List Item → ℕ → Reading
+
+-- a reading with an item in front
+abbrev pub with_item : Item → Reading → Reading
+with_item item Short = Short
+with_item item (Stopped items section index place) = Stopped (item ∷ items) section index place
+with_item item (Whole items end) = Whole (item ∷ items) end
+
+-- what stands at a place, and what is read behind it
+abbrev pub then_read : ℕ × ℕ → ℕ → (ℕ → Reading) → Option (Item × ℕ) → Reading
+then_read slot at more None = Stopped [] slot.0 slot.1 at
+then_read slot at more (Some (item, end)) = with_item item (more end)
+
+-- the items that are counted, one after another from a place on
+unfoldable pub reading_from : List ℕ → List (ℕ × ℕ) → ℕ → Reading
+reading_from contents [] at = Whole [] at
+reading_from contents (slot ∷ slots) at = then_read slot at (reading_from contents slots) (item_at slot.0 contents at)
+
+-- what a message is read as; its contents begin behind its twelve header octets
+unfoldable pub message_reading : List ℕ → Reading
+message_reading m = if nat_lt (length m) 12 then Short else reading_from (drop 12 m) (slots_from 0 (counts_of m)) 0
+
+-- the records among some items, in order
+abbrev pub records_among : List Item → List Rec
+records_among [] = []
+records_among (Asked q ∷ items) = records_among items
+records_among (Told r ∷ items) = r ∷ records_among items
+
+-- the message is read whole, and these are its records
+abbrev pub Valid : List ℕ → List Rec → Type 0
+Valid m rs = (items : List Item) × (end : ℕ) × (message_reading m ≡ Whole items end) × (rs ≡ records_among items)
+
+-- this item of this section is the first that is not read, at this place
+abbrev pub StopsAt : List ℕ → ℕ → ℕ → ℕ → Type 0
+StopsAt m section index place = (items : List Item) × (message_reading m ≡ Stopped items section index place)

@@ -1,0 +1,66 @@
+-- The order of records, and the canonical list (RFC 4034 section 6). That class, type and TTL are
+-- compared as numbers, and where they come in the order, RFC 4034 leaves open.
+use Rattle.std.specs.Prelude.{◌≡◌, ℕ, Bool, not, if◌then◌else◌, List, [], ◌∷◌, map, reverse, filter}
+use Rattle.std.specs.declared.cmp.Ordering.{Ordering}
+use Rattle.std.specs.declared.cmp.Ordering.TheVariants.{Less}
+use Rattle.std.specs.Ordering.{nat_cmp, on, then_cmp, is_gt}
+use Rattle.std.specs.Cmp.Lexicographic.{slice_cmp}
+use Rattle.dns_name.specs.Order.{key, key_cmp}
+use Rattle.dns_canon.specs.Fields.{fields_octets}
+use Rattle.dns_canon.specs.Messages.{Rec}
+use Rattle.dns_canon.specs.Canonical.{folded_fields, octets_of_parts, canon, is_kept}
+
+-- what records are compared by, in this order: the owner's lowered labels from the root on, the class, the type, the
+-- canonical octets of the data, and the time to live
+pub record SortKey : Type 0 where
+  pub owner : List (List ℕ)
+  pub class : ℕ
+  pub rtype : ℕ
+  pub octets : List ℕ
+  pub ttl : ℕ
+
+abbrev pub sort_key : Rec → SortKey
+sort_key r = record {
+  owner = key r.owner;
+  class = r.class;
+  rtype = r.rtype;
+  octets = fields_octets (folded_fields r.rtype r.content);
+  ttl = r.ttl;
+}
+
+-- by the first that differs; lists and octets lexicographically, a proper prefix first
+abbrev pub sort_key_cmp : SortKey → SortKey → Ordering
+sort_key_cmp = then_cmp (on (λ k. k.owner) key_cmp) (then_cmp (on (λ k. k.class) nat_cmp) (then_cmp (on (λ k. k.rtype) nat_cmp)
+    (then_cmp (on (λ k. k.octets) (slice_cmp nat_cmp)) (on (λ k. k.ttl) nat_cmp))))
+
+-- the order of two records
+abbrev pub record_cmp : Rec → Rec → Ordering
+record_cmp r s = sort_key_cmp (sort_key r) (sort_key s)
+
+-- the first record comes before the second
+abbrev pub Before : Rec → Rec → Type 0
+Before r s = record_cmp r s ≡ Less
+
+-- the canonical octets are those of what records are compared by
+abbrev pub octets_of_key : SortKey → List ℕ
+octets_of_key k = octets_of_parts (reverse k.owner) k.rtype k.class k.ttl k.octets
+
+-- ---- the list
+
+-- the first record does not come after the second
+abbrev pub precedes : Rec → Rec → Bool
+precedes r s = not (is_gt (record_cmp r s))
+
+-- puts a record before the first that it precedes
+unfoldable pub inserted : Rec → List Rec → List Rec
+inserted r [] = r ∷ []
+inserted r (s ∷ rest) = if precedes r s then r ∷ s ∷ rest else s ∷ inserted r rest
+
+-- the records in order
+unfoldable pub in_order : List Rec → List Rec
+in_order [] = []
+in_order (r ∷ rest) = inserted r (in_order rest)
+
+-- the canonical list of some records: the canonical octets of each that is no OPT, in order, as often as it comes
+abbrev pub output : List Rec → List (List ℕ)
+output rs = map canon (in_order (filter is_kept rs))

@@ -1,0 +1,90 @@
+//! Why a part of the work is refused.
+
+ghost use Rattle.std.specs.Prelude.{◌≡◌};
+
+use dns_wire::Failed;
+use hex::FromHexError;
+use std::alloc::{AllocError, AllocFailed};
+
+/// Why a message has no canonical list.
+#[derive(Clone, Copy, Debug, PartialEq, Eq)]
+pub enum CanonError {
+    /// The message has fewer than 12 octets.
+    Short,
+    /// This item is the first that can't be read, and it is plainly bad. Sections are numbered 0 to 3
+    /// (question, answer, authority, additional), and items from 0 in each.
+    Item { section: u8, index: u16 },
+    /// This item is the first that can't be read, because it has a name with a pointer, or data of a
+    /// type that waits for its turn.
+    NotBuilt { section: u8, index: u16 },
+    /// Memory ran out.
+    Memory,
+}
+
+impl From<AllocError> for CanonError {
+    ghost use Rattle.dns_canon.specs.declared.error.CanonError.TheVariants.{Memory};
+
+    ghost from_gives = { λ _ e. e ≡ Memory };
+
+    fn from(_error: AllocError) -> CanonError {
+        CanonError::Memory
+    }
+}
+
+impl<T: Drop> From<AllocFailed<T>> for CanonError {
+    ghost use Rattle.dns_canon.specs.declared.error.CanonError.TheVariants.{Memory};
+
+    ghost from_gives = { λ _ e. e ≡ Memory };
+
+    fn from(_error: AllocFailed<T>) -> CanonError {
+        CanonError::Memory
+    }
+}
+
+/// Why a text was not read.
+#[derive(Clone, Copy, Debug, PartialEq, Eq)]
+pub(crate) enum TextError {
+    TooLong,
+    ReadFault,
+    Memory,
+}
+
+impl From<Failed> for TextError {
+    ghost use Rattle.dns_canon.specs.declared.error.TextError.TheVariants.{ReadFault};
+
+    ghost from_gives = { λ _ e. e ≡ ReadFault };
+
+    fn from(_error: Failed) -> TextError {
+        TextError::ReadFault
+    }
+}
+
+impl From<AllocError> for TextError {
+    ghost use Rattle.dns_canon.specs.declared.error.TextError.TheVariants.{Memory};
+
+    ghost from_gives = { λ _ e. e ≡ Memory };
+
+    fn from(_error: AllocError) -> TextError {
+        TextError::Memory
+    }
+}
+
+/// Why a text gave no octets.
+#[derive(Clone, Copy, Debug, PartialEq, Eq)]
+pub(crate) enum SpellingError {
+    BadHex,
+    Memory,
+}
+
+impl From<FromHexError> for SpellingError {
+    ghost use Rattle.dns_canon.specs.Errors.{spelling_error};
+
+    ghost from_gives = { λ error e. e ≡ spelling_error error };
+
+    fn from(error: FromHexError) -> SpellingError {
+        match error {
+            FromHexError::OutOfMemory => SpellingError::Memory,
+            _ => SpellingError::BadHex,
+        }
+    }
+}

@@ -1,0 +1,62 @@
+//! What follows from the definitions.
+
+ghost use Rattle.std.specs.Prelude.{◌≡◌, ◌≤◌, ◌<◌, ◌⊎◌, ◌↔◌, ◌++◌, ℕ, List, Some, None, true, length, drop, map, filter};
+ghost use Rattle.std.specs.Cmp.{IsTotalOrder};
+ghost use Rattle.std.specs.List.Sorted.{IsPermutation};
+ghost use Rattle.std.specs.declared.cmp.Ordering.TheVariants.{Equal};
+ghost use Rattle.dns_canon.specs.Canonical.{canon, is_kept};
+ghost use Rattle.dns_canon.specs.Messages.{Item, Rec, item_at, message_reading, Valid, StopsAt};
+ghost use Rattle.dns_canon.specs.Messages.Reading.{Whole};
+ghost use Rattle.dns_canon.specs.NotBuilt.{not_built_at, StopsNotBuilt, StopsBad};
+ghost use Rattle.dns_canon.specs.Order.{record_cmp, Before, in_order, output};
+ghost use Rattle.dns_canon.specs.Run.{CallsFor};
+ghost use Rattle.dns_canon.specs.Sorted.{Ascends};
+ghost use Rattle.dns_canon.specs.declared.status.Status.{Status};
+ghost use Rattle.dns_canon.specs.WellFormed.{WellFormed};
+ghost use Rattle.dns_canon.specs.Worded.{FailsAt, ReadsWhole};
+
+/// Each message is one of four things: shorter than its header; valid, with one list of records; stopped
+/// at one item of a form that is not read yet; or stopped at one item that is plainly bad.
+pub fn four_kinds_of_messages()
+    ensures some { (m : List ℕ) → (length m < 12) ⊎ (((rs : List Rec) × Valid m rs)
+        ⊎ (((s i : ℕ) × StopsNotBuilt m s i) ⊎ ((s i : ℕ) × StopsBad m s i))) }
+    ensures one_list { (m : List ℕ) (rs ss : List Rec) → Valid m rs → Valid m ss → rs ≡ ss }
+    ensures one_stop { (m : List ℕ) (s i p t j q : ℕ) → StopsAt m s i p → StopsAt m t j q → (s ≡ t) × (i ≡ j) × (p ≡ q) }
+    ensures not_short { (m : List ℕ) (rs : List Rec) → Valid m rs → 12 ≤ length m }
+    ensures stops_not_short { (m : List ℕ) (s i p : ℕ) → StopsAt m s i p → 12 ≤ length m }
+    ensures stops_not_valid { (m : List ℕ) (s i p : ℕ) (rs : List Rec) → StopsAt m s i p → Valid m rs → ⊥ }
+    ensures bad_is_built { (m : List ℕ) (s i t j : ℕ) → StopsBad m s i → StopsNotBuilt m t j → ⊥ }
+{}
+
+/// The reading of a message in words: it stops at an item exactly where all items that are counted before
+/// stand one after another and none stands at the item's place; it is whole exactly where all counted items
+/// stand one after another. At a place one item is read at the most, and none where a form stands that is
+/// not read yet.
+pub fn readings_in_words()
+    ensures stops { (m : List ℕ) (s i p : ℕ) → StopsAt m s i p ↔ FailsAt m s i p }
+    ensures whole { (m : List ℕ) (items : List Item) (end : ℕ) → (message_reading m ≡ Whole items end) ↔ ReadsWhole m items end }
+    ensures one { (section : ℕ) (contents : List ℕ) (at : ℕ) (item other : Item) (end last : ℕ) →
+        item_at section contents at ≡ Some (item, end) → item_at section contents at ≡ Some (other, last) → (item ≡ other) × (end ≡ last) }
+    ensures not_built { (section : ℕ) (contents : List ℕ) (at : ℕ) → not_built_at section contents at ≡ true → item_at section contents at ≡ None }
+{}
+
+/// The order of records is total, and neither of two well formed records is before the other exactly where
+/// their canonical octets are equal.
+pub fn order_of_records()
+    ensures total { IsTotalOrder record_cmp }
+    ensures ties { (r s : Rec) → WellFormed r → WellFormed s → (record_cmp r s ≡ Equal) ↔ (canon r ≡ canon s) }
+    ensures before { (r s : Rec) → WellFormed r → WellFormed s → (Before r s ⊎ Before s r) ⊎ (canon r ≡ canon s) }
+{}
+
+/// The canonical list has the canonical octets of exactly the records that are no OPT, each as often as it
+/// comes, in order; and it is one, whatever order the records come in.
+pub fn canonical_lists()
+    ensures same { (rs : List Rec) → IsPermutation (map canon (filter is_kept rs)) (output rs) }
+    ensures ascends { (rs : List Rec) → Ascends record_cmp (in_order (filter is_kept rs)) }
+    ensures one { (rs ss : List Rec) → IsPermutation rs ss → output rs ≡ output ss }
+{}
+
+/// A text calls for one status at the most.
+pub fn one_status()
+    ensures { (t : List ℕ) (a b : Status) → CallsFor t a → CallsFor t b → b ≡ a }
+{}

@@ -1,0 +1,130 @@
+//! What is kept of a record until all are read.
+
+ghost use Rattle.std.specs.Prelude.{◌≡◌, ◌<◌, Some, vec_len, IfOk};
+ghost use Rattle.std.proofs.Props.{props};
+ghost use Rattle.std.proofs.Common.{rules};
+ghost use Rattle.std.specs.Cmp.{partial_order_from_own_ties};
+ghost use Rattle.std.specs.Cmp.Rules.{comparing};
+ghost use Rattle.std.specs.Str.{str_to_ascii_lowercase};
+ghost use Rattle.std.specs.Ordering.{on, as_partial_cmp, eq_by_cmp};
+ghost use Rattle.dns_wire.specs.Names.{wire, plain_name, labels_of, lowered};
+ghost use Rattle.dns_wire.specs.Reading.{all_of};
+ghost use Rattle.dns_name.specs.Order.{key_of, key_cmp};
+
+use crate::item::Record;
+use dns_name::Name;
+use std::alloc::{AllocError, Global};
+use std::cmp::Ordering;
+
+/// The octets with ASCII capitals made small.
+fn lowercase(alloc: Global, octets: &[u8]) -> Result<Vec<u8>, AllocError>
+    ensures { IfOk result (λ small. small.items ≡ str_to_ascii_lowercase octets.now) }
+{
+    octets
+        .iter()
+        .map(|octet| octet.to_ascii_lowercase())
+        .collect(alloc)
+}
+
+/// The octets of a name in small letters.
+#[derive(Drop)]
+pub(crate) struct LoweredName {
+    pub octets: Vec<u8>,
+    ghost is_name: { all_of (plain_name octets.items) ≡ Some (labels_of octets.items) } by { Prim.hlevel props },
+    ghost is_lowered: { lowered (labels_of octets.items) ≡ labels_of octets.items } by { Prim.hlevel props },
+}
+
+impl LoweredName {
+    /// The name in small letters.
+    pub fn of(alloc: Global, name: Name<'_>) -> Result<LoweredName, AllocError>
+        ensures { IfOk result (λ small. labels_of small.octets.items ≡ lowered (labels_of name.entry.slice.now)) }
+    {
+        let octets = lowercase(alloc, name.as_bytes())?;
+        Ok(LoweredName { octets })
+    }
+
+    /// The octets, which are those of the labels.
+    pub fn as_bytes(&self) -> &[u8]
+        ensures { result.now ≡ wire (labels_of self.now.octets.items) }
+    {
+        self.octets.as_slice()
+    }
+
+    fn as_name(&self) -> Name<'_>
+        ensures { result.slice.now ≡ self.now.octets.items }
+    {
+        Name {
+            slice: self.octets.as_slice(),
+        }
+    }
+}
+
+impl PartialEq for LoweredName {
+    ghost eq = { eq_by_cmp (on (λ v. key_of v.octets.items) key_cmp) };
+
+    ghost laws = { Prim.search (comparing, rules) depth 9 };
+
+    fn eq(&self, other: &Self) -> bool {
+        self.as_name() == other.as_name()
+    }
+}
+
+impl Eq for LoweredName {
+    ghost laws = { Prim.search (comparing, rules) depth 9 };
+}
+
+impl Ord for LoweredName {
+    ghost cmp = { on (λ v. key_of v.octets.items) key_cmp };
+
+    ghost total = { Prim.search (comparing, rules) depth 9 };
+
+    ghost matches_partial_cmp = { Prim.search (comparing, rules) depth 9 };
+
+    ghost matches_eq = { Prim.search (comparing, rules) depth 9 };
+
+    fn cmp(&self, other: &Self) -> Ordering {
+        self.as_name().cmp(&other.as_name())
+    }
+}
+
+impl PartialOrd for LoweredName {
+    ghost partial_cmp = { as_partial_cmp (on (λ v. key_of v.octets.items) key_cmp) };
+
+    ghost laws = { partial_order_from_own_ties (Prim.search (comparing, rules) depth 9) (Prim.search (comparing, rules) depth 9) };
+
+    fn partial_cmp(&self, other: &Self) -> Option<Ordering> {
+        Some(self.cmp(other))
+    }
+}
+
+/// The parts of a record, in the order in which records are compared.
+#[derive(PartialEq, Eq, PartialOrd, Ord, Drop)]
+pub(crate) struct OwnedRecord {
+    pub owner: LoweredName,
+    pub class: u16,
+    pub rtype: u16,
+    /// The canonical octets of the data.
+    pub octets: Vec<u8>,
+    pub ttl: u32,
+    ghost sized: { vec_len octets < 65536 },
+}
+
+impl OwnedRecord {
+    ghost use Rattle.dns_canon.specs.Order.{sort_key};
+    ghost use Rattle.dns_canon.specs.Seen.{owned_seen, record_seen};
+
+    /// The parts of a record.
+    pub fn of(alloc: Global, record: &Record<'_>) -> Result<OwnedRecord, AllocError>
+        ensures { IfOk result (λ parts. owned_seen parts ≡ sort_key (record_seen record.now)) }
+    {
+        let owner = LoweredName::of(alloc, record.owner)?;
+        let octets = Vec::from_slice(alloc, record.octets)?;
+        Ok(OwnedRecord {
+            owner,
+            class: record.class,
+            rtype: record.rtype,
+            octets,
+            ttl: record.ttl,
+        })
+    }
+}

@@ -1,0 +1,48 @@
+//! Octets as hexadecimal text (RFC 4648 section 8).
+
+ghost use Rattle.std.specs.Prelude.{◌≡◌, IfOk, IsErrOf, map};
+ghost use Rattle.dns_wire.specs.Hexadecimal.{Spells, SpellsNothing, trim, is_blank, lines};
+
+use crate::canonical::CanonList;
+use crate::error::SpellingError;
+use std::alloc::{AllocError, Global};
+
+/// Whether an octet is a space, a tab, CR or LF.
+fn is_blank(octet: u8) -> bool
+    ensures { result ≡ is_blank octet }
+{
+    octet == b' ' || octet == b'\t' || octet == b'\r' || octet == b'\n'
+}
+
+/// The text without the blanks at its end.
+fn trimmed(text: &[u8]) -> &[u8]
+    ensures { result.now ≡ trim text.now }
+{
+    let mut end = text.len();
+    while end > 0 && is_blank(text[end - 1]) {
+        end -= 1;
+    }
+    &text[..end]
+}
+
+/// The octets that the text spells, blanks at its end aside.
+pub(crate) fn octets_of(alloc: Global, text: &[u8]) -> Result<Vec<u8>, SpellingError>
+    ensures ok { IfOk result (λ octets. Spells text.now octets.items) }
+    ensures bad_hex { IsErrOf result SpellingError.BadHex → SpellsNothing text.now }
+{
+    let octets = hex::decode(alloc, trimmed(text))?;
+    Ok(octets)
+}
+
+/// A line for each record of the list.
+pub(crate) fn text_of(alloc: Global, list: &CanonList) -> Result<Vec<u8>, AllocError>
+    ensures { IfOk result (λ text. text.items ≡ lines list.now) }
+{
+    let mut text = Vec::new(alloc);
+    for octets in list.as_lists() {
+        let line = hex::encode(alloc, octets.as_slice())?;
+        text.extend_from_slice(line.as_bytes())?;
+        text.push(b'\n')?;
+    }
+    Ok(text)
+}

@@ -1,0 +1,272 @@
+//! The program's answers to known texts, also where a device fails in mid-stream.
+
+mod messages;
+mod rows;
+
+use crate::{
+    CanonError, LIMIT, Status, Words, canonical_lists, canonicalise, four_kinds_of_messages,
+    one_status, order_of_records, readings_in_words, run,
+};
+use dns_wire::{NullSink, PlainSource, ReadSource, TextSink, TextSource, WriteSink};
+use messages::MESSAGES;
+use rows::ROWS;
+use std::alloc::Global;
+use std::fs;
+use std::fs::File;
+use std::io::Read;
+use std::test::Fail;
+
+const HEADER: &str = "000000000000000000000000";
+
+/// Three records of one owner, two of them alike.
+const REPEATS: &str =
+    "123481800000000300000000016100000100010000003c0004c0000201016100000100010000003c0004c0000201016100000100010000003b0004c0000201";
+
+/// Their lines.
+const REPEATS_LINES: &[u8] =
+    b"016100000100010000003b0004c0000201\n016100000100010000003c0004c0000201\n016100000100010000003c0004c0000201\n";
+
+/// The words of a command line.
+fn words_of(alloc: Global, list: &[&str]) -> Result<Words, Fail> {
+    let mut words = Vec::new(alloc);
+    for word in list {
+        words.push(String::from_str(alloc, word)?)?;
+    }
+    Ok(Words::new(words))
+}
+
+#[test]
+fn answers_each_row(rt: HostRuntime) -> Result<(), Fail> {
+    let alloc = rt.alloc();
+    for row in ROWS {
+        let words = words_of(alloc, row.words)?;
+        let mut source = PlainSource::new(row.input.as_bytes());
+        let (mut lines, mut line) = ([0u8; 2000], [0u8; 100]);
+        let mut sink = TextSink::new(&mut lines, 1000, &[]);
+        let mut notes = TextSink::new(&mut line, 7, &[]);
+        let status = run(alloc, &words, &mut source, &mut sink, &mut notes);
+        assert_eq!(rt; status, row.status, "{}", row.name);
+        assert_eq!(rt; sink.written(), row.output.as_bytes(), "{}", row.name);
+        assert_eq!(rt; notes.written(), row.notes.as_bytes(), "{}", row.name);
+        assert_eq!(rt; sink.flushed(), status == Status::Done, "{}", row.name);
+    }
+    Ok(())
+}
+
+#[test]
+fn writes_the_lines_that_other_software_gives(rt: HostRuntime) -> Result<(), Fail> {
+    let alloc = rt.alloc();
+    let words = words_of(alloc, &["canon"])?;
+    let mut count = 0u8;
+    for entry in MESSAGES.lines() {
+        let mut parts = entry.split(' ');
+        let name = parts.next().unwrap_or("");
+        let input = parts.next().unwrap_or("");
+        let lines = parts.next().unwrap_or("");
+        let mut wanted = Vec::from_slice(alloc, lines.as_bytes())?;
+        if !lines.is_empty() {
+            wanted.push(b',')?;
+        }
+        let mut buffer = vec![in alloc; 0u8; 32_768]?;
+        let mut sink = TextSink::new(&mut buffer, 4096, &[]);
+        let mut source = PlainSource::new(input.as_bytes());
+        let status = run(alloc, &words, &mut source, &mut sink, &mut NullSink);
+        assert_eq!(rt; status, Status::Done, "{name}");
+        let mut written = Vec::from_slice(alloc, sink.written())?;
+        for octet in written.iter_mut() {
+            if *octet == b'\n' {
+                *octet = b',';
+            }
+        }
+        assert_eq!(rt; written.as_slice(), wanted.as_slice(), "{name}");
+        count = count.saturating_add(1);
+    }
+    assert_eq!(rt; count, 69);
+    Ok(())
+}
+
+#[test]
+fn keeps_its_limit(rt: HostRuntime) -> Result<(), Fail> {
+    let alloc = rt.alloc();
+    let words = words_of(alloc, &["canon"])?;
+    for (count, status) in [(LIMIT, Status::Done), (LIMIT + 1, Status::TooLong)] {
+        let digits = vec![in alloc; b'0'; count]?;
+        let mut source = PlainSource::new(&digits);
+        let answer = run(alloc, &words, &mut source, &mut NullSink, &mut NullSink);
+        assert_eq!(rt; answer, status, "{count}");
+    }
+    Ok(())
+}
+
+/// Failing at each call in turn, until a run has too few calls to fail: reading the text in pieces of 40
+/// octets takes five calls, and the last one finds the end.
+#[test]
+fn answers_a_source_that_fails(rt: HostRuntime) -> Result<(), Fail> {
+    let alloc = rt.alloc();
+    let words = words_of(alloc, &["canon"])?;
+    for call in 0..6u64 {
+        let failing = [call];
+        let mut source = TextSource::new(REPEATS.as_bytes(), 40, &failing);
+        let (mut lines, mut line) = ([0u8; 200], [0u8; 100]);
+        let mut sink = TextSink::new(&mut lines, 64, &[]);
+        let mut notes = TextSink::new(&mut line, 64, &[]);
+        let status = run(alloc, &words, &mut source, &mut sink, &mut notes);
+        if call < 5 {
+            assert_eq!(rt; status, Status::ReadFault, "{call}");
+            assert!(rt; sink.written().is_empty(), "{call}");
+            assert_eq!(rt; notes.written(), b"read fault\n".as_slice(), "{call}");
+        } else {
+            assert_eq!(rt; status, Status::Done);
+            assert_eq!(rt; sink.written(), REPEATS_LINES);
+            assert!(rt; notes.written().is_empty());
+        }
+    }
+    Ok(())
+}
+
+/// Failing at each call in turn, until a run has too few calls to fail: writing 105 octets in pieces of
+/// eight takes fourteen calls, and the fifteenth flushes.
+#[test]
+fn answers_a_sink_that_fails(rt: HostRuntime) -> Result<(), Fail> {
+    let alloc = rt.alloc();
+    let words = words_of(alloc, &["canon"])?;
+    for call in 0..16u64 {
+        let failing = [call];
+        let mut source = PlainSource::new(REPEATS.as_bytes());
+        let (mut lines, mut line) = ([0u8; 200], [0u8; 100]);
+        let mut sink = TextSink::new(&mut lines, 8, &failing);
+        let mut notes = TextSink::new(&mut line, 64, &[]);
+        let status = run(alloc, &words, &mut source, &mut sink, &mut notes);
+        let count = REPEATS_LINES.len().min(8 * call as usize);
+        assert_eq!(rt; sink.written(), &REPEATS_LINES[..count], "{call}");
+        if call < 15 {
+            assert_eq!(rt; status, Status::WriteFault, "{call}");
+            assert_eq!(rt; notes.written(), b"write fault\n".as_slice(), "{call}");
+        } else {
+            assert_eq!(rt; status, Status::Done);
+            assert!(rt; sink.flushed());
+            assert!(rt; notes.written().is_empty());
+        }
+    }
+    Ok(())
+}
+
+#[test]
+fn answers_devices_that_fail(rt: HostRuntime) -> Result<(), Fail> {
+    let alloc = rt.alloc();
+    let words = words_of(alloc, &["canon"])?;
+
+    // A fault of the sink at its flush, with nothing to write.
+    let mut source = PlainSource::new(HEADER.as_bytes());
+    let mut buffer = [0u8; 10];
+    let mut sink = TextSink::new(&mut buffer, 8, &[0]);
+    let status = run(alloc, &words, &mut source, &mut sink, &mut NullSink);
+    assert_eq!(rt; status, Status::WriteFault);
+    assert!(rt; sink.written().is_empty());
+    assert!(rt; !sink.flushed());
+
+    // A sink that is full after ten octets.
+    let mut source = PlainSource::new(REPEATS.as_bytes());
+    let mut sink = TextSink::new(&mut buffer, 8, &[]);
+    let status = run(alloc, &words, &mut source, &mut sink, &mut NullSink);
+    assert_eq!(rt; status, Status::WriteFault);
+    assert_eq!(rt; sink.written(), &REPEATS_LINES[..10]);
+
+    // A fault of the notes changes no answer.
+    let mut notes = TextSink::new(&mut buffer, 8, &[0]);
+    let mut source = PlainSource::new(b"");
+    let status = run(alloc, &words, &mut source, &mut NullSink, &mut notes);
+    assert_eq!(rt; status, Status::Short { message: 0 });
+    assert!(rt; notes.written().is_empty());
+    Ok(())
+}
+
+/// The text stands in two files, so that a read ends where the first file does; what is written goes to
+/// a file, and to a slice that takes ten octets of a piece and then none.
+#[test]
+fn reads_and_writes_files(rt: HostRuntime) -> Result<(), Fail> {
+    let alloc = rt.alloc();
+    let words = words_of(alloc, &["canon"])?;
+    let (front, back) = REPEATS.split_at(33);
+    fs::write(&rt, "front", front)?;
+    fs::write(&rt, "back", back)?;
+
+    let text = File::open(&rt, "front")?.chain(File::open(&rt, "back")?);
+    let mut sink = WriteSink::new(File::create(&rt, "lines")?);
+    let status = run(
+        alloc,
+        &words,
+        &mut ReadSource::new(text),
+        &mut sink,
+        &mut NullSink,
+    );
+    assert_eq!(rt; status, Status::Done);
+    assert_eq!(rt; fs::read(&rt, "lines")?.as_slice(), REPEATS_LINES);
+
+    let text = File::open(&rt, "front")?.chain(File::open(&rt, "back")?);
+    let mut buffer = [0u8; 10];
+    let mut sink = WriteSink::new(buffer.as_mut_slice());
+    let status = run(
+        alloc,
+        &words,
+        &mut ReadSource::new(text),
+        &mut sink,
+        &mut NullSink,
+    );
+    assert_eq!(rt; status, Status::WriteFault);
+    assert_eq!(rt; buffer.as_slice(), &REPEATS_LINES[..10]);
+    for name in ["front", "back", "lines"] {
+        fs::remove_file(&rt, name)?;
+    }
+    Ok(())
+}
+
+#[test]
+fn lists_canonical_octets(rt: HostRuntime) -> Result<(), Fail> {
+    let alloc = rt.alloc();
+    let message =
+        b"\x12\x34\x81\x80\0\0\0\x01\0\0\0\0\x01A\0\0\x01\0\x01\0\0\0\x3c\0\x04\xc0\0\x02\x01";
+    let list = canonicalise(alloc, message)?;
+    assert_eq!(rt; list.len(), 1);
+    assert!(rt; !list.is_empty());
+    let octets = b"\x01a\0\0\x01\0\x01\0\0\0\x3c\0\x04\xc0\0\x02\x01";
+    assert_eq!(rt; list.get(0), Some(octets.as_slice()));
+    assert_eq!(rt; list.get(1), None);
+
+    assert!(rt; matches!(canonicalise(alloc, b""), Err(CanonError::Short)));
+    four_kinds_of_messages();
+    readings_in_words();
+    order_of_records();
+    canonical_lists();
+    one_status();
+    Ok(())
+}
+
+#[test]
+fn ends_with_a_code(rt: HostRuntime) -> Result<(), Fail> {
+    let (message, section, index) = (0, 0, 0);
+    let statuses = [
+        Status::Done,
+        Status::Short { message },
+        Status::Item {
+            message,
+            section,
+            index,
+        },
+        Status::BadHex,
+        Status::TooLong,
+        Status::Usage,
+        Status::ReadFault,
+        Status::WriteFault,
+        Status::Memory,
+        Status::NotBuilt {
+            message,
+            section,
+            index,
+        },
+    ];
+    for (code, status) in (0u8..).zip(statuses) {
+        assert_eq!(rt; status.code(), code);
+    }
+    Ok(())
+}

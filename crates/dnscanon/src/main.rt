@@ -1,0 +1,42 @@
+//! The program `dnscanon`: writes the canonical lines of the message that standard input spells.
+#![tactic(auto)]
+
+use dns_canon::{Status, Words, run};
+use dns_wire::{ReadSource, WriteSink};
+use std::process::ExitCode;
+use std::{env, io};
+
+/// The code where the words of the command line can't be had, as where one is not UTF-8.
+const NO_WORDS: u8 = 14;
+
+/// The words of the command line, without the program's own name.
+fn words_of(rt: &HostRuntime) -> io::Result<Words> {
+    let mut words = Vec::new(rt.alloc());
+    for word in env::args(rt)?.skip(1) {
+        words.push(word)?;
+    }
+    Ok(Words::new(words))
+}
+
+/// The code for an error with which the words could not be had.
+fn code_of(error: &io::Error) -> u8 {
+    match error.kind() {
+        io::ErrorKind::OutOfMemory => Status::Memory.code(),
+        _ => NO_WORDS,
+    }
+}
+
+fn main(rt: HostRuntime) -> ExitCode {
+    let words = match words_of(&rt) {
+        Ok(words) => words,
+        Err(error) => return ExitCode::from(code_of(&error)),
+    };
+    let status = run(
+        rt.alloc(),
+        &words,
+        &mut ReadSource::new(rt.stdin()),
+        &mut WriteSink::new(rt.stdout()),
+        &mut WriteSink::new(rt.stderr()),
+    );
+    ExitCode::from(status.code())
+}
