@@ -7,7 +7,6 @@ pub mod Kept
 pub mod NoItem
 pub mod Ordering
 pub mod Phrased
-pub mod Pointed
 pub mod Sections
 pub mod Sorting
 pub mod Transfers

@@ -1,61 +1,17 @@
--- No item is read where a form stands that is not read yet.
+-- No item is read where a record stands whose type waits for its row.
 use Rattle.std.proofs.Common.{◌≡◌, ℕ, zero, suc, ◌+◌, ◌-◌, ◌≤◌, ◌⊎◌, inl, inr, Bool, true, false, not, cond, ltb, leb, List, [], ◌∷◌, length, take, drop, Option, Some, None, refl, sym, ap, ◌∙◌, arith}
 use Rattle.std.specs.Prelude.{◌==◌, ◌||◌, ◌&&◌}
 use Rattle.std.proofs.lemmas.Bool.Decides.{nat_tests}
 use Rattle.std.proofs.lemmas.List.{length-take, drop-take}
-use Rattle.dns_wire.specs.Names.{labels_within, up_to_255, plain_name}
-use Rattle.dns_wire.specs.Reading.{plain_at, with_end, number, octets}
-use Rattle.dns_wire.proofs.Spelled.{chosen}
+use Rattle.dns_wire.specs.Pointers.{name_at}
+use Rattle.dns_wire.specs.Reading.{plain_at, number, octets}
 use Rattle.dns_canon.specs.Data.{data_in, is_waiting}
 use Rattle.dns_canon.specs.Fields.{Field}
 use Rattle.dns_canon.specs.Messages.{Rec, item_at}
-use Rattle.dns_canon.specs.Messages.Item.{Asked, Told}
+use Rattle.dns_canon.specs.Messages.Item.{Told}
 use Rattle.std.specs.Int.{w16, w32}
-use Rattle.dns_canon.specs.NotBuilt.{pointer_within, begins_pointed, type_behind_owner, waits, not_built_at}
+use Rattle.dns_canon.specs.NotBuilt.{type_behind_owner, waits, not_built_at}
 use Rattle.dns_canon.specs.Records.{◌>>=◌, first_to, question_in, record_in, end_of}
-
--- ---- a pointer behind labels
-
-true_not_false : true ≡ false → ⊥
-true_not_false e = cc
-
--- no labels up to a root are read where a pointer begins behind labels
-no_labels : (steps most n : ℕ) (bytes : List ℕ) → pointer_within steps (take most bytes) ≡ true → labels_within n bytes ≡ None
-unfolding pointer_within labels_within
-no_labels zero most n bytes e = absurd cc
-no_labels (suc steps) zero n bytes e = absurd cc
-no_labels (suc steps) (suc most) zero bytes e = refl
-no_labels (suc steps) (suc most) (suc n) [] e = absurd cc
-no_labels (suc steps) (suc most) (suc n) (size ∷ rest) e =
-    elim (chosen (leb 192 size) _ _ _ e) [
-      | inl high ↦
-          let some : (size == 0) ≡ false = grind (arith, nat_tests, high.0) in
-          let large : ltb 63 size ≡ true = grind (arith, nat_tests, high.0) in
-          rw (some, large) refl
-      | inr low ↦
-          elim (chosen (size == 0 || ltb 63 size || ltb (length (take most rest)) size) _ _ _ low.1) [
-            | inl bad ↦ absurd (let h = bad.1 in cc)
-            | inr good ↦
-                let some : (size == 0) ≡ false = grind (arith, nat_tests, good.0) in
-                let small : ltb 63 size ≡ false = grind (arith, nat_tests, good.0) in
-                let within : size ≤ length (take most rest) = grind (arith, nat_tests, good.0) in
-                let room : ltb (length rest) size ≡ false = grind (arith, nat_tests, within, length-take most rest) in
-                let most-is : most ≡ size + (most - size) = omega (arith, within, length-take most rest) in
-                let cut : drop size (take most rest) ≡ take (most - size) (drop size rest) = ap (λ (k : ℕ). drop size (take k rest)) most-is ∙ drop-take size (most - size) rest in
-                let later : pointer_within steps (take (most - size) (drop size rest)) ≡ true = ap (pointer_within steps) (sym cut) ∙ good.1 in
-                rw (some, small, room, no_labels steps (most - size) n (drop size rest) later) refl
-          ]
-    ]
-
-no_name : (contents : List ℕ) (at : ℕ) → begins_pointed contents at ≡ true → plain_at plain_name contents at ≡ None
-unfolding begins_pointed plain_name
-no_name contents at e =
-    let none : plain_name (drop at contents) ≡ None =
-    ap up_to_255 (no_labels (length (take 255 (drop at contents))) 255 (length (drop at contents)) (drop at contents) e) in
-    by (ltb (length contents) at) none where
-      by : (b : Bool) → plain_name (drop at contents) ≡ None → cond b None (with_end contents (plain_name (drop at contents))) ≡ None
-      by true none = refl
-      by false none = ap (with_end contents) none
 
 -- ---- a type that waits for its row
 
@@ -101,24 +57,11 @@ no_record_by : (contents : List ℕ) (owner : Option (List (List ℕ) × ℕ)) �
 no_record_by contents None e = refl
 no_record_by contents (Some o) e = no_behind_owner contents o (plain_at (number w16) contents o.1) e
 
-no_record : (contents : List ℕ) (at : ℕ) → waits (type_behind_owner contents at) ≡ true → record_in (plain_at plain_name) data_in contents at ≡ None
+no_record : (contents : List ℕ) (at : ℕ) → waits (type_behind_owner contents at) ≡ true → record_in name_at data_in contents at ≡ None
 unfolding type_behind_owner record_in
-no_record contents at e = no_record_by contents (plain_at plain_name contents at) e
-
--- nothing is read where no name is
-no_question_there : (contents : List ℕ) (at : ℕ) → plain_at plain_name contents at ≡ None → question_in (plain_at plain_name) contents at ≡ None
-unfolding question_in
-no_question_there contents at none = ap (λ (o : Option (List (List ℕ) × ℕ)). o >>= (λ asked. plain_at (number w16) contents asked.1 >>= (λ qtype. plain_at (number w16) contents qtype.1 >>= (λ class. Some (record { name = asked.0; qtype = qtype.0; class = class.0 }, class.1))))) none
-
-no_record_there : (contents : List ℕ) (at : ℕ) → plain_at plain_name contents at ≡ None → record_in (plain_at plain_name) data_in contents at ≡ None
-unfolding record_in
-no_record_there contents at none = ap (λ (o : Option (List (List ℕ) × ℕ)). o >>= (λ owner. behind_owner contents owner)) none
+no_record contents at e = no_record_by contents (name_at contents at) e
 
 -- ---- an item
-
-or_cases : (a b : Bool) → (a || b) ≡ true → (a ≡ true) ⊎ (b ≡ true)
-or_cases true b e = inl refl
-or_cases false b e = inr e
 
 and_right : (a b : Bool) → (a && b) ≡ true → (a ≡ true) × (b ≡ true)
 and_right true b e = (refl, e)
@@ -126,18 +69,10 @@ and_right false b e = absurd cc
 
 pub no_item : (section : ℕ) (contents : List ℕ) (at : ℕ) → not_built_at section contents at ≡ true → item_at section contents at ≡ None
 unfolding not_built_at item_at
-no_item section contents at e = elim (or_cases (begins_pointed contents at) _ e) [
-  | inl pointed ↦ none_by (section == 0) (no_question_there contents at (no_name contents at pointed)) (no_record_there contents at (no_name contents at pointed))
-  | inr waiting ↦
-      let parts = and_right (not (section == 0)) (waits (type_behind_owner contents at)) waiting in
-      let later : (section == 0) ≡ false = not_true (section == 0) parts.0 in
-      rw later (ap (first_to Told) (no_record contents at parts.1))
-] where
-  none_by : (b : Bool) → question_in (plain_at plain_name) contents at ≡ None → record_in (plain_at plain_name) data_in contents at ≡ None
-      → cond b (first_to Asked (question_in (plain_at plain_name) contents at)) (first_to Told (record_in (plain_at plain_name) data_in contents at)) ≡ None
-  none_by true q r = ap (first_to Asked) q
-  none_by false q r = ap (first_to Told) r
-
+no_item section contents at e =
+    let parts = and_right (not (section == 0)) (waits (type_behind_owner contents at)) e in
+    let later : (section == 0) ≡ false = not_true (section == 0) parts.0 in
+    rw later (ap (first_to Told) (no_record contents at parts.1)) where
   not_true : (b : Bool) → not b ≡ true → b ≡ false
   not_true true e = absurd cc
   not_true false e = refl

@@ -1,7 +1,6 @@
 -- Messages: the counted items one after another, and the first that is not read (RFC 1035 section 4.1).
 use Rattle.std.specs.Prelude.{◌≡◌, ℕ, zero, suc, ◌+◌, ◌*◌, List, [], ◌∷◌, ◌++◌, length, drop, Option, Some, None, nat_lt, slice_index, ◌==◌, if◌then◌else◌}
-use Rattle.dns_wire.specs.Names.{plain_name}
-use Rattle.dns_wire.specs.Reading.{plain_at}
+use Rattle.dns_wire.specs.Pointers.{name_at}
 use Rattle.dns_canon.specs.Fields.{Field}
 use Rattle.dns_canon.specs.Data.{data_in}
 use Rattle.dns_canon.specs.Records.{QuestionOf, RecordOf, question_in, record_in, first_to}
@@ -21,8 +20,8 @@ pub data Item : Type 0 where
 -- the item at a place in the contents; those of section 0 are questions, and all others are records
 unfoldable pub item_at : ℕ → List ℕ → ℕ → Option (Item × ℕ)
 item_at section contents at =
-    if section == 0 then first_to Asked (question_in (plain_at plain_name) contents at)
-    else first_to Told (record_in (plain_at plain_name) data_in contents at)
+    if section == 0 then first_to Asked (question_in name_at contents at)
+    else first_to Told (record_in name_at data_in contents at)
 
 -- ---- which items are counted
 

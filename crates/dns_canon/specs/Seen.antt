@@ -12,10 +12,10 @@ use Rattle.dns_canon.specs.declared.item.MessageItem.TheVariants as item
 use Rattle.dns_canon.specs.declared.owned.OwnedRecord.{OwnedRecord}
 
 abbrev pub question_seen : asked.Question → Question
-question_seen q = record { name = labels_of q.qname.slice.now; qtype = q.qtype; class = q.qclass }
+question_seen q = record { name = q.qname; qtype = q.qtype; class = q.qclass }
 
 abbrev pub record_seen : records.Record → Rec
-record_seen r = record { owner = labels_of r.owner.slice.now; rtype = r.rtype; class = r.class; ttl = r.ttl; content = Raw r.octets.now ∷ [] }
+record_seen r = record { owner = r.owner; rtype = r.rtype; class = r.class; ttl = r.ttl; content = Raw r.octets.now ∷ [] }
 
 abbrev pub item_seen : MessageItem → Item
 item_seen (item.Question q) = Asked (question_seen q)

@@ -2,20 +2,20 @@
 
 ghost use Rattle.std.specs.Prelude.{◌<◌, length};
 
-use dns_name::Name;
+use dns_name::NameBuf;
 
 /// A question as it stands in a message.
-#[derive(Clone, Copy)]
-pub(crate) struct Question<'a> {
-    pub qname: Name<'a>,
+#[derive(Drop)]
+pub(crate) struct Question {
+    pub qname: NameBuf,
     pub qtype: u16,
     pub qclass: u16,
 }
 
 /// A record as it stands in a message.
-#[derive(Clone, Copy)]
+#[derive(Drop)]
 pub(crate) struct Record<'a> {
-    pub owner: Name<'a>,
+    pub owner: NameBuf,
     pub rtype: u16,
     pub class: u16,
     pub ttl: u32,
@@ -25,8 +25,8 @@ pub(crate) struct Record<'a> {
 }
 
 /// A counted item of a message.
-#[derive(Clone, Copy)]
+#[derive(Drop)]
 pub(crate) enum MessageItem<'a> {
-    Question(Question<'a>),
+    Question(Question),
     Record(Record<'a>),
 }

@@ -117,7 +117,7 @@ impl OwnedRecord {
     pub fn of(alloc: Global, record: &Record<'_>) -> Result<OwnedRecord, AllocError>
         ensures { IfOk result (λ parts. owned_seen parts ≡ sort_key (record_seen record.now)) }
     {
-        let owner = LoweredName::of(alloc, record.owner)?;
+        let owner = LoweredName::of(alloc, record.owner.as_name())?;
         let octets = Vec::from_slice(alloc, record.octets)?;
         Ok(OwnedRecord {
             owner,

@@ -2,18 +2,18 @@
 
 ghost use Rattle.std.specs.Prelude.{◌≡◌, ◌≤◌, ◌<◌, ◌-◌, [], ◌∷◌, length, IfOk};
 ghost use Rattle.std.specs.Int.{w16, w32};
-ghost use Rattle.dns_wire.specs.Names.{plain_name};
+ghost use Rattle.dns_wire.specs.Pointers.{name_at};
 ghost use Rattle.dns_wire.specs.Reading.{Gives, plain_at, number};
 ghost use Rattle.dns_canon.specs.Data.{data_in, is_waiting};
 ghost use Rattle.dns_canon.specs.Messages.{item_at};
-ghost use Rattle.dns_canon.specs.NotBuilt.{begins_pointed, type_behind_owner, not_built_at};
+ghost use Rattle.dns_canon.specs.NotBuilt.{type_behind_owner, not_built_at};
 ghost use Rattle.dns_canon.specs.Records.{question_in, record_in};
 ghost use Rattle.dns_canon.specs.Fields.Field.{Raw};
 ghost use Rattle.dns_canon.specs.Seen.{question_seen, record_seen, item_seen};
 
 use crate::item::{MessageItem, Question, Record};
-use dns_name::Name;
-use dns_wire::{ParseError, SplitBytes};
+use dns_name::NameBuf;
+use dns_wire::{ParseError, SplitMessageBytes, split_without_compression};
 
 /// The type number of A (RFC 1035 section 3.4.1).
 const A: u16 = 1;
@@ -29,26 +29,11 @@ fn is_waiting(rtype: u16) -> bool
     WAITING.contains(&rtype)
 }
 
-/// Reads a value without pointers at a place, and gives the place where it ends.
-fn split_at<'a, T: SplitBytes<'a>>(
-    contents: &'a [u8],
-    start: usize,
-) -> Result<(T, usize), ParseError>
-    ensures exact { Gives (λ x. (T.seen x.0, x.1)) result (plain_at T.reads contents.now start) }
-    ensures within { IfOk result (λ x. (start ≤ x.1) × (x.1 ≤ length contents.now)) }
-{
-    if contents.len() < start {
-        return Err(ParseError);
-    }
-    let (value, rest) = T::split_bytes(&contents[start..])?;
-    Ok((value, contents.len() - rest.len()))
-}
-
 fn split_u16(contents: &[u8], start: usize) -> Result<(u16, usize), ParseError>
     ensures exact { Gives (λ x. x) result (plain_at (number w16) contents.now start) }
     ensures within { IfOk result (λ x. (start ≤ x.1) × (x.1 ≤ length contents.now)) }
 {
-    let (octets, end) = split_at::<[u8; 2]>(contents, start)?;
+    let (octets, end) = split_without_compression::<[u8; 2]>(contents, start)?;
     Ok((u16::from_be_bytes(octets), end))
 }
 
@@ -56,7 +41,7 @@ fn split_u32(contents: &[u8], start: usize) -> Result<(u32, usize), ParseError>
     ensures exact { Gives (λ x. x) result (plain_at (number w32) contents.now start) }
     ensures within { IfOk result (λ x. (start ≤ x.1) × (x.1 ≤ length contents.now)) }
 {
-    let (octets, end) = split_at::<[u8; 4]>(contents, start)?;
+    let (octets, end) = split_without_compression::<[u8; 4]>(contents, start)?;
     Ok((u32::from_be_bytes(octets), end))
 }
 
@@ -78,11 +63,11 @@ fn read_data(contents: &[u8], start: usize, rtype: u16) -> Result<&[u8], ParseEr
 
 /// Reads the question at a place, and gives the place where it ends (RFC 1035 section 4.1.2).
 #[tactic(auto, unfolding(crate::specs::Records::question_in))]
-fn read_question(contents: &[u8], start: usize) -> Result<(Question<'_>, usize), ParseError>
-    ensures exact { Gives (λ x. (question_seen x.0, x.1)) result (question_in (plain_at plain_name) contents.now start) }
+fn read_question(contents: &[u8], start: usize) -> Result<(Question, usize), ParseError>
+    ensures exact { Gives (λ x. (question_seen x.0, x.1)) result (question_in name_at contents.now start) }
     ensures within { IfOk result (λ x. (start ≤ x.1) × (x.1 ≤ length contents.now)) }
 {
-    let (qname, at) = split_at::<Name<'_>>(contents, start)?;
+    let (qname, at) = NameBuf::split_message_bytes(contents, start)?;
     let (qtype, at) = split_u16(contents, at)?;
     let (qclass, end) = split_u16(contents, at)?;
     let question = Question {
@@ -96,10 +81,10 @@ fn read_question(contents: &[u8], start: usize) -> Result<(Question<'_>, usize),
 /// Reads the record at a place, and gives the place where it ends (RFC 1035 section 4.1.3).
 #[tactic(auto, unfolding(crate::specs::Records::record_in))]
 fn read_record(contents: &[u8], start: usize) -> Result<(Record<'_>, usize), ParseError>
-    ensures exact { Gives (λ x. (record_seen x.0, x.1)) result (record_in (plain_at plain_name) data_in contents.now start) }
+    ensures exact { Gives (λ x. (record_seen x.0, x.1)) result (record_in name_at data_in contents.now start) }
     ensures within { IfOk result (λ x. (start ≤ x.1) × (x.1 ≤ length contents.now)) }
 {
-    let (owner, at) = split_at::<Name<'_>>(contents, start)?;
+    let (owner, at) = NameBuf::split_message_bytes(contents, start)?;
     let (rtype, at) = split_u16(contents, at)?;
     let (class, at) = split_u16(contents, at)?;
     let (ttl, at) = split_u32(contents, at)?;
@@ -139,46 +124,23 @@ pub(crate) fn read_item(
     }
 }
 
-/// Whether labels stand at a place, perhaps none, and behind them an octet that begins a pointer.
-fn begins_pointed(contents: &[u8], start: usize) -> bool
-    requires { start ≤ length contents.now }
-    ensures { result ≡ begins_pointed contents.now start }
-{
-    let behind = &contents[start..];
-    let mut rest = &behind[..behind.len().min(255)];
-    while let Some((head, labels)) = rest.split_first() {
-        let size = usize::from(*head);
-        if size >= 192 {
-            return true;
-        }
-        if size == 0 || size > 63 || labels.len() < size {
-            return false;
-        }
-        rest = &labels[size..];
-    }
-    false
-}
-
 /// The type of a record whose owner is read at a place, and behind whose owner ten octets stand.
 #[tactic(auto, unfolding(crate::specs::NotBuilt::type_behind_owner))]
 fn type_behind_owner(contents: &[u8], start: usize) -> Result<u16, ParseError>
     ensures { Gives (λ x. x) result (type_behind_owner contents.now start) }
 {
-    let (_owner, at) = split_at::<Name<'_>>(contents, start)?;
+    let (_owner, at) = NameBuf::split_message_bytes(contents, start)?;
     let (rtype, _) = split_u16(contents, at)?;
-    let (_fixed, _) = split_at::<[u8; 10]>(contents, at)?;
+    let (_fixed, _) = split_without_compression::<[u8; 10]>(contents, at)?;
     Ok(rtype)
 }
 
-/// Whether the item of a section at a place is of a form that is not read yet.
+/// Whether the item of a section at a place is of the form that is not read yet.
 #[tactic(auto, unfolding(crate::specs::NotBuilt::not_built_at))]
 pub(crate) fn is_not_built(contents: &[u8], section: u8, start: usize) -> bool
     requires { start ≤ length contents.now }
     ensures { result ≡ not_built_at section contents.now start }
 {
-    if begins_pointed(contents, start) {
-        return true;
-    }
     if section == 0 {
         return false;
     }

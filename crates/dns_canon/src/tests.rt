@@ -1,6 +1,7 @@
 //! The program's answers to known texts, also where a device fails in mid-stream.
 
 mod messages;
+mod pointers;
 mod rows;
 
 use crate::{
@@ -9,11 +10,13 @@ use crate::{
 };
 use dns_wire::{NullSink, PlainSource, ReadSource, TextSink, TextSource, WriteSink};
 use messages::MESSAGES;
+use pointers::POINTERS;
 use rows::ROWS;
 use std::alloc::Global;
 use std::fs;
 use std::fs::File;
 use std::io::Read;
+use std::process::Abort;
 use std::test::Fail;
 
 const HEADER: &str = "000000000000000000000000";
@@ -53,35 +56,90 @@ fn answers_each_row(rt: HostRuntime) -> Result<(), Fail> {
     Ok(())
 }
 
+/// A line of a table: a plain name, the text of a message, and the lines for it, a comma between two; a
+/// hyphen stands for the refusal of the second record.
+fn answers_entry(rt: &impl Abort, alloc: Global, entry: &str) -> Result<(), Fail> {
+    let mut parts = entry.split(' ');
+    let name = parts.next().unwrap_or("");
+    let input = parts.next().unwrap_or("");
+    let lines = parts.next().unwrap_or("");
+    let mut buffer = vec![in alloc; 0u8; 32_768]?;
+    let mut sink = TextSink::new(&mut buffer, 4096, &[]);
+    let mut source = PlainSource::new(input.as_bytes());
+    let words = words_of(alloc, &["canon"])?;
+    let status = run(alloc, &words, &mut source, &mut sink, &mut NullSink);
+    if lines == "-" {
+        let (message, section, index) = (0, 1, 1);
+        let refused = Status::Item {
+            message,
+            section,
+            index,
+        };
+        assert_eq!(rt; status, refused, "{name}");
+        assert!(rt; sink.written().is_empty(), "{name}");
+        return Ok(());
+    }
+    assert_eq!(rt; status, Status::Done, "{name}");
+    let mut wanted = Vec::from_slice(alloc, lines.as_bytes())?;
+    if !lines.is_empty() {
+        wanted.push(b',')?;
+    }
+    for octet in wanted.iter_mut() {
+        if *octet == b',' {
+            *octet = b'\n';
+        }
+    }
+    assert_eq!(rt; sink.written(), wanted.as_slice(), "{name}");
+    Ok(())
+}
+
 #[test]
 fn writes_the_lines_that_other_software_gives(rt: HostRuntime) -> Result<(), Fail> {
     let alloc = rt.alloc();
-    let words = words_of(alloc, &["canon"])?;
     let mut count = 0u8;
     for entry in MESSAGES.lines() {
-        let mut parts = entry.split(' ');
-        let name = parts.next().unwrap_or("");
-        let input = parts.next().unwrap_or("");
-        let lines = parts.next().unwrap_or("");
-        let mut wanted = Vec::from_slice(alloc, lines.as_bytes())?;
-        if !lines.is_empty() {
-            wanted.push(b',')?;
-        }
-        let mut buffer = vec![in alloc; 0u8; 32_768]?;
-        let mut sink = TextSink::new(&mut buffer, 4096, &[]);
-        let mut source = PlainSource::new(input.as_bytes());
-        let status = run(alloc, &words, &mut source, &mut sink, &mut NullSink);
-        assert_eq!(rt; status, Status::Done, "{name}");
-        let mut written = Vec::from_slice(alloc, sink.written())?;
-        for octet in written.iter_mut() {
-            if *octet == b'\n' {
-                *octet = b',';
-            }
-        }
-        assert_eq!(rt; written.as_slice(), wanted.as_slice(), "{name}");
+        answers_entry(&rt, alloc, entry)?;
         count = count.saturating_add(1);
     }
     assert_eq!(rt; count, 69);
+    Ok(())
+}
+
+#[test]
+fn follows_the_pointers_that_other_software_follows(rt: HostRuntime) -> Result<(), Fail> {
+    let alloc = rt.alloc();
+    let mut count = 0u8;
+    for entry in POINTERS.lines() {
+        answers_entry(&rt, alloc, entry)?;
+        count = count.saturating_add(1);
+    }
+    assert_eq!(rt; count, 60);
+    Ok(())
+}
+
+/// The owner of the second record leads through 8,000 pointers, each to the one before it and the first to
+/// a root, and so it is the root.
+#[test]
+fn follows_8000_pointers(rt: HostRuntime) -> Result<(), Fail> {
+    let alloc = rt.alloc();
+    let mut message = Vec::from_slice(
+        alloc,
+        b"\x12\x34\x81\x80\0\0\0\x02\0\0\0\0\0\xff\0\0\x01\0\0\0\0\x3e\x81\0",
+    )?;
+    let mut target = 23u16;
+    for place in (24..16_024u16).step_by(2) {
+        message.extend_from_slice(&(0xc000 | target).to_be_bytes())?;
+        target = place;
+    }
+    message.extend_from_slice(b"\xfe\x96\0\x01\0\x01\0\0\0\0\0\x04\xc0\0\x02\x01")?;
+    assert_eq!(rt; message.len(), 16_040);
+    assert_eq!(rt; target, 0x3e96);
+
+    let list = canonicalise(alloc, &message)?;
+    assert_eq!(rt; list.len(), 2);
+    let address = b"\0\0\x01\0\x01\0\0\0\0\0\x04\xc0\0\x02\x01";
+    assert_eq!(rt; list.get(0), Some(address.as_slice()));
+    assert_eq!(rt; list.get(1), Some(&message[12..16_024]));
     Ok(())
 }
 

@@ -15,7 +15,7 @@ pub(super) struct Row {
 }
 
 /// The rows. The canonical octets agree with dnspython and ldns.
-pub(super) const ROWS: [Row; 22] = [
+pub(super) const ROWS: [Row; 28] = [
     Row {
         name: "twelve-zero-octets",
         words: &["canon"],
@@ -193,18 +193,6 @@ pub(super) const ROWS: [Row; 22] = [
         output: "",
     },
     Row {
-        name: "question-pointer-not-built",
-        words: &["canon"],
-        input: "123481800001000000000000c00c00010001",
-        status: Status::NotBuilt {
-            message: 0,
-            section: 0,
-            index: 0,
-        },
-        notes: "not built 0 0 0\n",
-        output: "",
-    },
-    Row {
         name: "ns-data-past-the-end-not-built",
         words: &["canon"],
         input: "12348180000000010000000003434f4d00000200010000002a0003c00c",
@@ -220,6 +208,82 @@ pub(super) const ROWS: [Row; 22] = [
         name: "ns-with-nine-octets-behind-its-owner",
         words: &["canon"],
         input: "12348180000000010000000003434f4d00000200010000002a00",
+        status: Status::Item {
+            message: 0,
+            section: 1,
+            index: 0,
+        },
+        notes: "item 0 1 0\n",
+        output: "",
+    },
+    Row {
+        name: "pointer-at-itself",
+        words: &["canon"],
+        input: "123481800000000100000000c00c000100010000003c0004c0000201",
+        status: Status::Item {
+            message: 0,
+            section: 1,
+            index: 0,
+        },
+        notes: "item 0 1 0\n",
+        output: "",
+    },
+    Row {
+        name: "pointer-below-12",
+        words: &["canon"],
+        input: "123481800000000100000000c00b000100010000003c0004c0000201",
+        status: Status::Item {
+            message: 0,
+            section: 1,
+            index: 0,
+        },
+        notes: "item 0 1 0\n",
+        output: "",
+    },
+    Row {
+        name: "segment-over-own-pointer",
+        words: &["canon"],
+        input: "1234818000010001000000000004616263c00d00010001000000000004c0000200",
+        status: Status::Done,
+        notes: "",
+        output: "04616263c00d00010001000000000004c000020000010001000000000004c0000200\n",
+    },
+    Row {
+        name: "chain-of-pointers",
+        words: &["canon"],
+        input: "12348180000000020000000000ff00000100000000000700c017c018c01ac01c00010001000000000004c0000201",
+        status: Status::Done,
+        notes: "",
+        output: "0000010001000000000004c0000201\n00ff00000100000000000700c017c018c01a\n",
+    },
+    Row {
+        name: "question-pointer-at-itself",
+        words: &["canon"],
+        input: "123481800001000000000000c00c00010001",
+        status: Status::Item {
+            message: 0,
+            section: 0,
+            index: 0,
+        },
+        notes: "item 0 0 0\n",
+        output: "",
+    },
+    Row {
+        name: "ns-behind-a-pointed-owner",
+        words: &["canon"],
+        input: "12348180000100010000000003636f6d0000020001c00c000200010000002a0002c00c",
+        status: Status::NotBuilt {
+            message: 0,
+            section: 1,
+            index: 0,
+        },
+        notes: "not built 0 1 0\n",
+        output: "",
+    },
+    Row {
+        name: "ns-with-nine-octets-behind-a-pointed-owner",
+        words: &["canon"],
+        input: "12348180000100010000000003636f6d0000020001c00c000200010000002a00",
         status: Status::Item {
             message: 0,
             section: 1,
