@@ -1,0 +1,5 @@
+-- The crate's own lemmas.
+pub mod Compared
+pub mod Filled
+pub mod Placed
+pub mod Stored
