@@ -1,4 +1,5 @@
 -- The crate's own lemmas.
+pub mod Cells
 pub mod Compared
 pub mod Filled
 pub mod Placed

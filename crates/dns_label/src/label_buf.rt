@@ -1,6 +1,7 @@
 //! A label with its octets.
 
 ghost use Rattle.std.specs.Prelude.{◌≡◌, ◌≤◌, ◌<◌, ◌+◌, ◌↔◌, ℕ, List, [], ◌∷◌, ◌++◌, length, take, slice_index, IsOk, IfOk, OnOk, OnErr, ⊤};
+ghost use Rattle.std.specs.Borrow.{sem};
 ghost use Rattle.std.specs.Str.{str_to_ascii_lowercase};
 ghost use Rattle.dns_wire.specs.Reading.{plain_at};
 ghost use Rattle.dns_label.specs.Labels.{plain_label, contents_of};
@@ -33,6 +34,8 @@ impl Model for LabelBuf {
 }
 
 impl LabelBuf {
+    ghost use Rattle.dns_label.specs.Lends.{LendsContents};
+
     /// The empty label.
     pub const fn new() -> LabelBuf
         ensures { result ≡ [] }
@@ -92,7 +95,8 @@ impl LabelBuf {
 
     /// The label as a view.
     pub fn as_label(&self) -> Label<'_>
-        ensures { contents_of result.slice.now ≡ self.now }
+        ensures contents { contents_of result.slice.now ≡ self.now }
+        ensures short { length self.now ≤ 63 }
     {
         let size = self.storage.octets[0] as usize;
         Label {
@@ -100,19 +104,27 @@ impl LabelBuf {
         }
     }
 
+    /// The contents, for writing. Their number stays.
+    pub fn contents_mut(&mut self) -> &mut [u8]
+        ensures* writes_back { sem 𝓛 (LendsContents self.entry result) }
+        ensures value { result.now ≡ self.old }
+    {
+        let size = self.storage.octets[0] as usize;
+        self.storage.part_mut(1, 1 + size)
+    }
+
     /// Makes the ASCII letters small (RFC 4343 section 3).
     pub fn make_lowercase(&mut self)
         ensures { self.new ≡ str_to_ascii_lowercase self.old }
     {
-        let size = self.storage.octets[0] as usize;
-        self.storage.octets[1..1 + size].make_ascii_lowercase();
+        self.contents_mut().make_ascii_lowercase();
     }
 }
 
 /// Copies the octets behind the length octet and so many others.
 fn append_at(octets: &mut [u8], size: usize, bytes: &[u8])
     requires { 1 + size + length bytes.now ≤ length octets.old }
-    ensures front { take (1 + size + length bytes.now) octets.new ≡ take (1 + size) octets.old ++ bytes.now }
+    ensures { take (1 + size + length bytes.now) octets.new ≡ take (1 + size) octets.old ++ bytes.now }
 {
     octets[1 + size..1 + size + bytes.len()].copy_from_slice(bytes);
 }
