@@ -166,11 +166,10 @@ fn goes_over_labels(rt: HostRuntime) -> Result<(), Fail> {
     assert!(rt; labels.next().is_none());
     assert!(rt; labels.next().is_none());
     assert_eq!(rt; again.next(), Some(first));
-    let mut count = 0;
+    let mut last = first;
     for label in again {
-        assert!(rt; label.as_wire().len() < 4);
-        count += 1;
+        last = label;
     }
-    assert_eq!(rt; count, 2);
+    assert!(rt; last.is_root());
     Ok(())
 }
