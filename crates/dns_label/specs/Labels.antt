@@ -1,6 +1,6 @@
 -- Labels, and how they stand on the wire (RFC 1035 section 3.1): a length of at most 63, and so many octets. The root's
 -- label is the empty one.
-use Rattle.std.specs.Prelude.{◌≡◌, ℕ, zero, suc, ◌<◌, List, [], ◌∷◌, length, take, drop, slice_index, Option, Some, None, nat_lt, ◌||◌, if◌then◌else◌}
+use Rattle.std.specs.Prelude.{◌≡◌, ℕ, zero, suc, ◌<◌, List, [], ◌∷◌, length, take, drop, Option, Some, None, nat_lt, ◌||◌, if◌then◌else◌}
 
 -- a label's octets: its length, and its contents
 abbrev pub label_wire : List ℕ → List ℕ

@@ -1,10 +1,10 @@
 -- `part_mut` lends octets of the array, from one place up to another. Assumes `Logic`.
-use Rattle.std.proofs.Common.{◌≡◌, ℕ, ◌+◌, ◌-◌, ◌^◌, ◌<◌, ◌≤◌, List, [], ◌∷◌, ◌++◌, length, take, drop as drop_list, refl, sym, ap, ◌∙◌, lit<, arith, w64, MutBor}
+use Rattle.std.proofs.Common.{◌≡◌, ℕ, ◌+◌, ◌-◌, ◌^◌, ◌<◌, ◌≤◌, List, [], ◌∷◌, ◌++◌, length, take, drop as drop_list, refl, sym, ap, ◌∙◌, arith, w64}
 use Rattle.std.proofs.raw_atomic.Walks.{proved}
 use Rattle.std.proofs.lemmas.List.{take-append-drop, length-append, length-drop, length-take-le, drop-drop, take_all}
 use seplogic.Ra.Ura.{Ura}
-use mir.Syntax.{Fn, named}
-use mir.Val.{Val, vptr, vint}
+use mir.Syntax.{named}
+use mir.Val.{Val, vint}
 use base.Logic.{SProp, ent, sep, ex}
 use base.Fml.{Fml, Lft, GName, Share, ftrue, flft}
 use contract.Monad.{fact}
