@@ -1,0 +1,6 @@
+-- The crate's own lemmas.
+pub mod Cells
+pub mod Compared
+pub mod Filled
+pub mod Placed
+pub mod Stored

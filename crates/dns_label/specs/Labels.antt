@@ -1,0 +1,54 @@
+-- Labels, and how they stand on the wire (RFC 1035 section 3.1): a length of at most 63, and so many octets. The root's
+-- label is the empty one.
+use Rattle.std.specs.Prelude.{◌≡◌, ℕ, zero, suc, ◌<◌, List, [], ◌∷◌, length, take, drop, Option, Some, None, nat_lt, ◌||◌, if◌then◌else◌}
+
+-- a label's octets: its length, and its contents
+abbrev pub label_wire : List ℕ → List ℕ
+label_wire contents = length contents ∷ contents
+
+-- the contents of a label's octets
+abbrev pub contents_of : List ℕ → List ℕ
+contents_of octets = drop 1 octets
+
+-- contents that a label may have
+abbrev pub IsShort : List ℕ → Type 0
+IsShort contents = length contents < 64
+
+-- ---- reading
+
+-- the label at the front, and what follows it
+unfoldable pub plain_label : List ℕ → Option (List ℕ × List ℕ)
+plain_label [] = None
+plain_label (size ∷ rest) =
+    if nat_lt 63 size || nat_lt (length rest) size then None else Some (take size rest, drop size rest)
+
+-- a label in front of what is read after it
+abbrev pub with_label : List ℕ → Option (List (List ℕ)) → Option (List (List ℕ))
+with_label contents None = None
+with_label contents (Some others) = Some (contents ∷ others)
+
+abbrev pub then_labels : (List ℕ → Option (List (List ℕ))) → Option (List ℕ × List ℕ) → Option (List (List ℕ))
+then_labels more None = None
+then_labels more (Some (contents, rest)) = with_label contents (more rest)
+
+-- the labels that stand one after another up to the end, where no more than steps are read
+unfoldable pub labels_to_end : ℕ → List ℕ → Option (List (List ℕ))
+labels_to_end steps [] = Some []
+labels_to_end zero (size ∷ rest) = None
+labels_to_end (suc steps) (size ∷ rest) = then_labels (λ more. labels_to_end steps more) (plain_label (size ∷ rest))
+
+-- The labels that fill the octets, one after another. `labels_fill` says it in other words.
+unfoldable pub label_list : List ℕ → Option (List (List ℕ))
+label_list octets = labels_to_end (length octets) octets
+
+abbrev pub labels_or_none : Option (List (List ℕ)) → List (List ℕ)
+labels_or_none None = []
+labels_or_none (Some labels) = labels
+
+-- the labels of octets that they fill
+unfoldable pub labels_in : List ℕ → List (List ℕ)
+labels_in octets = labels_or_none (label_list octets)
+
+-- octets are labels one after another
+abbrev pub AreLabels : List ℕ → Type 0
+AreLabels octets = label_list octets ≡ Some (labels_in octets)

@@ -1,0 +1,10 @@
+-- What a label that owns its octets ends as, where its contents were lent for writing.
+use Rattle.std.specs.Prelude.{ℕ, List, length}
+use Rattle.std.specs.List.{refill}
+use Rattle.std.specs.Borrow.{Lends, Fml, MutBor, Array, u8}
+use Rattle.dns_label.specs.declared.label_buf.LabelBuf.{LabelBuf}
+use Rattle.dns_label.specs.contracts.label_buf.LabelBuf.{the_row}
+
+-- once the borrow r ends, the contents are what r shows last; their number stays
+abbrev pub LendsContents : MutBor LabelBuf → MutBor (List ℕ) → Fml
+LendsContents s r = Lends the_row (Array u8 0) s r (refill (length s.now) s.now)

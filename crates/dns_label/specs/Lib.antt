@@ -1,0 +1,6 @@
+-- What the contracts of labels cite.
+pub mod Hashing
+pub mod Labels
+pub mod Lends
+pub mod Order
+pub mod Storage

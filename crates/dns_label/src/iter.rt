@@ -1,0 +1,84 @@
+//! Going over labels that stand one after another.
+
+ghost use Rattle.std.specs.Prelude.{◌≡◌, ◌↔◌, [], IsTrue, ⊤};
+ghost use Rattle.std.specs.Iterator.{YieldsFirstBy, item_count};
+ghost use Rattle.dns_wire.specs.Names.{heads};
+ghost use Rattle.dns_label.specs.Labels.{AreLabels, contents_of, labels_in};
+
+use crate::label::Label;
+use dns_wire::SplitBytes;
+use std::alloc::AllocError;
+use std::marker::Model;
+
+/// The labels that stand one after another, in order. It is seen as the labels that are still to come.
+#[derive(Debug, Drop)]
+pub struct LabelIter<'a> {
+    octets: &'a [u8],
+}
+
+impl<'a> Model for LabelIter<'a> {
+    ghost use Rattle.std.specs.Prelude.{ℕ, List};
+    ghost use Rattle.dns_label.specs.Labels.{AreLabels, labels_in};
+
+    ghost Value = { List (List ℕ) };
+
+    ghost view = { λ i. labels_in i.octets.now };
+
+    ghost invariant = { λ i. AreLabels i.octets.now };
+}
+
+impl<'a> LabelIter<'a> {
+    /// Goes over the labels that fill the octets.
+    pub fn new(octets: &'a [u8]) -> LabelIter<'a>
+        requires { AreLabels octets.now }
+        ensures { result ≡ labels_in octets.entry.now }
+    {
+        LabelIter { octets }
+    }
+
+    /// The octets of the labels that are still to come.
+    pub fn remaining(&self) -> &'a [u8]
+        ensures octets { result.now ≡ heads self.now }
+        ensures labels { labels_in result.now ≡ self.now }
+    {
+        self.octets
+    }
+
+    /// Whether no label is still to come.
+    pub fn is_empty(&self) -> bool
+        ensures { IsTrue result ↔ (self.now ≡ []) }
+    {
+        self.octets.is_empty()
+    }
+}
+
+impl<'a> Iterator for LabelIter<'a> {
+    type Item = Label<'a>;
+
+    ghost next_gives = { YieldsFirstBy (λ label. contents_of label.slice.now) (λ labels. labels) };
+
+    ghost remaining = { item_count (λ labels. labels) };
+
+    /// The next label. It is none where none is left, and then always.
+    fn next(&mut self) -> Option<Label<'a>> {
+        match Label::split_bytes(self.octets) {
+            Ok((label, rest)) => {
+                self.octets = rest;
+                Some(label)
+            }
+            Err(_) => None,
+        }
+    }
+}
+
+impl<'a> Clone for LabelIter<'a> {
+    ghost is_clone = { λ a b. b ≡ a };
+
+    ghost is_infallible = { λ _. ⊤ };
+
+    fn clone(&self) -> Result<LabelIter<'a>, AllocError> {
+        Ok(LabelIter {
+            octets: self.octets,
+        })
+    }
+}

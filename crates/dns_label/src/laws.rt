@@ -1,0 +1,24 @@
+//! The definitions of this crate in other words.
+
+ghost use Rattle.std.specs.Prelude.{◌≡◌, ◌++◌, ℕ, List, Some};
+ghost use Rattle.std.specs.List.{AllByRecursion};
+ghost use Rattle.dns_wire.specs.Names.{heads};
+ghost use Rattle.dns_label.specs.Labels.{IsShort, label_wire, label_list, plain_label};
+
+/// A label is read exactly where its octets stand at the front: its length, which is at most 63, and so
+/// many octets (RFC 1035 section 3.1).
+pub fn one_label()
+    ensures spelled { (bytes contents rest : List ℕ) →
+        plain_label bytes ≡ Some (contents, rest) → IsShort contents × (bytes ≡ label_wire contents ++ rest) }
+    ensures read { (contents rest : List ℕ) →
+        IsShort contents → plain_label (label_wire contents ++ rest) ≡ Some (contents, rest) }
+{}
+
+/// Octets are labels one after another exactly where they are those of labels of at most 63 octets, each
+/// behind its length. They are of one list of labels only.
+pub fn labels_fill()
+    ensures spelled { (octets : List ℕ) (labels : List (List ℕ)) →
+        label_list octets ≡ Some labels → AllByRecursion IsShort labels × (octets ≡ heads labels) }
+    ensures read { (labels : List (List ℕ)) →
+        AllByRecursion IsShort labels → label_list (heads labels) ≡ Some labels }
+{}
