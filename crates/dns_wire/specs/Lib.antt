@@ -2,7 +2,9 @@
 pub mod Building
 pub mod Devices
 pub mod Hexadecimal
+pub mod Lists
 pub mod Names
 pub mod Outside
 pub mod Pointers
 pub mod Reading
+pub mod Texts

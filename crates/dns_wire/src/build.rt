@@ -70,18 +70,3 @@ impl BuildBytes for u8 {
         1
     }
 }
-
-/// The octets, as they stand.
-impl BuildBytes for &[u8] {
-    ghost octets = { λ v. v.now };
-
-    ghost fits = { λ _. ⊤ };
-
-    fn build_at(&self, bytes: &mut [u8], start: usize) -> Result<usize, TruncationError> {
-        put(self, bytes, start)
-    }
-
-    fn built_bytes_size(&self) -> usize {
-        self.len()
-    }
-}

@@ -3,15 +3,20 @@
 #![tactic(auto)]
 
 mod adapters;
+mod as_bytes;
 mod build;
+mod builders;
 mod error;
 mod follow;
 mod laws;
+mod list;
 mod memory;
 mod outside;
 mod parse;
+mod text;
 
 pub use adapters::{ReadSource, WriteSink};
+pub use as_bytes::AsBytes;
 pub use build::{BuildBytes, put};
 pub use error::{ParseError, TruncationError};
 pub use follow::{Head, read_head};
@@ -19,6 +24,7 @@ pub use laws::{
     added_octets, hexadecimal_text, names_follow_pointers, plain_names, pointed_names,
     pointers_lead_back,
 };
+pub use list::{ListError, split_list};
 pub use memory::{NullSink, PlainSource, TextSink, TextSource};
 pub use outside::{Failed, Sink, Source};
 pub use parse::{

@@ -1,0 +1,142 @@
+//! Writing nothing, what a reference or a pointer holds, and lists.
+
+ghost use Rattle.std.specs.Prelude.{◌≡◌, ◌≤◌, ◌<◌, ◌^◌, [], length, All, ⊤};
+ghost use Rattle.std.specs.List.{flat_map};
+ghost use Rattle.dns_wire.specs.Building.{Builds};
+
+use crate::build::BuildBytes;
+use crate::error::TruncationError;
+use std::rc::Rc;
+
+/// No octets.
+impl BuildBytes for () {
+    ghost octets = { λ _. [] };
+
+    ghost fits = { λ _. ⊤ };
+
+    fn build_at(&self, _bytes: &mut [u8], start: usize) -> Result<usize, TruncationError> {
+        Ok(start)
+    }
+
+    fn built_bytes_size(&self) -> usize {
+        0
+    }
+}
+
+/// What the reference leads to.
+impl<T: BuildBytes> BuildBytes for &T {
+    ghost octets = { λ v. T.octets v.now };
+
+    ghost fits = { λ v. T.fits v.now };
+
+    fn build_at(&self, bytes: &mut [u8], start: usize) -> Result<usize, TruncationError> {
+        (**self).build_at(bytes, start)
+    }
+
+    fn built_bytes_size(&self) -> usize {
+        (**self).built_bytes_size()
+    }
+}
+
+/// What the box holds.
+impl<T: BuildBytes> BuildBytes for Box<T> {
+    ghost octets = { λ v. T.octets v.value };
+
+    ghost fits = { λ v. T.fits v.value };
+
+    fn build_at(&self, bytes: &mut [u8], start: usize) -> Result<usize, TruncationError> {
+        (**self).build_at(bytes, start)
+    }
+
+    fn built_bytes_size(&self) -> usize {
+        (**self).built_bytes_size()
+    }
+}
+
+/// What the pointer leads to.
+impl<T: BuildBytes> BuildBytes for Rc<T> {
+    ghost octets = { λ v. T.octets v.value };
+
+    ghost fits = { λ v. T.fits v.value };
+
+    fn build_at(&self, bytes: &mut [u8], start: usize) -> Result<usize, TruncationError> {
+        (**self).build_at(bytes, start)
+    }
+
+    fn built_bytes_size(&self) -> usize {
+        (**self).built_bytes_size()
+    }
+}
+
+/// Writes the values one after another at a place of the buffer, and gives the place where they end.
+fn put_all<T: BuildBytes>(
+    values: &[T],
+    bytes: &mut [u8],
+    start: usize,
+) -> Result<usize, TruncationError>
+    requires { start ≤ length bytes.old }
+    ensures { Builds (All T.fits values.now) (flat_map T.octets values.now) bytes.old start bytes.new result }
+{
+    let mut end = start;
+    for value in values {
+        end = value.build_at(bytes, end)?;
+    }
+    Ok(end)
+}
+
+/// The number of octets of all the values.
+fn size_of_all<T: BuildBytes>(values: &[T]) -> usize
+    requires { length (flat_map T.octets values.now) < 2 ^ 64 }
+    ensures { result ≡ length (flat_map T.octets values.now) }
+{
+    let mut size = 0;
+    for value in values {
+        size += value.built_bytes_size();
+    }
+    size
+}
+
+/// The values, one after another.
+impl<T: BuildBytes> BuildBytes for &[T] {
+    ghost octets = { λ v. flat_map T.octets v.now };
+
+    ghost fits = { λ v. All T.fits v.now };
+
+    fn build_at(&self, bytes: &mut [u8], start: usize) -> Result<usize, TruncationError> {
+        put_all(self, bytes, start)
+    }
+
+    fn built_bytes_size(&self) -> usize {
+        size_of_all(self)
+    }
+}
+
+/// The values, one after another.
+impl<T: BuildBytes, const N: usize> BuildBytes for [T; N] {
+    ghost octets = { λ v. flat_map T.octets v };
+
+    ghost fits = { λ v. All T.fits v };
+
+    fn build_at(&self, bytes: &mut [u8], start: usize) -> Result<usize, TruncationError> {
+        put_all(self, bytes, start)
+    }
+
+    fn built_bytes_size(&self) -> usize {
+        size_of_all(self)
+    }
+}
+
+/// The values, one after another.
+impl<T: BuildBytes> BuildBytes for Vec<T> {
+    ghost octets = { λ v. flat_map T.octets v.items };
+
+    ghost fits = { λ v. All T.fits v.items };
+
+    fn build_at(&self, bytes: &mut [u8], start: usize) -> Result<usize, TruncationError> {
+        put_all(self.as_slice(), bytes, start)
+    }
+
+    fn built_bytes_size(&self) -> usize {
+        size_of_all(self.as_slice())
+    }
+}

@@ -1,0 +1,50 @@
+//! Reading and writing text.
+
+ghost use Rattle.std.specs.Prelude.{ℕ, List, [], ⊤};
+ghost use Rattle.dns_wire.specs.Reading.{plain_at};
+ghost use Rattle.dns_wire.specs.Texts.{text};
+
+use crate::build::{BuildBytes, put};
+use crate::error::{ParseError, TruncationError};
+use crate::parse::{ParseBytes, ParseMessageBytes, parse_without_compression};
+
+/// All the octets, where they are UTF-8.
+impl<'a> ParseBytes<'a> for &'a str {
+    ghost Seen = { List ℕ };
+
+    ghost seen = { λ v. v.now };
+
+    ghost reads = { text };
+
+    ghost reads_at = { plain_at text };
+
+    ghost labels = { λ _. [] };
+
+    fn parse_bytes(bytes: &'a [u8]) -> Result<&'a str, ParseError> {
+        match str::from_utf8(bytes) {
+            Ok(text) => Ok(text),
+            Err(_) => Err(ParseError),
+        }
+    }
+}
+
+impl<'a> ParseMessageBytes<'a> for &'a str {
+    fn parse_message_bytes(contents: &'a [u8], start: usize) -> Result<&'a str, ParseError> {
+        parse_without_compression(contents, start)
+    }
+}
+
+/// The octets of the text.
+impl BuildBytes for &str {
+    ghost octets = { λ v. v.now };
+
+    ghost fits = { λ _. ⊤ };
+
+    fn build_at(&self, bytes: &mut [u8], start: usize) -> Result<usize, TruncationError> {
+        put(self.as_bytes(), bytes, start)
+    }
+
+    fn built_bytes_size(&self) -> usize {
+        self.len()
+    }
+}
