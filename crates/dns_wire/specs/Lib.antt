@@ -1,8 +1,10 @@
 -- What the wire layer's contracts cite.
 pub mod Building
+pub mod Compression
 pub mod Devices
 pub mod Hexadecimal
 pub mod Names
 pub mod Outside
 pub mod Pointers
 pub mod Reading
+pub mod Searching

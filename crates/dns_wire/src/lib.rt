@@ -4,15 +4,18 @@
 
 mod adapters;
 mod build;
+mod compressor;
 mod error;
 mod follow;
 mod laws;
 mod memory;
 mod outside;
 mod parse;
+mod suffix;
 
 pub use adapters::{ReadSource, WriteSink};
 pub use build::{BuildBytes, put};
+pub use compressor::NameCompressor;
 pub use error::{ParseError, TruncationError};
 pub use follow::{Head, read_head};
 pub use laws::{
