@@ -1,8 +1,14 @@
 -- The crate's own lemmas.
+pub mod Alike
 pub mod Digits
 pub mod Following
 pub mod Lent
+pub mod Longest
 pub mod Lowered
+pub mod Matching
+pub mod Noting
+pub mod Rising
+pub mod Runs
 pub mod Spelled
 pub mod Told
 pub mod Walk
