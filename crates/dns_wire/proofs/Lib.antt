@@ -10,5 +10,6 @@ pub mod Noting
 pub mod Rising
 pub mod Runs
 pub mod Spelled
+pub mod Suffixes
 pub mod Told
 pub mod Walk

@@ -1,10 +1,11 @@
 -- The longest suffix that is known, place by place.
-use Rattle.std.proofs.Common.{◌≡◌, ℕ, ◌+◌, ◌<◌, ◌≤◌, Bool, true, false, cond, List, [], ◌∷◌, ◌++◌, length, take, drop, Option, Some, None, refl, sym, ap, ◌∙◌, arith}
+use Rattle.std.proofs.Common.{◌≡◌, ℕ, ◌+◌, ◌<◌, ◌≤◌, Bool, true, false, cond, List, [], ◌∷◌, ◌++◌, length, get_or, take, drop, Option, Some, None, refl, sym, ap, ◌∙◌, arith, add-one}
 use Rattle.std.specs.Prelude.{find, nat_le, nat_lt, if◌then◌else◌}
 use Rattle.std.specs.Option.{option_or}
 use Rattle.std.proofs.lemmas.Bool.{le-leb, lt-ltb, le-ltb}
 use Rattle.std.proofs.lemmas.Bool.Decides.{nat_tests}
 use Rattle.std.proofs.lemmas.List.{length-append, take-append-drop}
+use Rattle.std.proofs.Math.Seq.{take-suc}
 use Rattle.std.proofs.lemmas.List.Folds.{find-append}
 use Rattle.std.proofs.lemmas.Option.{some_pair_parts}
 use Rattle.dns_wire.specs.Compression.{are_alike, reads_as, stands_at, or_shorter, longest_kept}
@@ -144,6 +145,22 @@ step_missed (Some (least, first)) size place (Some front) w e = by (nat_lt front
   by : (b : Bool) → nat_lt front least ≡ b → None ≡ cond b (Some front) None → ◌≡◌ {A = Option (ℕ × ℕ)} (Some (least, first)) (if nat_le least front then Some (least, first) else Some (front, place))
   by true t e = absurd cc
   by false t e = let u : nat_le least front ≡ true = grind (arith, nat_tests, t) in rw u refl
+
+module _ (contents places : List ℕ) (labels : List (List ℕ)) (size i front : ℕ) (best : Option (ℕ × ℕ)) (within : i < length places) (best_is : best ≡ longest_kept contents (take i places) 0 labels) (front_is : front ≡ front_of size best) where
+  one_more : longest_kept contents (take (i + 1) places) 0 labels ≡ better best (get_or places i 0) (suffix_at contents (get_or places i 0) 0 labels)
+  one_more =
+      let more : take (i + 1) places ≡ take i places ++ get_or places i 0 ∷ [] = rw add-one (take-suc places i 0 within) in
+      ap (λ (k : List ℕ). longest_kept contents k 0 labels) more
+      ∙ longest_more contents (take i places) (get_or places i 0) 0 labels
+      ∙ ap (λ (b : Option (ℕ × ℕ)). better b (get_or places i 0) (suffix_at contents (get_or places i 0) 0 labels)) (sym best_is)
+
+  pub more_found : (found : ℕ) → Some found ≡ before_limit front (suffix_at contents (get_or places i 0) 0 labels) → Some (found, get_or places i 0) ≡ longest_kept contents (take (i + 1) places) 0 labels
+  more_found found e =
+      step_found best size (get_or places i 0) found (suffix_at contents (get_or places i 0) 0 labels) (rw front_is at e) ∙ sym one_more
+
+  pub more_missed : length (heads labels) ≤ size → None ≡ before_limit front (suffix_at contents (get_or places i 0) 0 labels) → best ≡ longest_kept contents (take (i + 1) places) 0 labels
+  more_missed room e =
+      step_missed best size (get_or places i 0) (suffix_at contents (get_or places i 0) 0 labels) (suffix_within contents (get_or places i 0) 0 size labels (omega arith)) (rw front_is at e) ∙ sym one_more
 
 -- ---- the one suffix that may be the name at a place
 

@@ -73,6 +73,9 @@ impl NameCompressor {
         let mut front = name.len();
         for place in self.kept.as_slice() {
             if let Some(found) = suffix_before(contents, *place as usize, name, count, front) {
+                if found == 0 {
+                    return Some((0, *place));
+                }
                 best = Some((found, *place));
                 front = found;
             }
