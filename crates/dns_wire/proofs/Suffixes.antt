@@ -34,11 +34,6 @@ stands contents labels there place end reads alike = ap (reads_as labels) (name_
 
 -- ---- the first place that passes a test
 
-record First (p : ℕ → Bool) (places : List ℕ) (place : ℕ) : Type 0 where
-  kept : Contains places place
-  passes : p place ≡ true
-  least : (other : ℕ) → Contains places other → p other ≡ true → place ≤ other
-
 head_or_later : (x : ℕ) (xs : List ℕ) (place : ℕ) → Contains (x ∷ xs) place → (x ≡ place) ⊎ Contains xs place
 head_or_later x xs place kept = elim (Contains-append_cases (x ∷ []) xs place kept) [
   | inl here ↦ inl (one here)
@@ -48,30 +43,27 @@ head_or_later x xs place kept = elim (Contains-append_cases (x ∷ []) xs place 
   one (zero, within, is) = is
   one (suc k, within, is) = absurd (omega arith)
 
-first_of : (p : ℕ → Bool) (low : ℕ) (places : List ℕ) (place : ℕ) → Rises low places → find p places ≡ Some place → First p places place
-first_of p low [] place r e = absurd cc
-first_of p low (x ∷ places) place r e = by (p x) refl e (λ later. first_of p (x + 1) places place r.1 later) where
-  by : (b : Bool) → p x ≡ b → cond b (Some x) (find p places) ≡ Some place → (find p places ≡ Some place → First p places place) → First p (x ∷ places) place
+found_at : (p : ℕ → Bool) (places : List ℕ) (place : ℕ) → find p places ≡ Some place → Contains places place × (p place ≡ true)
+found_at p [] place e = absurd cc
+found_at p (x ∷ places) place e = by (p x) refl e (λ later. found_at p places place later) where
+  by : (b : Bool) → p x ≡ b → cond b (Some x) (find p places) ≡ Some place → (find p places ≡ Some place → Contains places place × (p place ≡ true)) → Contains (x ∷ places) place × (p place ≡ true)
+  by true is e more = let same : x ≡ place = cc in ((zero, omega arith, same), rw same at is)
+  by false is e more = let f = more e in (Contains-append_right (x ∷ []) places place f.0, f.1)
+
+least_of : (p : ℕ → Bool) (low : ℕ) (places : List ℕ) (place other : ℕ) → Rises low places → find p places ≡ Some place → Contains places other → p other ≡ true → place ≤ other
+least_of p low [] place other r e kept passes = absurd cc
+least_of p low (x ∷ places) place other r e kept passes = by (p x) refl e (λ later there. least_of p (x + 1) places place other r.1 later there passes) where
+  by : (b : Bool) → p x ≡ b → cond b (Some x) (find p places) ≡ Some place → (find p places ≡ Some place → Contains places other → place ≤ other) → place ≤ other
   by true is e more =
       let same : x ≡ place = cc in
-      subst (First p (x ∷ places)) same (record {
-        kept = (0, omega arith, refl);
-        passes = is;
-        least = λ other kept passes. elim (head_or_later x places other kept) [
-          | inl here ↦ omega arith
-          | inr later ↦ let h : x + 1 ≤ other = All-contains (λ q. x + 1 ≤ q) places other (All-from_recursion (λ q. x + 1 ≤ q) places (rises_all (x + 1) places r.1)) later in omega arith
-        ];
-      })
-  by false is e more =
-      let f = more e in
-      record {
-        kept = Contains-append_right (x ∷ []) places place f.kept;
-        passes = f.passes;
-        least = λ other kept passes. elim (head_or_later x places other kept) [
-          | inl here ↦ absurd (let h : p x ≡ true = ap p here ∙ passes in cc)
-          | inr later ↦ f.least other later passes
-        ];
-      }
+      elim (head_or_later x places other kept) [
+        | inl here ↦ omega arith
+        | inr later ↦ let h : x + 1 ≤ other = All-contains (λ q. x + 1 ≤ q) places other (All-from_recursion (λ q. x + 1 ≤ q) places (rises_all (x + 1) places r.1)) later in omega arith
+      ]
+  by false is e more = elim (head_or_later x places other kept) [
+    | inl here ↦ absurd (let h : p x ≡ true = ap p here ∙ passes in cc)
+    | inr later ↦ more e later
+  ]
 
 none_passes : (p : ℕ → Bool) (places : List ℕ) (place : ℕ) → find p places ≡ None → Contains places place → p place ≡ true → ⊥
 none_passes p [] place e kept passes = absurd (omega (arith, kept.1))
@@ -98,9 +90,16 @@ module _ (contents places : List ℕ) where
   later_suffix : (label : List ℕ) (labels : List (List ℕ)) (front place : ℕ) → Kept labels front place → Kept (label ∷ labels) (1 + length label + front) place
   later_suffix label labels front place k =
       record {
-        before = label ∷ k.before; suffix = k.suffix; labels_is = ap (λ (l : List (List ℕ)). label ∷ l) k.labels_is; some = k.some;
+        before = label ∷ k.before;
+        suffix = k.suffix;
+        labels_is = ap (λ (l : List (List ℕ)). label ∷ l) k.labels_is;
+        some = k.some;
         front_is = omega (arith, k.front_is, length-append label (heads k.before));
-        kept = k.kept; there = k.there; end = k.end; reads = k.reads; alike = k.alike;
+        kept = k.kept;
+        there = k.there;
+        end = k.end;
+        reads = k.reads;
+        alike = k.alike;
       }
 
   -- a suffix is all labels, or a suffix of those behind the first
@@ -153,6 +152,23 @@ module _ (contents places : List ℕ) where
         ]
         by (Some first) is e more = absurd cc
 
+  record Known (at : ℕ) (labels : List (List ℕ)) (found place : ℕ) : Type 0 where
+    front : ℕ
+    found_is : found ≡ at + front
+    known : Kept labels front place
+
+  known_by : (at : ℕ) (labels : List (List ℕ)) (found place : ℕ) → longest_kept contents places at labels ≡ Some (found, place) → Known at labels found place
+  unfolding longest_kept
+  known_by at [] found place e = absurd cc
+  known_by at (label ∷ labels) found place e =
+      by (find (stands_at contents (label ∷ labels)) places) refl e (λ later. known_by (at + 1 + length label) labels found place later) where
+        by : (kept : Option ℕ) → find (stands_at contents (label ∷ labels)) places ≡ kept → or_shorter at kept (longest_kept contents places (at + 1 + length label) labels) ≡ Some (found, place) → (longest_kept contents places (at + 1 + length label) labels ≡ Some (found, place) → Known (at + 1 + length label) labels found place) → Known at (label ∷ labels) found place
+        by None is e more = let l = more e in record { front = 1 + length label + l.front; found_is = omega (arith, l.found_is); known = later_suffix label labels l.front place l.known }
+        by (Some first) is e more =
+            let p = some_pair_parts at found first place e in
+            let f = found_at (stands_at contents (label ∷ labels)) places first is in
+            record { front = 0; found_is = omega (arith, p.0); known = subst (Kept (label ∷ labels) 0) p.1 (whole_suffix label labels first f.0 f.1) }
+
   longest_by : (rises : Rises 0 places) (at : ℕ) (labels : List (List ℕ)) (found place : ℕ) → longest_kept contents places at labels ≡ Some (found, place) → Longest at labels found place
   unfolding longest_kept
   longest_by rises at [] found place e = absurd cc
@@ -178,15 +194,15 @@ module _ (contents places : List ℕ) where
             }
         by (Some first) is e more =
             let p = some_pair_parts at found first place e in
-            let f = first_of (stands_at contents (label ∷ labels)) 0 places first rises is in
+            let f = found_at (stands_at contents (label ∷ labels)) places first is in
             record {
               front = 0;
               found_is = omega (arith, p.0);
               best = record {
-                known = subst (Kept (label ∷ labels) 0) p.1 (whole_suffix label labels first f.kept f.passes);
+                known = subst (Kept (label ∷ labels) 0) p.1 (whole_suffix label labels first f.0 f.1);
                 longest = λ other at k. omega arith;
                 smallest = λ at k. elim (parted label labels 0 at k) [
-                  | inl w ↦ omega (arith, f.least at w.there w.passes, p.1)
+                  | inl w ↦ omega (arith, least_of (stands_at contents (label ∷ labels)) 0 places first at rises is w.there w.passes, p.1)
                   | inr o ↦ absurd (omega (arith, o.front_is))
                 ];
               };
@@ -196,6 +212,11 @@ module _ (contents places : List ℕ) where
 
   pub none_is : (labels : List (List ℕ)) → longest_kept contents places 0 labels ≡ None → (front place : ℕ) → ¬ KeptSuffix contents places labels front place
   none_is labels e = nothing_kept 0 labels e
+
+  pub known_is : (labels : List (List ℕ)) (front place : ℕ) → longest_kept contents places 0 labels ≡ Some (front, place) → KeptSuffix contents places labels front place
+  known_is labels front place e =
+      let l = known_by 0 labels front place e in
+      subst (λ (n : ℕ). KeptSuffix contents places labels n place) (let same : l.front ≡ front = omega (arith, l.found_is) in same) l.known
 
   pub longest_is : (labels : List (List ℕ)) (front place : ℕ) → IsStrictlyIncreasing places → longest_kept contents places 0 labels ≡ Some (front, place) → LongestKept contents places labels front place
   longest_is labels front place rising e =
@@ -214,11 +235,11 @@ module _ (contents places : List ℕ) where
         let same : at ≡ place = omega arith in
         e ∙ ap (λ (n : ℕ). Some (n, at)) fronts ∙ ap (λ (n : ℕ). Some (front, n)) same
 
-  pub none_found : (labels : List (List ℕ)) → ((front place : ℕ) → ¬ KeptSuffix contents places labels front place) → IsStrictlyIncreasing places → longest_kept contents places 0 labels ≡ None
-  none_found labels none rising = by (longest_kept contents places 0 labels) refl where
+  pub none_found : (labels : List (List ℕ)) → ((front place : ℕ) → ¬ KeptSuffix contents places labels front place) → longest_kept contents places 0 labels ≡ None
+  none_found labels none = by (longest_kept contents places 0 labels) refl where
     by : (found : Option (ℕ × ℕ)) → longest_kept contents places 0 labels ≡ found → longest_kept contents places 0 labels ≡ None
     by None e = e
-    by (Some (front, place)) e = absurd (none front place (longest_is labels front place rising e).known)
+    by (Some (front, place)) e = absurd (none front place (known_is labels front place e))
 
   -- what is answered
   pub answer_longest : (labels : List (List ℕ)) (answer : Option (ℕ × ℕ)) → IsStrictlyIncreasing places → answer ≡ longest_kept contents places 0 labels → IfSome answer (λ k. LongestKept contents places labels k.0 k.1)

@@ -4,6 +4,7 @@
 
 mod adapters;
 mod build;
+mod compression;
 mod compressor;
 mod error;
 mod follow;
@@ -15,6 +16,7 @@ mod suffix;
 
 pub use adapters::{ReadSource, WriteSink};
 pub use build::{BuildBytes, put};
+pub use compression::{longest_suffixes, pressed_names};
 pub use compressor::NameCompressor;
 pub use error::{ParseError, TruncationError};
 pub use follow::{Head, read_head};

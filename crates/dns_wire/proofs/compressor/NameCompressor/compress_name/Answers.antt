@@ -14,14 +14,14 @@ loop-place-init c = record { best = sym (longest_none _ _ _); front = refl }
 pub loop-place-preserved : goal.loop-place-preserved
 loop-place-preserved c = elim c.match-suffix_before.branch [
   | in-Some+else-found-eq0 w ↦ record {
-      best = w.best-is ∙ more_found _ _ _ _ _ _ _ (omega arith) c.loop-place.invariant.best c.loop-place.invariant.front w.in-Some.found w.in-Some.ensures;
-      front = rw w.best-is w.front-is;
-    }
+    best = w.best-is ∙ more_found _ _ _ _ _ _ _ (omega arith) c.loop-place.invariant.best c.loop-place.invariant.front w.in-Some.found w.in-Some.ensures;
+    front = rw w.best-is w.front-is;
+  }
   | in_default w ↦ record {
-      best = w.best-is ∙ more_missed _ _ _ _ _ _ _ (omega arith) c.loop-place.invariant.best c.loop-place.invariant.front
+    best = w.best-is ∙ more_missed _ _ _ _ _ _ _ (omega arith) c.loop-place.invariant.best c.loop-place.invariant.front
         (let t = name_octets _ _ c.requires in omega (arith, ap length t.1, wire_long (labels_of c.args.name.now))) w.in_default.ensures;
-      front = rw (w.best-is, w.front-is) c.loop-place.invariant.front;
-    }
+    front = rw (w.best-is, w.front-is) c.loop-place.invariant.front;
+  }
 ]
 
 -- the whole name is at this place
