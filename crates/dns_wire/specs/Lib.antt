@@ -3,8 +3,11 @@ pub mod Building
 pub mod Compression
 pub mod Devices
 pub mod Hexadecimal
+pub mod InMessage
 pub mod Names
 pub mod Outside
+pub mod Pieces
 pub mod Pointers
 pub mod Reading
 pub mod Searching
+pub mod Told

@@ -8,10 +8,12 @@ mod compression;
 mod compressor;
 mod error;
 mod follow;
+mod in_message;
 mod laws;
 mod memory;
 mod outside;
 mod parse;
+mod press;
 mod suffix;
 
 pub use adapters::{ReadSource, WriteSink};
@@ -20,6 +22,7 @@ pub use compression::{longest_suffixes, pressed_names};
 pub use compressor::NameCompressor;
 pub use error::{ParseError, TruncationError};
 pub use follow::{Head, read_head};
+pub use in_message::BuildInMessage;
 pub use laws::{
     added_octets, hexadecimal_text, names_follow_pointers, plain_names, pointed_names,
     pointers_lead_back,
@@ -30,6 +33,7 @@ pub use parse::{
     ParseBytes, ParseMessageBytes, SplitBytes, SplitMessageBytes, parse_without_compression,
     split_without_compression,
 };
+pub use press::put_name;
 
 #[cfg(test)]
 mod tests;
