@@ -6,20 +6,28 @@ mod adapters;
 mod as_bytes;
 mod build;
 mod builders;
+mod compression;
+mod compressor;
 mod error;
 mod follow;
+mod in_message;
 mod laws;
 mod list;
 mod memory;
 mod outside;
 mod parse;
+mod press;
+mod suffix;
 mod text;
 
 pub use adapters::{ReadSource, WriteSink};
 pub use as_bytes::AsBytes;
 pub use build::{BuildBytes, put};
+pub use compression::{longest_suffixes, pressed_names};
+pub use compressor::NameCompressor;
 pub use error::{ParseError, TruncationError};
 pub use follow::{Head, read_head};
+pub use in_message::BuildInMessage;
 pub use laws::{
     added_octets, hexadecimal_text, names_follow_pointers, plain_names, pointed_names,
     pointers_lead_back,
@@ -31,6 +39,7 @@ pub use parse::{
     ParseBytes, ParseMessageBytes, SplitBytes, SplitMessageBytes, parse_without_compression,
     split_without_compression,
 };
+pub use press::put_name;
 
 #[cfg(test)]
 mod tests;

@@ -9,6 +9,8 @@ use crate::{
 use std::io;
 use std::test::Fail;
 
+mod compression;
+
 #[test]
 fn reads_and_writes_octets(rt: HostRuntime) -> Result<(), Fail> {
     let (first, rest) = u8::split_bytes(b"abc")?;

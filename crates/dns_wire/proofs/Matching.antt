@@ -1,0 +1,202 @@
+-- Names and places gone over head by head: the first label of a name, whether it is the name at a place, and how many labels
+-- are read there.
+use Rattle.std.proofs.Common.{◌≡◌, ℕ, zero, suc, pred, ◌+◌, ◌-◌, ◌<◌, ◌≤◌, Bool, true, false, List, [], ◌∷◌, ◌++◌, length, get_or, take, drop, Option, Some, None, refl, sym, ap, ◌∙◌, arith, add-zero}
+use Rattle.std.specs.Prelude.{map, IsTrue, ◌↔◌, ◌&&◌, not, MatchOption, nat_le, if◌then◌else◌}
+use Rattle.std.specs.Option.{is_some}
+use Rattle.std.specs.Char.{to_ascii_lowercase}
+use Rattle.std.specs.Str.{str_eq_ignore_ascii_case}
+use Rattle.std.specs.Cmp.Lexicographic.{bytes_decides}
+use Rattle.std.proofs.lemmas.Bool.{le-leb, lt-leb}
+use Rattle.std.proofs.lemmas.List.{length-append, length-take, length-drop, take-append-drop}
+use Rattle.std.proofs.Math.Seq.{drop-cons}
+use Rattle.dns_wire.specs.Reading.{all_of}
+use Rattle.dns_wire.specs.declared.follow.Head.{Head}
+use Rattle.dns_wire.specs.declared.follow.Head.TheVariants.{Root, Label, Pointer}
+use Rattle.std.specs.List.{AllByRecursion}
+use Rattle.dns_wire.specs.Names.{heads, wire, IsLabel, plain_name, labels_of}
+use Rattle.dns_wire.specs.Pointers.{head_at, joined, after_head, segment_within, name_at}
+use Rattle.dns_wire.specs.Compression.{reads_as, stands_at}
+use Rattle.dns_wire.specs.Searching.{FirstOf, count_more, count_at}
+use Rattle.dns_wire.proofs.Alike.{Found, short_reads}
+use Rattle.dns_wire.proofs.Spelled.{FirstLabel, first_label, name_short, name_octets}
+use Rattle.dns_wire.proofs.Walk.{wire_long}
+
+-- ---- the first label of a name's octets
+
+pub first_of_name : (name label rest : List ℕ) → all_of (plain_name name) ≡ Some (labels_of name) → 0 < get_or name 0 0 → label ≡ take (get_or name 0 0) (drop 1 name) → rest ≡ drop (get_or name 0 0) (drop 1 name) → FirstOf name label rest
+first_of_name name label rest is some label_is rest_is =
+    let first : FirstLabel name (get_or name 0 0) = first_label name is some in
+    let long : length (take (get_or name 0 0) (drop 1 name)) ≡ get_or name 0 0 = omega (arith, length-take (get_or name 0 0) (drop 1 name), length-drop 1 name, first.room) in
+    let head : name ≡ get_or name 0 0 ∷ drop 1 name = drop-cons name 0 0 (omega (arith, first.room)) in
+    let body : drop 1 name ≡ take (get_or name 0 0) (drop 1 name) ++ drop (get_or name 0 0) (drop 1 name) = sym (take-append-drop (get_or name 0 0) (drop 1 name)) in
+    let parts : name ≡ length (take (get_or name 0 0) (drop 1 name)) ∷ (take (get_or name 0 0) (drop 1 name) ++ drop (get_or name 0 0) (drop 1 name)) =
+    head ∙ ap (λ (l : List ℕ). get_or name 0 0 ∷ l) body ∙ ap (λ (n : ℕ). n ∷ (take (get_or name 0 0) (drop 1 name) ++ drop (get_or name 0 0) (drop 1 name))) (sym long) in
+    rw (label_is, rest_is) (record { labels = first.labels; whole = first.whole; parts = parts })
+
+-- ---- head by head
+
+-- a step
+pub unrolled : (steps : ℕ) (contents : List ℕ) (segment at : ℕ) → 0 < steps → segment_within steps contents segment at ≡ after_head (segment_within (pred steps) contents) contents segment at (head_at contents segment at)
+unfolding segment_within
+unrolled zero contents segment at some = absurd (omega arith)
+unrolled (suc steps) contents segment at some = refl
+
+pred_less : (n : ℕ) → 0 < n → pred n + 1 ≡ n
+pred_less zero some = absurd (omega arith)
+pred_less (suc n) some = omega arith
+
+-- whether the labels stand at the place is whether the name that is left stands at another
+pub record Matches (contents : List ℕ) (labels : List (List ℕ)) (place : ℕ) (rest : List ℕ) (segment at : ℕ) : Type 0 where
+  pub whole : all_of (plain_name rest) ≡ Some (labels_of rest)
+  pub steps : ℕ
+  pub room : length rest + segment < steps
+  pub same : stands_at contents labels place ≡ reads_as (labels_of rest) (segment_within steps contents segment at)
+
+pub matches_none : (contents name : List ℕ) (place : ℕ) → all_of (plain_name name) ≡ Some (labels_of name) → Matches contents (labels_of name) place name place place
+unfolding stands_at name_at
+matches_none contents name place is =
+    let t = name_octets name (labels_of name) is in
+    record { whole = is; steps = 256 + place; room = omega (arith, name_short name (labels_of name) is); same = short_reads (labels_of name) (segment_within (256 + place) contents place place) t.0.size }
+
+module _ (contents : List ℕ) (labels : List (List ℕ)) (place : ℕ) (rest : List ℕ) (segment at : ℕ) (m : Matches contents labels place rest segment at) where
+  by_head : (head : Option Head) → head_at contents segment at ≡ head → stands_at contents labels place ≡ reads_as (labels_of rest) (after_head (segment_within (pred m.steps) contents) contents segment at head)
+  by_head head is = m.same ∙ ap (reads_as (labels_of rest)) (unrolled m.steps contents segment at (omega (arith, m.room)) ∙ ap (after_head (segment_within (pred m.steps) contents) contents segment at) is)
+
+  pub matches_bad : head_at contents segment at ≡ None → false ≡ stands_at contents labels place
+  matches_bad is = sym (by_head None is)
+
+  pub matches_root : head_at contents segment at ≡ Some Root → labels_of rest ≡ [] → true ≡ stands_at contents labels place
+  matches_root is none = sym (by_head (Some Root) is ∙ ap (λ (l : List (List ℕ)). reads_as l (Some ([], at + 1))) none)
+
+  pub matches_short : (label next : List ℕ) → head_at contents segment at ≡ Some Root → FirstOf rest label next → false ≡ stands_at contents labels place
+  matches_short label next is first = sym (by_head (Some Root) is ∙ ap (λ (l : List (List ℕ)). reads_as l (Some ([], at + 1))) first.labels)
+
+  pub matches_long : (size : ℕ) → head_at contents segment at ≡ Some (Label size) → labels_of rest ≡ [] → false ≡ stands_at contents labels place
+  matches_long size is none = sym (by_head (Some (Label size)) is ∙ ap (λ (l : List (List ℕ)). reads_as l (joined (take size (drop (at + 1) contents) ∷ []) None (segment_within (pred m.steps) contents segment (at + 1 + size)))) none ∙ past (segment_within (pred m.steps) contents segment (at + 1 + size))) where
+    past : (read : Found) → reads_as [] (joined (take size (drop (at + 1) contents) ∷ []) None read) ≡ false
+    past None = refl
+    past (Some found) = refl
+
+  -- the same, by whether there is a first label
+  pub matches_ended : {A : Type 0} (label next : A → List ℕ) (first : Option A) (r : Bool) → head_at contents segment at ≡ Some Root → MatchOption first (labels_of rest ≡ []) (λ x. FirstOf rest (label x) (next x)) → is_some first ≡ not r → r ≡ stands_at contents labels place
+  matches_ended label next None true is first e = matches_root is first
+  matches_ended label next None false is first e = absurd cc
+  matches_ended label next (Some x) true is first e = absurd cc
+  matches_ended label next (Some x) false is first e = matches_short (label x) (next x) is first
+
+  both : (label other : List ℕ) (others : List (List ℕ)) (read : Found) → reads_as (label ∷ others) (joined (other ∷ []) None read) ≡ (str_eq_ignore_ascii_case label other && reads_as others read)
+  both label other others None = no (str_eq_ignore_ascii_case label other) where
+    no : (b : Bool) → false ≡ (b && false)
+    no true = refl
+    no false = refl
+  both label other others (Some found) = refl
+
+  pub matches_label : (size : ℕ) (label next : List ℕ) → head_at contents segment at ≡ Some (Label size) → FirstOf rest label next → stands_at contents labels place ≡ (str_eq_ignore_ascii_case label (take size (drop (at + 1) contents)) && reads_as (labels_of next) (segment_within (pred m.steps) contents segment (at + 1 + size)))
+  matches_label size label next is first =
+      by_head (Some (Label size)) is
+      ∙ ap (λ (l : List (List ℕ)). reads_as l (joined (take size (drop (at + 1) contents) ∷ []) None (segment_within (pred m.steps) contents segment (at + 1 + size)))) first.labels
+      ∙ both label (take size (drop (at + 1) contents)) (labels_of next) (segment_within (pred m.steps) contents segment (at + 1 + size))
+
+  pub matches_next : (size : ℕ) (label next : List ℕ) → head_at contents segment at ≡ Some (Label size) → FirstOf rest label next → str_eq_ignore_ascii_case label (take size (drop (at + 1) contents)) ≡ true → Matches contents labels place next segment (at + (1 + size))
+  matches_next size label next is first equal =
+      let place_is : at + 1 + size ≡ at + (1 + size) = omega arith in
+      record {
+        whole = first.whole;
+        steps = pred m.steps;
+        room = omega (arith, m.room, ap length first.parts, length-append label next, pred_less m.steps (omega (arith, m.room)));
+        same = rw (← place_is) (matches_label size label next is first ∙ ap (λ (b : Bool). b && reads_as (labels_of next) (segment_within (pred m.steps) contents segment (at + 1 + size))) equal);
+      }
+
+  pub matches_other : (size : ℕ) (label next : List ℕ) → head_at contents segment at ≡ Some (Label size) → FirstOf rest label next → str_eq_ignore_ascii_case label (take size (drop (at + 1) contents)) ≡ false → false ≡ stands_at contents labels place
+  matches_other size label next is first differ =
+      sym (matches_label size label next is first ∙ ap (λ (b : Bool). b && reads_as (labels_of next) (segment_within (pred m.steps) contents segment (at + 1 + size))) differ)
+
+  pub matches_pointer : (target : ℕ) → head_at contents segment at ≡ Some (Pointer target) → target < segment → Matches contents labels place rest target target
+  matches_pointer target is before =
+      record {
+        whole = m.whole;
+        steps = pred m.steps;
+        room = omega (arith, m.room, pred_less m.steps (omega (arith, m.room)));
+        same = by_head (Some (Pointer target)) is ∙ through (segment_within (pred m.steps) contents target target);
+      } where
+        through : (read : Found) → reads_as (labels_of rest) (joined [] (Some (at + 2)) read) ≡ reads_as (labels_of rest) read
+        through None = refl
+        through (Some found) = refl
+
+-- so many octets
+pub octets_behind : (contents : List ℕ) (at size : ℕ) → take (at + 1 + size - (at + 1)) (drop (at + 1) contents) ≡ take size (drop (at + 1) contents)
+octets_behind contents at size = ap (λ (n : ℕ). take n (drop (at + 1) contents)) (omega arith)
+
+-- the test of two labels is the test of the definition
+pub same_text : (a b : List ℕ) (r : Bool) → IsTrue r ↔ (map to_ascii_lowercase a ≡ map to_ascii_lowercase b) → str_eq_ignore_ascii_case a b ≡ r
+same_text a b true h = (bytes_decides (map to_ascii_lowercase a) (map to_ascii_lowercase b)).1 (h.0 refl)
+same_text a b false h = by (str_eq_ignore_ascii_case a b) refl where
+  by : (t : Bool) → str_eq_ignore_ascii_case a b ≡ t → str_eq_ignore_ascii_case a b ≡ false
+  by true e = absurd (let t : IsTrue false = h.1 ((bytes_decides (map to_ascii_lowercase a) (map to_ascii_lowercase b)).0 e) in cc)
+  by false e = e
+
+-- ---- counting
+
+heads_twice : (labels : List (List ℕ)) → AllByRecursion IsLabel labels → length labels + length labels ≤ length (heads labels)
+heads_twice [] sizes = omega arith
+heads_twice (label ∷ labels) sizes = omega (arith, heads_twice labels sizes.1, sizes.0.0, length-append label (heads labels))
+
+-- each label takes two octets at least
+pub name_few : (bytes : List ℕ) → all_of (plain_name bytes) ≡ Some (labels_of bytes) → length (labels_of bytes) < 128
+name_few bytes e = let t = name_octets bytes (labels_of bytes) e in omega (arith, heads_twice (labels_of bytes) t.0.sizes, t.0.size, wire_long (labels_of bytes))
+
+-- as many labels as were seen, and those that are left
+pub record Counting (contents : List ℕ) (place most seen segment at : ℕ) : Type 0 where
+  pub steps : ℕ
+  pub few : seen ≤ most
+  pub room : 256 + segment ≤ steps + seen
+  pub same : count_at contents place most ≡ count_more seen most (segment_within steps contents segment at)
+
+pub counting_none : (contents : List ℕ) (place most : ℕ) → Counting contents place most 0 place place
+unfolding count_at
+counting_none contents place most = record { steps = 256 + place; few = omega arith; room = omega arith; same = refl }
+
+module _ (contents : List ℕ) (place most seen segment at : ℕ) (small : most < 128) (m : Counting contents place most seen segment at) where
+  count_head : (head : Option Head) → head_at contents segment at ≡ head → count_at contents place most ≡ count_more seen most (after_head (segment_within (pred m.steps) contents) contents segment at head)
+  count_head head is = m.same ∙ ap (count_more seen most) (unrolled m.steps contents segment at (omega (arith, m.room, m.few)) ∙ ap (after_head (segment_within (pred m.steps) contents) contents segment at) is)
+
+  pub counting_bad : head_at contents segment at ≡ None → None ≡ count_at contents place most
+  counting_bad is = sym (count_head None is)
+
+  pub counting_root : head_at contents segment at ≡ Some Root → Some seen ≡ count_at contents place most
+  counting_root is =
+      let fits : nat_le (seen + 0) most ≡ true = le-leb _ _ (omega (arith, m.few)) in
+      sym (count_head (Some Root) is ∙ rw (fits, add-zero) refl)
+
+  past : (label : List ℕ) (read : Found) → count_more seen most (joined (label ∷ []) None read) ≡ count_more (seen + 1) most read
+  past label None = refl
+  past label (Some found) = ap (λ (n : ℕ). if nat_le n most then Some n else None) (omega arith)
+
+  full : seen ≡ most → (read : Found) → None ≡ count_more (seen + 1) most read
+  full all None = refl
+  full all (Some found) = let over : nat_le (seen + 1 + length found.0) most ≡ false = lt-leb _ _ (omega arith) in sym (rw over refl)
+
+  pub counting_full : (size : ℕ) → head_at contents segment at ≡ Some (Label size) → seen ≡ most → None ≡ count_at contents place most
+  counting_full size is all = full all (segment_within (pred m.steps) contents segment (at + 1 + size)) ∙ sym (count_head (Some (Label size)) is ∙ past (take size (drop (at + 1) contents)) (segment_within (pred m.steps) contents segment (at + 1 + size)))
+
+  pub counting_label : (size : ℕ) → head_at contents segment at ≡ Some (Label size) → (seen ≡ most → ⊥) → Counting contents place most (seen + 1) segment (at + (1 + size))
+  counting_label size is more =
+      let place_is : at + 1 + size ≡ at + (1 + size) = omega arith in
+      record {
+        steps = pred m.steps;
+        few = omega (arith, m.few);
+        room = omega (arith, m.room, pred_less m.steps (omega (arith, m.room, m.few)));
+        same = rw (← place_is) (count_head (Some (Label size)) is ∙ past (take size (drop (at + 1) contents)) (segment_within (pred m.steps) contents segment (at + 1 + size)));
+      }
+
+  pub counting_pointer : (target : ℕ) → head_at contents segment at ≡ Some (Pointer target) → target < segment → Counting contents place most seen target target
+  counting_pointer target is before =
+      record {
+        steps = pred m.steps;
+        few = m.few;
+        room = omega (arith, m.room, pred_less m.steps (omega (arith, m.room, m.few)));
+        same = count_head (Some (Pointer target)) is ∙ through (segment_within (pred m.steps) contents target target);
+      } where
+        through : (read : Found) → count_more seen most (joined [] (Some (at + 2)) read) ≡ count_more seen most read
+        through None = refl
+        through (Some found) = refl

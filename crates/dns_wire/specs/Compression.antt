@@ -1,0 +1,134 @@
+-- Names that are written once in a message and pointed to from then on (RFC 1035 section 4.1.4). Contents are the octets
+-- behind the header, up to where the next name is written. Places are those of labels in them, and are kept in order.
+use Rattle.std.specs.Prelude.{◌≡◌, ℕ, zero, suc, ◌+◌, ◌-◌, ◌<◌, ◌≤◌, List, [], ◌∷◌, ◌++◌, length, take, filter, find, slice_index, Contains, Bool, true, false, ◌&&◌, Option, Some, None, nat_le, nat_lt, if◌then◌else◌}
+use Rattle.std.specs.Int.{w16, to_be_bytes}
+use Rattle.std.specs.List.{AllByRecursion}
+use Rattle.std.specs.List.Sorted.{IsStrictlyIncreasing}
+use Rattle.std.specs.Cmp.Lexicographic.{pointwise}
+use Rattle.std.specs.Str.{str_eq_ignore_ascii_case}
+use Rattle.dns_wire.specs.Names.{heads, wire, lowered}
+use Rattle.dns_wire.specs.Pointers.{offset_at, NameAt, name_at}
+
+-- ---- which suffix of a name is known
+
+-- the same labels, ASCII case aside
+abbrev pub are_alike : List (List ℕ) → List (List ℕ) → Bool
+are_alike xs ys = pointwise str_eq_ignore_ascii_case xs ys
+
+-- a reading gives these labels, ASCII case aside
+abbrev pub reads_as : List (List ℕ) → Option (List (List ℕ) × ℕ) → Bool
+reads_as labels None = false
+reads_as labels (Some (there, end)) = are_alike labels there
+
+-- these labels are those of the name at the place, ASCII case aside
+unfoldable pub stands_at : List ℕ → List (List ℕ) → ℕ → Bool
+stands_at contents labels place = reads_as labels (name_at contents place)
+
+-- a place of the suffix that begins behind so many octets, or else what is known of shorter ones
+abbrev pub or_shorter : ℕ → Option ℕ → Option (ℕ × ℕ) → Option (ℕ × ℕ)
+or_shorter front None shorter = shorter
+or_shorter front (Some place) shorter = Some (front, place)
+
+-- Behind how many octets of the name its longest suffix begins that is known, and the first place where it is. These are
+-- the labels behind the first so many octets; the root alone is no suffix. `longest_suffixes` says it in other words.
+unfoldable pub longest_kept : List ℕ → List ℕ → ℕ → List (List ℕ) → Option (ℕ × ℕ)
+longest_kept contents places front [] = None
+longest_kept contents places front (label ∷ labels) =
+    or_shorter front (find (stands_at contents (label ∷ labels)) places) (longest_kept contents places (front + 1 + length label) labels)
+
+-- ---- the same in words
+
+-- a suffix of at least one label, which begins behind so many octets, is the name at a kept place, ASCII case aside
+pub record KeptSuffix (contents places : List ℕ) (labels : List (List ℕ)) (front place : ℕ) : Type 0 where
+  pub before : List (List ℕ)
+  pub suffix : List (List ℕ)
+  pub labels_is : labels ≡ before ++ suffix
+  pub some : 0 < length suffix
+  pub front_is : front ≡ length (heads before)
+  pub kept : Contains places place
+  pub there : List (List ℕ)
+  pub end : ℕ
+  pub reads : NameAt contents place there end
+  pub alike : lowered there ≡ lowered suffix
+
+-- no longer suffix is at any kept place, and this one at no smaller
+pub record LongestKept (contents places : List ℕ) (labels : List (List ℕ)) (front place : ℕ) : Type 0 where
+  pub known : KeptSuffix contents places labels front place
+  pub longest : (other at : ℕ) → KeptSuffix contents places labels other at → front ≤ other
+  pub smallest : (at : ℕ) → KeptSuffix contents places labels front at → place ≤ at
+
+-- ---- what is written
+
+-- the name's octets up to the suffix, and a pointer to its place, which counts the header's 12 octets too
+abbrev pub cut_at : List ℕ → Option (ℕ × ℕ) → List ℕ
+cut_at octets None = octets
+cut_at octets (Some (front, place)) = take front octets ++ to_be_bytes w16 (49152 + 12 + place)
+
+-- a name's octets where names at these places of the contents are known
+abbrev pub press : List ℕ → List ℕ → List (List ℕ) → List ℕ
+press contents places labels = cut_at (wire labels) (longest_kept contents places 0 labels)
+
+-- ---- which places are kept
+
+-- the length of a label other than the root's
+abbrev pub is_label_size : ℕ → Bool
+is_label_size size = nat_lt 0 size && nat_lt size 64
+
+-- the places of labels that stand one after another from a place on; no more than so many
+unfoldable pub label_places : ℕ → List ℕ → ℕ → List ℕ
+label_places zero contents at = []
+label_places (suc most) contents at =
+    if is_label_size (slice_index contents at) then at ∷ label_places most contents (at + 1 + slice_index contents at) else []
+
+-- a pointer has 14 bits, which count the header's 12 octets too
+abbrev pub is_within_reach : ℕ → Bool
+is_within_reach place = nat_le place 16371
+
+-- these places, and more of them within reach while there is room for 128
+abbrev pub with_more : List ℕ → List ℕ → List ℕ
+with_more places more = take 128 (places ++ filter is_within_reach more)
+
+-- the places afterwards, where a name has been written from start to the end of the contents
+abbrev pub noted : List ℕ → List ℕ → ℕ → List ℕ
+noted places contents start = with_more places (label_places (length contents - start) contents start)
+
+-- What is written behind contents where names at these places are known: the octets, and the places afterwards.
+abbrev pub Pressing : Type 0
+Pressing = List ℕ → List ℕ → List ℕ × List ℕ
+
+-- a name is pressed, and its places are noted
+abbrev pub name_presses : List (List ℕ) → Pressing
+name_presses labels contents places = (
+  press contents places labels,
+  noted places (contents ++ press contents places labels) (length contents),
+)
+
+-- ---- places that lead to names
+
+-- labels, and then the root or a pointer to a kept place before first
+pub data Run (contents places : List ℕ) (first : ℕ) : ℕ → Type 0 where
+  run_root : {at : ℕ} → at < length contents → slice_index contents at ≡ 0 → Run contents places first at
+  run_label : {at : ℕ} → 0 < slice_index contents at → slice_index contents at < 64 → at + 1 + slice_index contents at ≤ length contents → Run contents places first (at + 1 + slice_index contents at) → Run contents places first at
+  run_pointer : {at : ℕ} (target : ℕ) → 192 ≤ slice_index contents at → at + 2 ≤ length contents → offset_at contents at ≡ target + 12 → Contains places target → target < first → Run contents places first at
+
+-- at least one label, and then the root or a pointer to a kept place before this one
+pub record RunAt (contents places : List ℕ) (at : ℕ) : Type 0 where
+  pub labelled : (0 < slice_index contents at) × (slice_index contents at < 64)
+  pub run : Run contents places at at
+
+-- at most 128 rising places, to which a pointer can lead
+pub record ArePlaces (places : List ℕ) : Type 0 where
+  pub rising : IsStrictlyIncreasing places
+  pub few : length places ≤ 128
+  pub low : AllByRecursion (λ place. place ≤ 16371) places
+
+-- the places lead to names in the contents
+pub record FitsIn (places contents : List ℕ) : Type 0 where
+  pub places_are : ArePlaces places
+  pub runs : AllByRecursion (RunAt contents places) places
+
+-- new places stand behind the old ones, and lie from start on
+pub record Grows (places after : List ℕ) (start : ℕ) : Type 0 where
+  pub added : List ℕ
+  pub after_is : after ≡ places ++ added
+  pub behind : AllByRecursion (λ place. start ≤ place) added

@@ -1,0 +1,20 @@
+-- What it means that a value is written in a message, whatever the type. Contents are the octets behind the header, and
+-- end where writing begins. Places are those of names that are known.
+use Rattle.std.specs.Prelude.{◌≡◌, ℕ, ◌+◌, ◌<◌, List, length, take, Result, IfOk, OnOk, OnErr}
+use Rattle.dns_wire.specs.Building.{Stands}
+use Rattle.dns_wire.specs.Compression.{FitsIn, Grows}
+
+-- What a building call in a message does, where these octets are to be written, and these are the places afterwards. It
+-- is accepted exactly where all prefixed data fit and the octets are at most the free ones. Then they stand from start
+-- on, and the places are noted: they lead to names in what has been written. Else the octets before start and the places
+-- are as they were.
+pub record BuildsIn {E : Type 0} (fits : Type 0) (pressed : List ℕ × List ℕ) (old : List ℕ) (start : ℕ) (places new after : List ℕ) (result : Result ℕ E) : Type 0 where
+  pub accepted : OnOk result fits
+  pub stands : IfOk result (λ end. Stands pressed.0 old start new end)
+  pub after_is : OnOk result (after ≡ pressed.1)
+  pub grows : OnOk result (Grows places after start)
+  pub leads : IfOk result (λ end. FitsIn after (take end new))
+  pub refused : OnErr result (fits → length old < start + length pressed.0)
+  pub front : OnErr result (take start new ≡ take start old)
+  pub size : OnErr result (length new ≡ length old)
+  pub kept : OnErr result (after ≡ places)

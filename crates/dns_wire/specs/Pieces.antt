@@ -1,0 +1,33 @@
+-- What is written in a message, one thing behind another: names, which are pressed, and octets as they are.
+use Rattle.std.specs.Prelude.{◌≡◌, ℕ, List, [], ◌∷◌, ◌++◌, Option, Some, None, ⊤}
+use Rattle.dns_wire.specs.Compression.{Pressing, name_presses}
+
+pub data Piece : Type 0 where
+  Pressed : List (List ℕ) → Piece
+  Whole : List ℕ → Piece
+
+-- octets as they are, of which no place is noted
+abbrev pub whole_presses : List ℕ → Pressing
+whole_presses octets contents places = (octets, places)
+
+-- what a piece writes
+abbrev pub piece_presses : Piece → Pressing
+piece_presses (Pressed labels) = name_presses labels
+piece_presses (Whole octets) = whole_presses octets
+
+-- one behind the other: the second one sees the octets of the first, and the places after it
+abbrev pub then_presses : Pressing → Pressing → Pressing
+then_presses first second contents places = (
+  (first contents places).0 ++ (second (contents ++ (first contents places).0) (first contents places).1).0,
+  (second (contents ++ (first contents places).0) (first contents places).1).1,
+)
+
+-- what pieces write, one behind another
+unfoldable pub laid : List Piece → Pressing
+laid [] contents places = ([], places)
+laid (piece ∷ pieces) contents places = then_presses (piece_presses piece) (laid pieces) contents places
+
+-- what is written is what the pieces write, where they are told
+abbrev pub IsTold : Option (List Piece) → Pressing → Type 0
+IsTold None presses = ⊤
+IsTold (Some pieces) presses = (contents places : List ℕ) → presses contents places ≡ laid pieces contents places

@@ -1,0 +1,83 @@
+//! Writing values in a message, where names are written once and pointed to from then on.
+
+ghost use Rattle.std.specs.Prelude.{◌≤◌, List, ℕ, [], ◌∷◌, length, take, Option, None, ⊤};
+ghost use Rattle.dns_wire.specs.Compression.{Pressing, FitsIn};
+ghost use Rattle.dns_wire.specs.InMessage.{BuildsIn};
+ghost use Rattle.dns_wire.specs.Pieces.{Piece, IsTold, whole_presses};
+
+use crate::build::put;
+use crate::compressor::NameCompressor;
+use crate::error::TruncationError;
+
+/// A type whose values are written in a message, where names that were written before can be pointed to.
+pub trait BuildInMessage {
+    /// What is written behind contents where names at these places are known: the octets, and the places
+    /// afterwards.
+    ghost presses: { Self → Pressing };
+
+    /// All its prefixed data fit their prefixes, where it is written behind contents and names at these
+    /// places are known.
+    ghost fits_in: { Self → List ℕ → List ℕ → Type 0 };
+
+    /// The value's pieces, where it tells them: names that are pressed, and octets as they are.
+    ghost pieces: { Self → Option (List Piece) };
+
+    /// Writes the value at a place of the contents, which are the octets behind the header, and gives the
+    /// place where it ends. The compressor knows names before `start`, and afterwards those of the value
+    /// too. It is accepted exactly where the prefixed data fit and the octets are at most those from
+    /// `start` on. After `TruncationError` the octets before `start` and the compressor are as before.
+    fn build_in_message(
+        &self,
+        contents: &mut [u8],
+        start: usize,
+        compressor: &mut NameCompressor,
+    ) -> Result<usize, TruncationError>
+        requires room { start ≤ length contents.old }
+        requires known { FitsIn compressor.old (take start contents.old) }
+        ensures { BuildsIn (fits_in self.now (take start contents.old) compressor.old)
+            (presses self.now (take start contents.old) compressor.old)
+            contents.old start compressor.old contents.new compressor.new result };
+
+    /// Where pieces are told, what is written is what they write one behind another.
+    ghost told: { (v : Self) → IsTold (pieces v) (presses v) };
+}
+
+/// One octet.
+impl BuildInMessage for u8 {
+    ghost presses = { λ v. whole_presses (v ∷ []) };
+
+    ghost fits_in = { λ _ _ _. ⊤ };
+
+    ghost pieces = { λ _. None };
+
+    ghost told = { λ _. tt };
+
+    fn build_in_message(
+        &self,
+        contents: &mut [u8],
+        start: usize,
+        _compressor: &mut NameCompressor,
+    ) -> Result<usize, TruncationError> {
+        put(&[*self], contents, start)
+    }
+}
+
+/// The octets, as they stand.
+impl BuildInMessage for &[u8] {
+    ghost presses = { λ v. whole_presses v.now };
+
+    ghost fits_in = { λ _ _ _. ⊤ };
+
+    ghost pieces = { λ _. None };
+
+    ghost told = { λ _. tt };
+
+    fn build_in_message(
+        &self,
+        contents: &mut [u8],
+        start: usize,
+        _compressor: &mut NameCompressor,
+    ) -> Result<usize, TruncationError> {
+        put(self, contents, start)
+    }
+}
