@@ -6,6 +6,7 @@ mod adapters;
 mod build;
 mod error;
 mod follow;
+mod holders;
 mod laws;
 mod memory;
 mod outside;
