@@ -1,4 +1,5 @@
 -- The crate's own lemmas.
 pub mod Followed
 pub mod Ordered
+pub mod Preceding
 pub mod Sameness

@@ -1,3 +1,4 @@
 -- What the contracts of names cite.
+pub mod Composed
 pub mod Hashing
 pub mod Order

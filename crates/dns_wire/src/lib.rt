@@ -10,6 +10,7 @@ mod compression;
 mod compressor;
 mod error;
 mod follow;
+mod holders;
 mod in_message;
 mod laws;
 mod list;

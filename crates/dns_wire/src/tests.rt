@@ -7,6 +7,7 @@ use crate::{
     plain_names, pointed_names, pointers_lead_back, put, read_head, split_without_compression,
 };
 use std::io;
+use std::rc::Rc;
 use std::test::Fail;
 
 mod compression;
@@ -34,6 +35,27 @@ fn reads_and_writes_octets(rt: HostRuntime) -> Result<(), Fail> {
     assert!(rt; put(b"abcd", rest, 0).is_err());
     plain_names();
     hexadecimal_text();
+    Ok(())
+}
+
+/// A value of any type, by its bound.
+fn octets_between_dots<T: BuildBytes>(value: &T) -> Result<[u8; 3], TruncationError> {
+    let mut buffer = *b"...";
+    value.build_at(&mut buffer, 1)?;
+    Ok(buffer)
+}
+
+#[test]
+fn writes_what_is_held(rt: HostRuntime) -> Result<(), Fail> {
+    let alloc = rt.alloc();
+    let boxed = Box::new(alloc, b'x')?;
+    let shared = Rc::new(alloc, b'x')?;
+    assert_eq!(rt; octets_between_dots(&&b'x')?, *b".x.");
+    assert_eq!(rt; octets_between_dots(&boxed)?, *b".x.");
+    assert_eq!(rt; octets_between_dots(&shared)?, *b".x.");
+    assert_eq!(rt; (&b'x').built_bytes_size(), 1);
+    assert_eq!(rt; boxed.built_bytes_size(), 1);
+    assert_eq!(rt; shared.built_bytes_size(), 1);
     Ok(())
 }
 

@@ -1,0 +1,212 @@
+//! Names as DNSSEC sees them (RFC 4034 section 6): in small letters, and in the orders of their octets.
+
+ghost use Rattle.std.specs.Prelude.{◌≡◌, ◌≤◌, ◌<◌, ℕ, List, length, drop, IfOk, OnOk, OnErr, ⊤};
+ghost use Rattle.std.specs.Str.{str_to_ascii_lowercase};
+ghost use Rattle.std.specs.Borrow.{sem};
+ghost use Rattle.std.proofs.Common.{refl};
+ghost use Rattle.dns_wire.specs.Building.{Builds, LendsRest};
+ghost use Rattle.dns_wire.specs.Names.{wire, lowered, labels_of, IsName};
+ghost use Rattle.dns_name.specs.Composed.{composed_cmp, lowercase_composed_cmp};
+ghost use Rattle.dns_name.specs.Order.{key, key_cmp};
+
+use crate::name::Name;
+use crate::name_buf::NameBuf;
+use crate::order::compare_labels;
+use dns_wire::{BuildBytes, TruncationError};
+use std::cmp::Ordering;
+use std::rc::Rc;
+
+/// A name in whatever layout: it is written as its octets, the root last, and `Ord` is label order.
+pub trait CanonicalName: BuildBytes + Ord {
+    /// The labels, without the root.
+    ghost name: { Self → List (List ℕ) };
+
+    /// Writes the octets in small letters at a place of the buffer, and gives the place where they end.
+    /// It is accepted exactly where they are at most the octets from `start` on. After `TruncationError`
+    /// the octets before `start` are as before.
+    fn build_lowercased_at(&self, bytes: &mut [u8], start: usize) -> Result<usize, TruncationError>
+        requires { start ≤ length bytes.old }
+        ensures { Builds ⊤ (wire (lowered (name self.now))) bytes.old start bytes.new result };
+
+    /// The order of the octets, as they stand (RFC 4034 section 6.3).
+    fn cmp_composed(&self, other: &Self) -> Ordering
+        ensures order { result ≡ composed_cmp (name self.now) (name other.now) }
+        ensures names { IsName (name self.now) × IsName (name other.now) };
+
+    /// The order of the octets in small letters (RFC 4034 sections 6.2 and 6.3).
+    fn cmp_lowercase_composed(&self, other: &Self) -> Ordering
+        ensures order { result ≡ lowercase_composed_cmp (name self.now) (name other.now) }
+        ensures names { IsName (name self.now) × IsName (name other.now) };
+
+    /// Writes the octets in small letters to the beginning of the buffer. What is behind them is lent back
+    /// as it was. `TruncationError` comes exactly where they are more than the buffer's; what the buffer
+    /// holds then is open.
+    final fn build_lowercased_bytes<'b>(
+        &self,
+        bytes: &'b mut [u8],
+    ) -> Result<&'b mut [u8], TruncationError>
+        ensures* written { sem 𝓛 (LendsRest bytes.entry result (wire (lowered (name self.now)))) }
+        ensures rest { IfOk result (λ rest. rest.now ≡ drop (length (wire (lowered (name self.now)))) bytes.old) }
+        ensures accepted { OnOk result (length (wire (lowered (name self.now))) ≤ length bytes.old) }
+        ensures refused { OnErr result (length bytes.old < length (wire (lowered (name self.now)))) }
+    {
+        match self.build_lowercased_at(bytes, 0) {
+            Ok(end) => Ok(&mut bytes[end..]),
+            Err(error) => Err(error),
+        }
+    }
+
+    /// What is written is the name's octets.
+    ghost octets_are: { (x : Self) → Self.octets x ≡ wire (name x) };
+
+    /// A name has no prefixed data.
+    ghost always_fits: { (x : Self) → Self.fits x };
+
+    /// The order is by labels from the root on (RFC 4034 section 6.1).
+    ghost ordered: { (x y : Self) → Self.cmp x y ≡ key_cmp (key (name x)) (key (name y)) };
+}
+
+/// Writes the value at a place of the buffer with its capitals made small, and gives the place where it
+/// ends.
+fn build_small<T: BuildBytes>(
+    value: &T,
+    bytes: &mut [u8],
+    start: usize,
+) -> Result<usize, TruncationError>
+    requires { start ≤ length bytes.old }
+    ensures { Builds (T.fits value.now) (str_to_ascii_lowercase (T.octets value.now)) bytes.old start bytes.new result }
+{
+    let end = value.build_at(bytes, start)?;
+    bytes[start..end].make_ascii_lowercase();
+    Ok(end)
+}
+
+impl CanonicalName for Name<'_> {
+    ghost name = { λ v. labels_of v.slice.now };
+
+    ghost octets_are = { λ _. refl };
+
+    ghost always_fits = { λ _. tt };
+
+    ghost ordered = { λ _ _. refl };
+
+    fn build_lowercased_at(
+        &self,
+        bytes: &mut [u8],
+        start: usize,
+    ) -> Result<usize, TruncationError> {
+        build_small(self, bytes, start)
+    }
+
+    fn cmp_composed(&self, other: &Self) -> Ordering {
+        self.as_bytes().cmp(&other.as_bytes())
+    }
+
+    fn cmp_lowercase_composed(&self, other: &Self) -> Ordering {
+        compare_labels(self.as_bytes(), other.as_bytes())
+    }
+}
+
+impl CanonicalName for NameBuf {
+    ghost name = { λ labels. labels };
+
+    ghost octets_are = { λ _. refl };
+
+    ghost always_fits = { λ _. tt };
+
+    ghost ordered = { λ _ _. refl };
+
+    fn build_lowercased_at(
+        &self,
+        bytes: &mut [u8],
+        start: usize,
+    ) -> Result<usize, TruncationError> {
+        self.as_name().build_lowercased_at(bytes, start)
+    }
+
+    fn cmp_composed(&self, other: &Self) -> Ordering {
+        self.as_name().cmp_composed(&other.as_name())
+    }
+
+    fn cmp_lowercase_composed(&self, other: &Self) -> Ordering {
+        self.as_name().cmp_lowercase_composed(&other.as_name())
+    }
+}
+
+impl<N: CanonicalName> CanonicalName for &N {
+    ghost name = { λ v. N.name v.now };
+
+    ghost octets_are = { λ v. N.octets_are v.now };
+
+    ghost always_fits = { λ v. N.always_fits v.now };
+
+    ghost ordered = { λ v w. N.ordered v.now w.now };
+
+    fn build_lowercased_at(
+        &self,
+        bytes: &mut [u8],
+        start: usize,
+    ) -> Result<usize, TruncationError> {
+        (**self).build_lowercased_at(bytes, start)
+    }
+
+    fn cmp_composed(&self, other: &Self) -> Ordering {
+        (**self).cmp_composed(*other)
+    }
+
+    fn cmp_lowercase_composed(&self, other: &Self) -> Ordering {
+        (**self).cmp_lowercase_composed(*other)
+    }
+}
+
+impl<N: CanonicalName> CanonicalName for Box<N> {
+    ghost name = { λ v. N.name v.value };
+
+    ghost octets_are = { λ v. N.octets_are v.value };
+
+    ghost always_fits = { λ v. N.always_fits v.value };
+
+    ghost ordered = { λ v w. N.ordered v.value w.value };
+
+    fn build_lowercased_at(
+        &self,
+        bytes: &mut [u8],
+        start: usize,
+    ) -> Result<usize, TruncationError> {
+        self.as_ref().build_lowercased_at(bytes, start)
+    }
+
+    fn cmp_composed(&self, other: &Self) -> Ordering {
+        self.as_ref().cmp_composed(other.as_ref())
+    }
+
+    fn cmp_lowercase_composed(&self, other: &Self) -> Ordering {
+        self.as_ref().cmp_lowercase_composed(other.as_ref())
+    }
+}
+
+impl<N: CanonicalName> CanonicalName for Rc<N> {
+    ghost name = { λ v. N.name v.value };
+
+    ghost octets_are = { λ v. N.octets_are v.value };
+
+    ghost always_fits = { λ v. N.always_fits v.value };
+
+    ghost ordered = { λ v w. N.ordered v.value w.value };
+
+    fn build_lowercased_at(
+        &self,
+        bytes: &mut [u8],
+        start: usize,
+    ) -> Result<usize, TruncationError> {
+        (**self).build_lowercased_at(bytes, start)
+    }
+
+    fn cmp_composed(&self, other: &Self) -> Ordering {
+        (**self).cmp_composed(&**other)
+    }
+
+    fn cmp_lowercase_composed(&self, other: &Self) -> Ordering {
+        (**self).cmp_lowercase_composed(&**other)
+    }
+}
