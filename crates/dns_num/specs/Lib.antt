@@ -1,0 +1,1 @@
+-- What the contracts of wire numbers and of prefixed data cite.

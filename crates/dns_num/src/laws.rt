@@ -1,0 +1,19 @@
+//! The definitions of this crate in other words.
+
+ghost use Rattle.std.specs.Prelude.{◌≡◌, ◌+◌, ◌*◌, ◌<◌, ◌^◌, ◌∷◌, ◌++◌, ℕ, List, Some};
+ghost use Rattle.std.specs.Int.{w16, w32, w64, to_be_bytes};
+ghost use Rattle.dns_wire.specs.Reading.{number};
+
+/// Each octet of a number is worth 256 times as much as the one behind it (RFC 1035 section 2.3.2), and
+/// what is written is read back.
+pub fn wire_numbers()
+    ensures two_octets { (a b : ℕ) (rest : List ℕ) → number w16 (a ∷ b ∷ rest) ≡ Some (a * 256 + b, rest) }
+    ensures four_octets { (a b c d : ℕ) (rest : List ℕ) →
+        number w32 (a ∷ b ∷ c ∷ d ∷ rest) ≡ Some (((a * 256 + b) * 256 + c) * 256 + d, rest) }
+    ensures eight_octets { (a b c d e f g h : ℕ) (rest : List ℕ) →
+        number w64 (a ∷ b ∷ c ∷ d ∷ e ∷ f ∷ g ∷ h ∷ rest)
+        ≡ Some (((((((a * 256 + b) * 256 + c) * 256 + d) * 256 + e) * 256 + f) * 256 + g) * 256 + h, rest) }
+    ensures two_back { (n : ℕ) (rest : List ℕ) → n < 2 ^ 16 → number w16 (to_be_bytes w16 n ++ rest) ≡ Some (n, rest) }
+    ensures four_back { (n : ℕ) (rest : List ℕ) → n < 2 ^ 32 → number w32 (to_be_bytes w32 n ++ rest) ≡ Some (n, rest) }
+    ensures eight_back { (n : ℕ) (rest : List ℕ) → n < 2 ^ 64 → number w64 (to_be_bytes w64 n ++ rest) ≡ Some (n, rest) }
+{}

@@ -1,0 +1,17 @@
+//! Numbers on the wire, the most significant octet first, and data behind their size.
+#![tactic(auto)]
+
+mod bits;
+mod laws;
+mod number16;
+mod number32;
+mod number64;
+mod sums;
+
+pub use laws::wire_numbers;
+pub use number16::U16;
+pub use number32::U32;
+pub use number64::U64;
+
+#[cfg(test)]
+mod tests;
