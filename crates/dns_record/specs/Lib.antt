@@ -1,0 +1,10 @@
+-- What the contracts of questions and of records cite.
+pub mod Data
+pub mod Fields
+pub mod Kinds
+pub mod Questions
+pub mod Records
+pub mod Rows
+pub mod Serials
+pub mod Steps
+pub mod Types

@@ -1,0 +1,124 @@
+//! Records.
+
+ghost use Rattle.std.specs.Prelude.{◌≡◌, ℕ, [], length, ◌++◌};
+ghost use Rattle.std.specs.Int.{w16, w32, to_be_bytes};
+ghost use Rattle.dns_wire.specs.Reading.{Gives, octets};
+ghost use Rattle.dns_record.specs.Records.{RecordOf, record_at, record_in};
+
+use crate::rclass::RClass;
+use crate::record_data::{ParseRecordData, ParseRecordDataBytes};
+use crate::rtype::RType;
+use crate::ttl::TTL;
+use dns_num::U16;
+use dns_wire::{ParseBytes, ParseError, ParseMessageBytes, SplitBytes, SplitMessageBytes};
+
+/// A record: an owner, a type, a class, a time to live, and data (RFC 1035 section 4.1.3).
+#[derive(Clone, Debug, PartialEq, Eq, Hash, Drop)]
+pub struct Record<N, D> {
+    /// The owner.
+    pub rname: N,
+    /// The type.
+    pub rtype: RType,
+    /// The class.
+    pub rclass: RClass,
+    /// The time to live.
+    pub ttl: TTL,
+    /// The data.
+    pub rdata: D,
+}
+
+/// So many octets, and those behind them.
+fn split_octets(bytes: &[u8], size: usize) -> Result<(&[u8], &[u8]), ParseError>
+    ensures { Gives (λ x. (x.0.now, x.1.now)) result (octets size bytes.now) }
+{
+    if bytes.len() < size {
+        return Err(ParseError);
+    }
+    Ok(bytes.split_at(size))
+}
+
+impl<'a, N: SplitBytes<'a>, D: ParseRecordDataBytes<'a>> ParseBytes<'a> for Record<N, D> {
+    ghost Seen = { RecordOf N.Seen D.Seen };
+
+    ghost seen = { λ v. record {
+      owner = N.seen v.rname;
+      rtype = v.rtype.code.value;
+      class = v.rclass.code.value;
+      ttl = v.ttl.value.value;
+      content = D.seen v.rdata;
+    } };
+
+    ghost reads = { record_at N.reads D.reads_as };
+
+    ghost reads_at = { record_in N.reads_at D.reads_in };
+
+    ghost labels = { λ _. [] };
+
+    fn parse_bytes(bytes: &'a [u8]) -> Result<Record<N, D>, ParseError> {
+        let (value, rest) = Record::split_bytes(bytes)?;
+        if rest.is_empty() {
+            Ok(value)
+        } else {
+            Err(ParseError)
+        }
+    }
+}
+
+impl<'a, N: SplitBytes<'a>, D: ParseRecordDataBytes<'a>> SplitBytes<'a> for Record<N, D> {
+    #[tactic(auto, unfolding(crate::specs::Records::record_at))]
+    fn split_bytes(bytes: &'a [u8]) -> Result<(Record<N, D>, &'a [u8]), ParseError> {
+        let (rname, rest) = N::split_bytes(bytes)?;
+        let (rtype, rest) = RType::split_bytes(rest)?;
+        let (rclass, rest) = RClass::split_bytes(rest)?;
+        let (ttl, rest) = TTL::split_bytes(rest)?;
+        let (size, rest) = U16::split_bytes(rest)?;
+        let (content, rest) = split_octets(rest, usize::from(size))?;
+        let rdata = D::parse_record_data_bytes(content, rtype)?;
+        let value = Record {
+            rname,
+            rtype,
+            rclass,
+            ttl,
+            rdata,
+        };
+        Ok((value, rest))
+    }
+}
+
+impl<'a, N: SplitMessageBytes<'a>, D: ParseRecordData<'a>> ParseMessageBytes<'a> for Record<N, D> {
+    fn parse_message_bytes(contents: &'a [u8], start: usize) -> Result<Record<N, D>, ParseError> {
+        let (value, end) = Record::split_message_bytes(contents, start)?;
+        if end == contents.len() {
+            Ok(value)
+        } else {
+            Err(ParseError)
+        }
+    }
+}
+
+impl<'a, N: SplitMessageBytes<'a>, D: ParseRecordData<'a>> SplitMessageBytes<'a> for Record<N, D> {
+    #[tactic(auto, unfolding(crate::specs::Records::record_in))]
+    fn split_message_bytes(
+        contents: &'a [u8],
+        start: usize,
+    ) -> Result<(Record<N, D>, usize), ParseError> {
+        let (rname, at) = N::split_message_bytes(contents, start)?;
+        let (rtype, at) = RType::split_message_bytes(contents, at)?;
+        let (rclass, at) = RClass::split_message_bytes(contents, at)?;
+        let (ttl, at) = TTL::split_message_bytes(contents, at)?;
+        let (size, at) = U16::split_message_bytes(contents, at)?;
+        let end = at + usize::from(size);
+        if contents.len() < end {
+            return Err(ParseError);
+        }
+        let rdata = D::parse_record_data(&contents[..end], at, rtype)?;
+        let value = Record {
+            rname,
+            rtype,
+            rclass,
+            ttl,
+            rdata,
+        };
+        Ok((value, end))
+    }
+}
