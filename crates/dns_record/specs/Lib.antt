@@ -1,4 +1,5 @@
 -- What the contracts of questions and of records cite.
+pub mod Canonical
 pub mod Data
 pub mod Fields
 pub mod Kinds
@@ -8,3 +9,4 @@ pub mod Rows
 pub mod Serials
 pub mod Steps
 pub mod Types
+pub mod Unparsed

@@ -1,6 +1,7 @@
 //! Questions and records, whatever their names and their data are.
 #![tactic(auto)]
 
+mod canonical;
 mod qclass;
 mod qtype;
 mod question;
@@ -10,7 +11,9 @@ mod record_data;
 mod rtype;
 mod serial;
 mod ttl;
+mod unparsed;
 
+pub use canonical::CanonicalRecordData;
 pub use qclass::QClass;
 pub use qtype::QType;
 pub use question::Question;
@@ -20,3 +23,4 @@ pub use record_data::{ParseRecordData, ParseRecordDataBytes};
 pub use rtype::RType;
 pub use serial::Serial;
 pub use ttl::TTL;
+pub use unparsed::UnparsedRecordData;

@@ -1,7 +1,7 @@
 //! Questions.
 
-ghost use Rattle.std.specs.Prelude.{◌≡◌, ℕ, [], length, ◌++◌};
-ghost use Rattle.std.specs.Int.{w16, to_be_bytes};
+ghost use Rattle.std.specs.Prelude.{◌≡◌, []};
+ghost use Rattle.std.specs.Fn.{FnOnceTakesAt, FnOnceReturnsAt};
 ghost use Rattle.dns_record.specs.Questions.{QuestionOf, question_at, question_in};
 
 use crate::qclass::QClass;
@@ -17,6 +17,45 @@ pub struct Question<N> {
     pub qtype: QType,
     /// The class that is asked for.
     pub qclass: QClass,
+}
+
+impl<N> Question<N> {
+    /// The question of these parts.
+    pub fn new(qname: N, qtype: QType, qclass: QClass) -> Question<N>
+        ensures { result ≡ record { qname = qname; qtype = qtype; qclass = qclass } }
+    {
+        Question {
+            qname,
+            qtype,
+            qclass,
+        }
+    }
+
+    /// The question with what the function makes of its name.
+    pub fn transform<NN, F: FnOnce(N) -> NN>(self, name_map: F) -> Question<NN>
+        requires { F.pre name_map self.qname }
+        ensures name { F.post name_map self.qname result.qname }
+        ensures kept { (result.qtype ≡ self.qtype) × (result.qclass ≡ self.qclass) }
+    {
+        Question {
+            qname: name_map(self.qname),
+            qtype: self.qtype,
+            qclass: self.qclass,
+        }
+    }
+
+    /// The question with what the function makes of a reference to its name.
+    pub fn transform_ref<'a, NN, F: FnOnce(&'a N) -> NN>(&'a self, name_map: F) -> Question<NN>
+        requires { FnOnceTakesAt F.FnOnce name_map self.now.qname }
+        ensures name { FnOnceReturnsAt F.FnOnce name_map self.now.qname result.qname }
+        ensures kept { (result.qtype ≡ self.now.qtype) × (result.qclass ≡ self.now.qclass) }
+    {
+        Question {
+            qname: name_map(&self.qname),
+            qtype: self.qtype,
+            qclass: self.qclass,
+        }
+    }
 }
 
 impl<'a, N: SplitBytes<'a>> ParseBytes<'a> for Question<N> {

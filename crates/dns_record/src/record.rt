@@ -1,7 +1,7 @@
 //! Records.
 
-ghost use Rattle.std.specs.Prelude.{◌≡◌, ℕ, [], length, ◌++◌};
-ghost use Rattle.std.specs.Int.{w16, w32, to_be_bytes};
+ghost use Rattle.std.specs.Prelude.{◌≡◌, []};
+ghost use Rattle.std.specs.Fn.{FnOnceTakesAt, FnOnceReturnsAt};
 ghost use Rattle.dns_wire.specs.Reading.{Gives, octets};
 ghost use Rattle.dns_record.specs.Records.{RecordOf, record_at, record_in};
 
@@ -25,6 +25,63 @@ pub struct Record<N, D> {
     pub ttl: TTL,
     /// The data.
     pub rdata: D,
+}
+
+impl<N, D> Record<N, D> {
+    /// The record of these parts.
+    pub fn new(rname: N, rtype: RType, rclass: RClass, ttl: TTL, rdata: D) -> Record<N, D>
+        ensures { result ≡ record { rname = rname; rtype = rtype; rclass = rclass; ttl = ttl; rdata = rdata } }
+    {
+        Record {
+            rname,
+            rtype,
+            rclass,
+            ttl,
+            rdata,
+        }
+    }
+
+    /// The record with what the functions make of its owner and of its data.
+    pub fn transform<NN, ND, F: FnOnce(N) -> NN, G: FnOnce(D) -> ND>(
+        self,
+        name_map: F,
+        data_map: G,
+    ) -> Record<NN, ND>
+        requires name { F.pre name_map self.rname }
+        requires content { G.pre data_map self.rdata }
+        ensures name { F.post name_map self.rname result.rname }
+        ensures content { G.post data_map self.rdata result.rdata }
+        ensures kept { (result.rtype ≡ self.rtype) × (result.rclass ≡ self.rclass) × (result.ttl ≡ self.ttl) }
+    {
+        Record {
+            rname: name_map(self.rname),
+            rtype: self.rtype,
+            rclass: self.rclass,
+            ttl: self.ttl,
+            rdata: data_map(self.rdata),
+        }
+    }
+
+    /// The record with what the functions make of references to its owner and to its data.
+    pub fn transform_ref<'a, NN, ND, F: FnOnce(&'a N) -> NN, G: FnOnce(&'a D) -> ND>(
+        &'a self,
+        name_map: F,
+        data_map: G,
+    ) -> Record<NN, ND>
+        requires name { FnOnceTakesAt F.FnOnce name_map self.now.rname }
+        requires content { FnOnceTakesAt G.FnOnce data_map self.now.rdata }
+        ensures name { FnOnceReturnsAt F.FnOnce name_map self.now.rname result.rname }
+        ensures content { FnOnceReturnsAt G.FnOnce data_map self.now.rdata result.rdata }
+        ensures kept { (result.rtype ≡ self.now.rtype) × (result.rclass ≡ self.now.rclass) × (result.ttl ≡ self.now.ttl) }
+    {
+        Record {
+            rname: name_map(&self.rname),
+            rtype: self.rtype,
+            rclass: self.rclass,
+            ttl: self.ttl,
+            rdata: data_map(&self.rdata),
+        }
+    }
 }
 
 /// So many octets, and those behind them.
