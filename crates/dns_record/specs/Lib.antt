@@ -6,6 +6,7 @@ pub mod Kinds
 pub mod Questions
 pub mod Records
 pub mod Rows
+pub mod Seen
 pub mod Serials
 pub mod Steps
 pub mod Types

@@ -1,5 +1,5 @@
 -- Records, whatever their owners and their data are (RFC 1035 section 4.1.3).
-use Rattle.std.specs.Prelude.{ℕ, ◌+◌, List, length, take, Option, Some, None, nat_lt, if◌then◌else◌}
+use Rattle.std.specs.Prelude.{◌≡◌, ℕ, ◌+◌, ◌<◌, ◌^◌, List, length, take, Option, Some, None, nat_lt, if◌then◌else◌}
 use Rattle.std.specs.Int.{w16, w32}
 use Rattle.dns_wire.specs.Reading.{octets, number, plain_at}
 use Rattle.dns_record.specs.Steps.{◌>>=◌}
@@ -39,3 +39,17 @@ record_in name data_in contents at = do
   end ← end_of contents size.1 size.0
   content ← data_in rtype.0 (take end contents) size.1
   Some (record { owner = owner.0; rtype = rtype.0; class = class.0; ttl = ttl.0; content = content }, end)
+
+-- ---- how many octets the data are read from
+
+-- the data are read, for the type, from octets that a size can count
+pub record SizedData {D : Type 0} (data_as : ℕ → List ℕ → Option D) (content : D) (rtype : ℕ) : Type 0 where
+  pub body : List ℕ
+  pub short : length body < 2 ^ 16
+  pub read : data_as rtype body ≡ Some content
+
+-- the same in a message, up to the record's end
+pub record SizedDataIn {D : Type 0} (data_in : ℕ → List ℕ → ℕ → Option D) (contents : List ℕ) (content : D) (rtype end : ℕ) : Type 0 where
+  pub at : ℕ
+  pub short : end < at + 2 ^ 16
+  pub read : data_in rtype (take end contents) at ≡ Some content

@@ -3,6 +3,7 @@
 ghost use Rattle.std.specs.Prelude.{◌≡◌, []};
 ghost use Rattle.std.specs.Fn.{FnOnceTakesAt, FnOnceReturnsAt};
 ghost use Rattle.dns_record.specs.Questions.{QuestionOf, question_at, question_in};
+ghost use Rattle.dns_record.specs.Seen.{question_seen};
 
 use crate::qclass::QClass;
 use crate::qtype::QType;
@@ -61,7 +62,7 @@ impl<N> Question<N> {
 impl<'a, N: SplitBytes<'a>> ParseBytes<'a> for Question<N> {
     ghost Seen = { QuestionOf N.Seen };
 
-    ghost seen = { λ v. record { name = N.seen v.qname; qtype = v.qtype.code.value; class = v.qclass.code.value } };
+    ghost seen = { question_seen N.seen };
 
     ghost reads = { question_at N.reads };
 

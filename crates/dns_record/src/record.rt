@@ -1,9 +1,10 @@
 //! Records.
 
-ghost use Rattle.std.specs.Prelude.{◌≡◌, []};
+ghost use Rattle.std.specs.Prelude.{◌≡◌, ◌≤◌, [], length, IfOk};
 ghost use Rattle.std.specs.Fn.{FnOnceTakesAt, FnOnceReturnsAt};
 ghost use Rattle.dns_wire.specs.Reading.{Gives, octets};
-ghost use Rattle.dns_record.specs.Records.{RecordOf, record_at, record_in};
+ghost use Rattle.dns_record.specs.Records.{RecordOf, record_at, record_in, SizedData, SizedDataIn};
+ghost use Rattle.dns_record.specs.Seen.{record_seen};
 
 use crate::rclass::RClass;
 use crate::record_data::{ParseRecordData, ParseRecordDataBytes};
@@ -97,13 +98,7 @@ fn split_octets(bytes: &[u8], size: usize) -> Result<(&[u8], &[u8]), ParseError>
 impl<'a, N: SplitBytes<'a>, D: ParseRecordDataBytes<'a>> ParseBytes<'a> for Record<N, D> {
     ghost Seen = { RecordOf N.Seen D.Seen };
 
-    ghost seen = { λ v. record {
-      owner = N.seen v.rname;
-      rtype = v.rtype.code.value;
-      class = v.rclass.code.value;
-      ttl = v.ttl.value.value;
-      content = D.seen v.rdata;
-    } };
+    ghost seen = { record_seen N.seen D.seen };
 
     ghost reads = { record_at N.reads D.reads_as };
 
@@ -122,8 +117,14 @@ impl<'a, N: SplitBytes<'a>, D: ParseRecordDataBytes<'a>> ParseBytes<'a> for Reco
 }
 
 impl<'a, N: SplitBytes<'a>, D: ParseRecordDataBytes<'a>> SplitBytes<'a> for Record<N, D> {
+    /// Reads the record at the front, and gives the octets behind it. `ParseError` comes exactly where none
+    /// stands there. The data are those that `D` reads from at most 65,535 octets.
     #[tactic(auto, unfolding(crate::specs::Records::record_at))]
-    fn split_bytes(bytes: &'a [u8]) -> Result<(Record<N, D>, &'a [u8]), ParseError> {
+    fn split_bytes(bytes: &'a [u8]) -> Result<(Record<N, D>, &'a [u8]), ParseError>
+        ensures exact { Gives (λ x. (record_seen N.seen D.seen x.0, x.1.now)) result (record_at N.reads D.reads_as bytes.now) }
+        ensures within { IfOk result (λ x. length x.1.now ≤ length bytes.now) }
+        ensures sized { IfOk result (λ x. SizedData D.reads_as (D.seen x.0.rdata) x.0.rtype.code.value) }
+    {
         let (rname, rest) = N::split_bytes(bytes)?;
         let (rtype, rest) = RType::split_bytes(rest)?;
         let (rclass, rest) = RClass::split_bytes(rest)?;
@@ -154,11 +155,18 @@ impl<'a, N: SplitMessageBytes<'a>, D: ParseRecordData<'a>> ParseMessageBytes<'a>
 }
 
 impl<'a, N: SplitMessageBytes<'a>, D: ParseRecordData<'a>> SplitMessageBytes<'a> for Record<N, D> {
+    /// Reads the record at the place, and gives the place where it ends. `ParseError` comes exactly where
+    /// none stands there. The data are those that `D` reads from at most 65,535 octets, of which the last is
+    /// the record's last.
     #[tactic(auto, unfolding(crate::specs::Records::record_in))]
     fn split_message_bytes(
         contents: &'a [u8],
         start: usize,
-    ) -> Result<(Record<N, D>, usize), ParseError> {
+    ) -> Result<(Record<N, D>, usize), ParseError>
+        ensures exact { Gives (λ x. (record_seen N.seen D.seen x.0, x.1)) result (record_in N.reads_at D.reads_in contents.now start) }
+        ensures within { IfOk result (λ x. (start ≤ x.1) × (x.1 ≤ length contents.now)) }
+        ensures sized { IfOk result (λ x. SizedDataIn D.reads_in contents.now (D.seen x.0.rdata) x.0.rtype.code.value x.1) }
+    {
         let (rname, at) = N::split_message_bytes(contents, start)?;
         let (rtype, at) = RType::split_message_bytes(contents, at)?;
         let (rclass, at) = RClass::split_message_bytes(contents, at)?;
