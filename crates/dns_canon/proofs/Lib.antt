@@ -8,6 +8,7 @@ pub mod NoItem
 pub mod Ordering
 pub mod Phrased
 pub mod Sections
+pub mod Short
 pub mod Sorting
 pub mod Transfers
 pub mod Trimming

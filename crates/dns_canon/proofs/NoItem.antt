@@ -5,13 +5,14 @@ use Rattle.std.proofs.lemmas.Bool.Decides.{nat_tests}
 use Rattle.std.proofs.lemmas.List.{length-take, drop-take}
 use Rattle.dns_wire.specs.Pointers.{name_at}
 use Rattle.dns_wire.specs.Reading.{plain_at, number, octets}
-use Rattle.dns_canon.specs.Data.{data_in, is_waiting}
-use Rattle.dns_canon.specs.Fields.{Field}
+use Rattle.dns_canon.specs.Data.{read_in, is_waiting}
+use Rattle.dns_record.specs.Fields.{Field}
 use Rattle.dns_canon.specs.Messages.{Rec, item_at}
 use Rattle.dns_canon.specs.Messages.Item.{Told}
 use Rattle.std.specs.Int.{w16, w32}
 use Rattle.dns_canon.specs.NotBuilt.{type_behind_owner, waits, not_built_at}
-use Rattle.dns_canon.specs.Records.{◌>>=◌, first_to, question_in, record_in, end_of}
+use Rattle.dns_record.specs.Records.{record_in, end_of}
+use Rattle.dns_record.specs.Steps.{◌>>=◌, first_to}
 
 -- ---- a type that waits for its row
 
@@ -20,8 +21,8 @@ bind_none : {A B : Type 0} (o : Option A) (f : A → Option B) → ((x : A) → 
 bind_none None f h = refl
 bind_none (Some x) f h = h x
 
-no_data : (rtype : ℕ) (contents : List ℕ) (at : ℕ) → is_waiting rtype ≡ true → data_in rtype contents at ≡ None
-unfolding data_in
+no_data : (rtype : ℕ) (contents : List ℕ) (at : ℕ) → is_waiting rtype ≡ true → read_in rtype contents at ≡ None
+unfolding read_in
 no_data rtype contents at e = rw e refl
 
 -- what is read behind the type, and behind the owner
@@ -31,7 +32,7 @@ behind_type contents owner rtype = do
   ttl ← plain_at (number w32) contents class.1
   size ← plain_at (number w16) contents ttl.1
   end ← end_of contents size.1 size.0
-  content ← data_in rtype.0 (take end contents) size.1
+  content ← read_in rtype.0 (take end contents) size.1
   Some (record { owner = owner; rtype = rtype.0; class = class.0; ttl = ttl.0; content = content }, end)
 
 abbrev behind_owner : List ℕ → List (List ℕ) × ℕ → Option (Rec × ℕ)
@@ -57,7 +58,7 @@ no_record_by : (contents : List ℕ) (owner : Option (List (List ℕ) × ℕ)) �
 no_record_by contents None e = refl
 no_record_by contents (Some o) e = no_behind_owner contents o (plain_at (number w16) contents o.1) e
 
-no_record : (contents : List ℕ) (at : ℕ) → waits (type_behind_owner contents at) ≡ true → record_in name_at data_in contents at ≡ None
+no_record : (contents : List ℕ) (at : ℕ) → waits (type_behind_owner contents at) ≡ true → record_in name_at read_in contents at ≡ None
 unfolding type_behind_owner record_in
 no_record contents at e = no_record_by contents (name_at contents at) e
 

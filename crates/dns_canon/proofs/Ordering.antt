@@ -12,9 +12,10 @@ use Rattle.std.proofs.lemmas.List.{reverse-reverse, length-append}
 use Rattle.std.proofs.lemmas.List.Sorted.{IsPermutation-refl, IsPermutation-cons, IsPermutation-middle, IsPermutation-trans, IsPermutation-map}
 use Rattle.dns_wire.specs.Names.{wire, lowered}
 use Rattle.dns_wire.proofs.Lowered.{wire_parts, name_lowered, lowered_long}
-use Rattle.dns_canon.specs.Canonical.{canon, folded_fields, is_folded, is_kept, octets_of_parts}
-use Rattle.dns_canon.specs.Fields.{Field, fields_octets, folded_field}
-use Rattle.dns_canon.specs.Fields.Field.{Named, Raw}
+use Rattle.dns_canon.specs.Canonical.{canon, folded_fields, is_kept, octets_of_parts}
+use Rattle.dns_record.specs.Types.{is_lowercased}
+use Rattle.dns_record.specs.Fields.{Field, field_octets, fields_octets, folded_field}
+use Rattle.dns_record.specs.Fields.Field.{Named, Raw, Sized, Byte, Number}
 use Rattle.dns_canon.specs.Messages.{Rec}
 use Rattle.dns_canon.specs.Order.{SortKey, sort_key, sort_key_cmp, record_cmp, Before, precedes, inserted, in_order, octets_of_key, output}
 use Rattle.dns_canon.specs.Sorted.{times, NoneBelow, Ascends}
@@ -44,15 +45,21 @@ four_octets n m x y p q e =
     (omega arith, cc)
 
 -- small letters change no length
+field_long : (field : Field) → length (field_octets (folded_field field)) ≡ length (field_octets field)
+field_long (Named labels) = lowered_long labels
+field_long (Raw octets) = refl
+field_long (Sized octets) = refl
+field_long (Byte b) = refl
+field_long (Number w n) = refl
+
 folded_long : (fields : List Field) → length (fields_octets (map folded_field fields)) ≡ length (fields_octets fields)
 folded_long [] = refl
-folded_long (Named labels ∷ fields) =
-    length-append (wire (lowered labels)) (fields_octets (map folded_field fields)) ∙ omega (arith, lowered_long labels, folded_long fields, length-append (wire labels) (fields_octets fields))
-folded_long (Raw octets ∷ fields) =
-    length-append octets (fields_octets (map folded_field fields)) ∙ omega (arith, folded_long fields, length-append octets (fields_octets fields))
+folded_long (field ∷ fields) =
+    length-append (field_octets (folded_field field)) (fields_octets (map folded_field fields))
+    ∙ omega (arith, field_long field, folded_long fields, length-append (field_octets field) (fields_octets fields))
 
 octets_long : (r : Rec) → WellFormed r → length (fields_octets (folded_fields r.rtype r.content)) < 2 ^ 16
-octets_long r is = by (is_folded r.rtype) where
+octets_long r is = by (is_lowercased r.rtype) where
   by : (b : Bool) → length (fields_octets (cond b (map folded_field r.content) r.content)) < 2 ^ 16
   by true = omega (arith, is.size, folded_long r.content)
   by false = is.size

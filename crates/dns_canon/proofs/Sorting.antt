@@ -16,7 +16,7 @@ use Rattle.dns_wire.specs.Names.{labels_of, lowered}
 use Rattle.dns_name.specs.Order.{key_of, key_cmp}
 use Rattle.dns_name.proofs.Sameness.{keys_total}
 use Rattle.dns_canon.specs.Canonical.{canon, folded_fields, is_kept, octets_of_parts}
-use Rattle.dns_canon.specs.Fields.{fields_octets}
+use Rattle.dns_record.specs.Fields.{fields_octets}
 use Rattle.dns_canon.specs.Messages.{Rec}
 use Rattle.dns_canon.specs.Order.{SortKey, sort_key, sort_key_cmp, precedes, inserted, in_order, octets_of_key, output}
 use Rattle.dns_canon.specs.Seen.{owned_seen}

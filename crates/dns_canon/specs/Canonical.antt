@@ -2,16 +2,13 @@
 use Rattle.std.specs.Prelude.{ℕ, List, ◌++◌, length, map, Bool, not, ◌==◌, ◌||◌, if◌then◌else◌}
 use Rattle.std.specs.Int.{w16, w32, to_be_bytes}
 use Rattle.dns_wire.specs.Names.{wire, lowered}
-use Rattle.dns_canon.specs.Fields.{Field, folded_field, fields_octets}
+use Rattle.dns_record.specs.Fields.{Field, folded_field, fields_octets}
+use Rattle.dns_record.specs.Types.{is_lowercased}
 use Rattle.dns_canon.specs.Messages.{Rec}
-
--- the types whose names count without regard to ASCII case: NS, CNAME, SOA, PTR, MX, RP, SRV, DNAME and RRSIG
-abbrev pub is_folded : ℕ → Bool
-is_folded rtype = rtype == 2 || rtype == 5 || rtype == 6 || rtype == 12 || rtype == 15 || rtype == 17 || rtype == 33 || rtype == 39 || rtype == 46
 
 -- the fields, with names in small letters where the type is one of the nine
 abbrev pub folded_fields : ℕ → List Field → List Field
-folded_fields rtype fields = if is_folded rtype then map folded_field fields else fields
+folded_fields rtype fields = if is_lowercased rtype then map folded_field fields else fields
 
 -- the record with its owner in small letters, and its names where its type is one of the nine
 abbrev pub fold : Rec → Rec

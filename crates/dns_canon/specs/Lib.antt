@@ -2,12 +2,10 @@
 pub mod Canonical
 pub mod Data
 pub mod Errors
-pub mod Fields
 pub mod Lists
 pub mod Messages
 pub mod NotBuilt
 pub mod Order
-pub mod Records
 pub mod Run
 pub mod Seen
 pub mod Sorted

@@ -6,7 +6,7 @@ use Rattle.std.specs.declared.cmp.Ordering.TheVariants.{Less}
 use Rattle.std.specs.Ordering.{nat_cmp, on, then_cmp, is_gt}
 use Rattle.std.specs.Cmp.Lexicographic.{slice_cmp}
 use Rattle.dns_name.specs.Order.{key, key_cmp}
-use Rattle.dns_canon.specs.Fields.{fields_octets}
+use Rattle.dns_record.specs.Fields.{fields_octets}
 use Rattle.dns_canon.specs.Messages.{Rec}
 use Rattle.dns_canon.specs.Canonical.{folded_fields, octets_of_parts, canon, is_kept}
 

@@ -1,25 +1,31 @@
 -- What is seen of the items that are read, and of what is kept of a record.
-use Rattle.std.specs.Prelude.{[], ◌∷◌, reverse}
+use Rattle.std.specs.Prelude.{◌<◌, ◌^◌, List, [], ◌∷◌, length, reverse}
 use Rattle.dns_wire.specs.Names.{labels_of}
-use Rattle.dns_canon.specs.Fields.Field.{Raw}
-use Rattle.dns_canon.specs.Messages.{Item, Question, Rec}
+use Rattle.dns_record.specs.Fields.{Field, fields_octets}
+use Rattle.dns_record.specs.Fields.Field.{Raw}
+use Rattle.dns_record.specs.Seen.{question_seen, record_seen}
+use Rattle.dns_canon.specs.Messages.{Item}
 use Rattle.dns_canon.specs.Messages.Item.{Asked, Told}
 use Rattle.dns_canon.specs.Order.{SortKey}
-use Rattle.dns_canon.specs.declared.item.Question as asked
-use Rattle.dns_canon.specs.declared.item.Record as records
 use Rattle.dns_canon.specs.declared.item.MessageItem.{MessageItem}
 use Rattle.dns_canon.specs.declared.item.MessageItem.TheVariants as item
+use Rattle.dns_canon.specs.declared.record_data.RecordData.{RecordData}
+use Rattle.dns_canon.specs.declared.record_data.RecordData.TheVariants.{A, Unknown}
 use Rattle.dns_canon.specs.declared.owned.OwnedRecord.{OwnedRecord}
 
-abbrev pub question_seen : asked.Question → Question
-question_seen q = record { name = q.qname; qtype = q.qtype; class = q.qclass }
-
-abbrev pub record_seen : records.Record → Rec
-record_seen r = record { owner = r.owner; rtype = r.rtype; class = r.class; ttl = r.ttl; content = Raw r.octets.now ∷ [] }
+-- the fields of data
+abbrev pub data_seen : RecordData → List Field
+data_seen (A octets) = Raw octets ∷ []
+data_seen (Unknown octets) = Raw octets.now ∷ []
 
 abbrev pub item_seen : MessageItem → Item
-item_seen (item.Question q) = Asked (question_seen q)
-item_seen (item.Record r) = Told (record_seen r)
+item_seen (item.Question q) = Asked (question_seen (λ labels. labels) q)
+item_seen (item.Record r) = Told (record_seen (λ labels. labels) data_seen r)
+
+-- a record's data are so many octets as its size can say
+abbrev pub HasShortData : MessageItem → Type 0
+HasShortData (item.Question q) = Unit {0}
+HasShortData (item.Record r) = length (fields_octets (data_seen r.rdata)) < 2 ^ 16
 
 -- what is kept of a record, as it is compared
 abbrev pub owned_seen : OwnedRecord → SortKey

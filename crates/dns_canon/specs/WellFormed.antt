@@ -1,7 +1,7 @@
 -- Records whose parts fit their places on the wire.
 use Rattle.std.specs.Prelude.{◌<◌, ◌^◌, length}
 use Rattle.dns_wire.specs.Names.{IsName}
-use Rattle.dns_canon.specs.Fields.{fields_octets}
+use Rattle.dns_record.specs.Fields.{fields_octets}
 use Rattle.dns_canon.specs.Messages.{Rec}
 
 -- the owner is a name, and numbers and data fit their octets

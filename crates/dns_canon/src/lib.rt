@@ -9,6 +9,7 @@ mod laws;
 mod message;
 mod owned;
 mod reading;
+mod record_data;
 mod spelling;
 mod status;
 mod transfer;

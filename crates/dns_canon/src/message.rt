@@ -5,17 +5,15 @@ ghost use Rattle.dns_canon.specs.Canonical.{is_kept};
 ghost use Rattle.dns_canon.specs.Lists.{RefusedInSection, RefusedOrMemory, refusal_at};
 ghost use Rattle.dns_canon.specs.Messages.{Item, Rec, slots, records_among, Valid};
 ghost use Rattle.dns_canon.specs.Order.{sort_key};
-ghost use Rattle.dns_canon.specs.Seen.{owned_seen, item_seen};
+ghost use Rattle.dns_canon.specs.Seen.{owned_seen, item_seen, HasShortData};
 ghost use Rattle.dns_canon.specs.Worded.{ItemsAt};
 
 use crate::error::CanonError;
 use crate::item::MessageItem;
 use crate::owned::OwnedRecord;
 use crate::reading::{is_not_built, read_item};
+use dns_record::RType;
 use std::alloc::{AllocError, Global};
-
-/// The type number of OPT, which is a record in form alone (RFC 6891 section 6.1.1).
-const OPT: u16 = 41;
 
 /// Why the item of a section at a place was not read.
 fn refusal(contents: &[u8], section: u8, index: u16, place: usize) -> CanonError
@@ -35,11 +33,13 @@ fn keep(
     item: &MessageItem<'_>,
     records: &mut Vec<OwnedRecord>,
 ) -> Result<(), AllocError>
+    requires { HasShortData item.now }
     ensures { OnOk result (map owned_seen records.new.items ≡ map owned_seen records.old.items
         ++ map sort_key (filter is_kept (records_among (item_seen item.now ∷ [])))) }
 {
     match item {
-        MessageItem::Record(record) if record.rtype != OPT => {
+        // OPT is a record in form alone (RFC 6891 section 6.1.1).
+        MessageItem::Record(record) if record.rtype != RType::OPT => {
             records.push(OwnedRecord::of(alloc, record)?)?;
             Ok(())
         }

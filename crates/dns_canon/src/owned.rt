@@ -11,8 +11,9 @@ ghost use Rattle.dns_wire.specs.Names.{wire, plain_name, labels_of, lowered};
 ghost use Rattle.dns_wire.specs.Reading.{all_of};
 ghost use Rattle.dns_name.specs.Order.{key_of, key_cmp};
 
-use crate::item::Record;
-use dns_name::Name;
+use crate::record_data::RecordData;
+use dns_name::{Name, NameBuf};
+use dns_record::Record;
 use std::alloc::{AllocError, Global};
 use std::cmp::Ordering;
 
@@ -110,21 +111,28 @@ pub(crate) struct OwnedRecord {
 }
 
 impl OwnedRecord {
+    ghost use Rattle.std.specs.Prelude.{◌^◌, length};
+    ghost use Rattle.dns_record.specs.Fields.{fields_octets};
+    ghost use Rattle.dns_record.specs.Seen.{record_seen};
     ghost use Rattle.dns_canon.specs.Order.{sort_key};
-    ghost use Rattle.dns_canon.specs.Seen.{owned_seen, record_seen};
+    ghost use Rattle.dns_canon.specs.Seen.{owned_seen, data_seen};
 
     /// The parts of a record.
-    pub fn of(alloc: Global, record: &Record<'_>) -> Result<OwnedRecord, AllocError>
-        ensures { IfOk result (λ parts. owned_seen parts ≡ sort_key (record_seen record.now)) }
+    pub fn of(
+        alloc: Global,
+        record: &Record<NameBuf, RecordData<'_>>,
+    ) -> Result<OwnedRecord, AllocError>
+        requires { length (fields_octets (data_seen «record».now.rdata)) < 2 ^ 16 }
+        ensures { IfOk result (λ parts. owned_seen parts ≡ sort_key (record_seen (λ labels. labels) data_seen «record».now)) }
     {
-        let owner = LoweredName::of(alloc, record.owner.as_name())?;
-        let octets = Vec::from_slice(alloc, record.octets)?;
+        let owner = LoweredName::of(alloc, record.rname.as_name())?;
+        let octets = Vec::from_slice(alloc, record.rdata.octets())?;
         Ok(OwnedRecord {
             owner,
-            class: record.class,
-            rtype: record.rtype,
+            class: record.rclass.code.get(),
+            rtype: record.rtype.code.get(),
             octets,
-            ttl: record.ttl,
+            ttl: record.ttl.as_secs(),
         })
     }
 }

@@ -1,0 +1,13 @@
+-- What the contracts of questions and of records cite.
+pub mod Canonical
+pub mod Data
+pub mod Fields
+pub mod Kinds
+pub mod Questions
+pub mod Records
+pub mod Rows
+pub mod Seen
+pub mod Serials
+pub mod Steps
+pub mod Types
+pub mod Unparsed

@@ -1,0 +1,19 @@
+-- What is seen of questions and of records.
+use Rattle.dns_record.specs.Questions.{QuestionOf}
+use Rattle.dns_record.specs.Records.{RecordOf}
+use Rattle.dns_record.specs.declared.question.Question.{Question}
+use Rattle.dns_record.specs.declared.record.Record.{Record}
+
+-- the name as it is seen, and the numbers
+abbrev pub question_seen : {N S : Type 0} → (N → S) → Question N → QuestionOf S
+question_seen name q = record { name = name q.qname; qtype = q.qtype.code.value; class = q.qclass.code.value }
+
+-- the owner and the data as they are seen, and the numbers
+abbrev pub record_seen : {N D S T : Type 0} → (N → S) → (D → T) → Record N D → RecordOf S T
+record_seen name content r = record {
+  owner = name r.rname;
+  rtype = r.rtype.code.value;
+  class = r.rclass.code.value;
+  ttl = r.ttl.value.value;
+  content = content r.rdata;
+}

@@ -1,0 +1,54 @@
+//! Record data as DNSSEC sees them.
+
+ghost use Rattle.std.specs.Prelude.{◌≡◌, ◌≤◌, ◌<◌, ℕ, List, length, drop, IfOk, OnOk, OnErr, ⊤};
+ghost use Rattle.std.specs.Borrow.{sem};
+ghost use Rattle.dns_wire.specs.Building.{Builds, LendsRest};
+ghost use Rattle.dns_record.specs.Canonical.{ranked_cmp};
+
+use dns_wire::{BuildBytes, TruncationError};
+use std::cmp::Ordering;
+
+/// Record data that have a canonical form (RFC 4034 section 6.2, RFC 6840 section 5.1) and the order of
+/// RFC 4034 section 6.3.
+pub trait CanonicalRecordData: BuildBytes {
+    /// The canonical octets: the fields in order, names whole, and in small letters where the type is one
+    /// of the nine that `RType::uses_lowercase_canonical_form` names.
+    ghost canonical: { Self → List ℕ };
+
+    /// What comes before the octets in the order: the type's number for a choice among types, and else 0.
+    ghost rank: { Self → ℕ };
+
+    /// The value is one that its type should have. Only a choice among types has others: octets under the
+    /// number of a type that it knows.
+    ghost is_proper: { Self → Type 0 };
+
+    /// Writes the canonical octets at a place of the buffer, and gives the place where they end. It is
+    /// accepted exactly where they are at most the octets from `start` on. After `TruncationError` the
+    /// octets before `start` are as before.
+    fn build_canonical_at(&self, bytes: &mut [u8], start: usize) -> Result<usize, TruncationError>
+        requires { start ≤ length bytes.old }
+        ensures { Builds ⊤ (canonical self.now) bytes.old start bytes.new result };
+
+    /// The order by rank, and then by the canonical octets; a beginning comes first (RFC 4034 section 6.3).
+    fn cmp_canonical(&self, other: &Self) -> Ordering
+        requires { is_proper self.now × is_proper other.now }
+        ensures { result ≡ ranked_cmp (rank self.now) (rank other.now) (canonical self.now) (canonical other.now) };
+
+    /// Writes the canonical octets to the beginning of the buffer. What is behind them is lent back as it
+    /// was. `TruncationError` comes exactly where they are more than the buffer's; what the buffer holds
+    /// then is open.
+    final fn build_canonical_bytes<'b>(
+        &self,
+        bytes: &'b mut [u8],
+    ) -> Result<&'b mut [u8], TruncationError>
+        ensures* written { sem 𝓛 (LendsRest bytes.entry result (canonical self.now)) }
+        ensures rest { IfOk result (λ rest. rest.now ≡ drop (length (canonical self.now)) bytes.old) }
+        ensures accepted { OnOk result (length (canonical self.now) ≤ length bytes.old) }
+        ensures refused { OnErr result (length bytes.old < length (canonical self.now)) }
+    {
+        match self.build_canonical_at(bytes, 0) {
+            Ok(end) => Ok(&mut bytes[end..]),
+            Err(error) => Err(error),
+        }
+    }
+}

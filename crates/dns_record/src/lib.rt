@@ -1,0 +1,26 @@
+//! Questions and records, whatever their names and their data are.
+#![tactic(auto)]
+
+mod canonical;
+mod qclass;
+mod qtype;
+mod question;
+mod rclass;
+mod record;
+mod record_data;
+mod rtype;
+mod serial;
+mod ttl;
+mod unparsed;
+
+pub use canonical::CanonicalRecordData;
+pub use qclass::QClass;
+pub use qtype::QType;
+pub use question::Question;
+pub use rclass::RClass;
+pub use record::Record;
+pub use record_data::{ParseRecordData, ParseRecordDataBytes};
+pub use rtype::RType;
+pub use serial::Serial;
+pub use ttl::TTL;
+pub use unparsed::UnparsedRecordData;

@@ -1,0 +1,80 @@
+//! Classes that a question asks for.
+
+ghost use Rattle.std.specs.Prelude.{◌≡◌, ℕ, [], ⊤};
+ghost use Rattle.std.specs.Int.{w16, to_be_bytes};
+ghost use Rattle.dns_wire.specs.Reading.{number, plain_at};
+
+use dns_num::U16;
+use dns_wire::{
+    BuildBytes, ParseBytes, ParseError, ParseMessageBytes, SplitBytes, SplitMessageBytes,
+    TruncationError, parse_without_compression, split_without_compression,
+};
+
+/// The class that a question asks for: two octets on the wire (RFC 1035 section 3.2.5).
+#[derive(Clone, Copy, Debug, PartialEq, Eq, PartialOrd, Ord, Hash)]
+pub struct QClass {
+    /// The number.
+    pub code: U16,
+}
+
+impl QClass {
+    /// The internet (RFC 1035 section 3.2.4).
+    pub const IN: QClass = QClass {
+        code: U16 { value: 1 },
+    };
+
+    /// CHAOS (RFC 1035 section 3.2.4).
+    pub const CH: QClass = QClass {
+        code: U16 { value: 3 },
+    };
+}
+
+impl<'a> ParseBytes<'a> for QClass {
+    ghost Seen = { ℕ };
+
+    ghost seen = { λ v. v.code.value };
+
+    ghost reads = { number w16 };
+
+    ghost reads_at = { plain_at (number w16) };
+
+    ghost labels = { λ _. [] };
+
+    fn parse_bytes(bytes: &'a [u8]) -> Result<QClass, ParseError> {
+        let code = U16::parse_bytes(bytes)?;
+        Ok(QClass { code })
+    }
+}
+
+impl<'a> SplitBytes<'a> for QClass {
+    fn split_bytes(bytes: &'a [u8]) -> Result<(QClass, &'a [u8]), ParseError> {
+        let (code, rest) = U16::split_bytes(bytes)?;
+        Ok((QClass { code }, rest))
+    }
+}
+
+impl<'a> ParseMessageBytes<'a> for QClass {
+    fn parse_message_bytes(contents: &'a [u8], start: usize) -> Result<QClass, ParseError> {
+        parse_without_compression(contents, start)
+    }
+}
+
+impl<'a> SplitMessageBytes<'a> for QClass {
+    fn split_message_bytes(contents: &'a [u8], start: usize) -> Result<(QClass, usize), ParseError> {
+        split_without_compression(contents, start)
+    }
+}
+
+impl BuildBytes for QClass {
+    ghost octets = { λ v. to_be_bytes w16 v.code.value };
+
+    ghost fits = { λ _. ⊤ };
+
+    fn build_at(&self, bytes: &mut [u8], start: usize) -> Result<usize, TruncationError> {
+        self.code.build_at(bytes, start)
+    }
+
+    fn built_bytes_size(&self) -> usize {
+        self.code.built_bytes_size()
+    }
+}

@@ -1,0 +1,125 @@
+//! Questions.
+
+ghost use Rattle.std.specs.Prelude.{◌≡◌, []};
+ghost use Rattle.std.specs.Fn.{FnOnceTakesAt, FnOnceReturnsAt};
+ghost use Rattle.dns_record.specs.Questions.{QuestionOf, question_at, question_in};
+ghost use Rattle.dns_record.specs.Seen.{question_seen};
+
+use crate::qclass::QClass;
+use crate::qtype::QType;
+use dns_wire::{ParseBytes, ParseError, ParseMessageBytes, SplitBytes, SplitMessageBytes};
+
+/// A question of a message: a name, a type and a class (RFC 1035 section 4.1.2).
+#[derive(Clone, Debug, PartialEq, Eq, Hash, Drop)]
+pub struct Question<N> {
+    /// The name that is asked for.
+    pub qname: N,
+    /// The type that is asked for.
+    pub qtype: QType,
+    /// The class that is asked for.
+    pub qclass: QClass,
+}
+
+impl<N> Question<N> {
+    /// The question of these parts.
+    pub fn new(qname: N, qtype: QType, qclass: QClass) -> Question<N>
+        ensures { result ≡ record { qname = qname; qtype = qtype; qclass = qclass } }
+    {
+        Question {
+            qname,
+            qtype,
+            qclass,
+        }
+    }
+
+    /// The question with what the function makes of its name.
+    pub fn transform<NN, F: FnOnce(N) -> NN>(self, name_map: F) -> Question<NN>
+        requires { F.pre name_map self.qname }
+        ensures name { F.post name_map self.qname result.qname }
+        ensures kept { (result.qtype ≡ self.qtype) × (result.qclass ≡ self.qclass) }
+    {
+        Question {
+            qname: name_map(self.qname),
+            qtype: self.qtype,
+            qclass: self.qclass,
+        }
+    }
+
+    /// The question with what the function makes of a reference to its name.
+    pub fn transform_ref<'a, NN, F: FnOnce(&'a N) -> NN>(&'a self, name_map: F) -> Question<NN>
+        requires { FnOnceTakesAt F.FnOnce name_map self.now.qname }
+        ensures name { FnOnceReturnsAt F.FnOnce name_map self.now.qname result.qname }
+        ensures kept { (result.qtype ≡ self.now.qtype) × (result.qclass ≡ self.now.qclass) }
+    {
+        Question {
+            qname: name_map(&self.qname),
+            qtype: self.qtype,
+            qclass: self.qclass,
+        }
+    }
+}
+
+impl<'a, N: SplitBytes<'a>> ParseBytes<'a> for Question<N> {
+    ghost Seen = { QuestionOf N.Seen };
+
+    ghost seen = { question_seen N.seen };
+
+    ghost reads = { question_at N.reads };
+
+    ghost reads_at = { question_in N.reads_at };
+
+    ghost labels = { λ _. [] };
+
+    fn parse_bytes(bytes: &'a [u8]) -> Result<Question<N>, ParseError> {
+        let (question, rest) = Question::split_bytes(bytes)?;
+        if rest.is_empty() {
+            Ok(question)
+        } else {
+            Err(ParseError)
+        }
+    }
+}
+
+impl<'a, N: SplitBytes<'a>> SplitBytes<'a> for Question<N> {
+    #[tactic(auto, unfolding(crate::specs::Questions::question_at))]
+    fn split_bytes(bytes: &'a [u8]) -> Result<(Question<N>, &'a [u8]), ParseError> {
+        let (qname, rest) = N::split_bytes(bytes)?;
+        let (qtype, rest) = QType::split_bytes(rest)?;
+        let (qclass, rest) = QClass::split_bytes(rest)?;
+        let question = Question {
+            qname,
+            qtype,
+            qclass,
+        };
+        Ok((question, rest))
+    }
+}
+
+impl<'a, N: SplitMessageBytes<'a>> ParseMessageBytes<'a> for Question<N> {
+    fn parse_message_bytes(contents: &'a [u8], start: usize) -> Result<Question<N>, ParseError> {
+        let (question, end) = Question::split_message_bytes(contents, start)?;
+        if end == contents.len() {
+            Ok(question)
+        } else {
+            Err(ParseError)
+        }
+    }
+}
+
+impl<'a, N: SplitMessageBytes<'a>> SplitMessageBytes<'a> for Question<N> {
+    #[tactic(auto, unfolding(crate::specs::Questions::question_in))]
+    fn split_message_bytes(
+        contents: &'a [u8],
+        start: usize,
+    ) -> Result<(Question<N>, usize), ParseError> {
+        let (qname, at) = N::split_message_bytes(contents, start)?;
+        let (qtype, at) = QType::split_message_bytes(contents, at)?;
+        let (qclass, end) = QClass::split_message_bytes(contents, at)?;
+        let question = Question {
+            qname,
+            qtype,
+            qclass,
+        };
+        Ok((question, end))
+    }
+}

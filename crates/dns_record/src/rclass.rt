@@ -1,0 +1,98 @@
+//! Classes of records.
+
+ghost use Rattle.std.specs.Prelude.{◌≡◌, ℕ, [], ⊤};
+ghost use Rattle.std.specs.Int.{w16, to_be_bytes};
+ghost use Rattle.dns_wire.specs.Reading.{number, plain_at};
+
+use dns_num::U16;
+use dns_wire::{
+    BuildBytes, ParseBytes, ParseError, ParseMessageBytes, SplitBytes, SplitMessageBytes,
+    TruncationError, parse_without_compression, split_without_compression,
+};
+
+/// The class of a record: two octets on the wire (RFC 1035 section 3.2.4).
+#[derive(Clone, Copy, Debug, PartialEq, Eq, PartialOrd, Ord, Hash)]
+pub struct RClass {
+    /// The number.
+    pub code: U16,
+}
+
+impl RClass {
+    /// The internet (RFC 1035 section 3.2.4).
+    pub const IN: RClass = RClass {
+        code: U16 { value: 1 },
+    };
+
+    /// CHAOS (RFC 1035 section 3.2.4).
+    pub const CH: RClass = RClass {
+        code: U16 { value: 3 },
+    };
+}
+
+impl From<u16> for RClass {
+    ghost from_gives = { λ plain v. v.code.value ≡ plain };
+
+    fn from(value: u16) -> RClass {
+        RClass {
+            code: U16 { value },
+        }
+    }
+}
+
+impl From<RClass> for u16 {
+    ghost from_gives = { λ v plain. plain ≡ v.code.value };
+
+    fn from(value: RClass) -> u16 {
+        value.code.get()
+    }
+}
+
+impl<'a> ParseBytes<'a> for RClass {
+    ghost Seen = { ℕ };
+
+    ghost seen = { λ v. v.code.value };
+
+    ghost reads = { number w16 };
+
+    ghost reads_at = { plain_at (number w16) };
+
+    ghost labels = { λ _. [] };
+
+    fn parse_bytes(bytes: &'a [u8]) -> Result<RClass, ParseError> {
+        let code = U16::parse_bytes(bytes)?;
+        Ok(RClass { code })
+    }
+}
+
+impl<'a> SplitBytes<'a> for RClass {
+    fn split_bytes(bytes: &'a [u8]) -> Result<(RClass, &'a [u8]), ParseError> {
+        let (code, rest) = U16::split_bytes(bytes)?;
+        Ok((RClass { code }, rest))
+    }
+}
+
+impl<'a> ParseMessageBytes<'a> for RClass {
+    fn parse_message_bytes(contents: &'a [u8], start: usize) -> Result<RClass, ParseError> {
+        parse_without_compression(contents, start)
+    }
+}
+
+impl<'a> SplitMessageBytes<'a> for RClass {
+    fn split_message_bytes(contents: &'a [u8], start: usize) -> Result<(RClass, usize), ParseError> {
+        split_without_compression(contents, start)
+    }
+}
+
+impl BuildBytes for RClass {
+    ghost octets = { λ v. to_be_bytes w16 v.code.value };
+
+    ghost fits = { λ _. ⊤ };
+
+    fn build_at(&self, bytes: &mut [u8], start: usize) -> Result<usize, TruncationError> {
+        self.code.build_at(bytes, start)
+    }
+
+    fn built_bytes_size(&self) -> usize {
+        self.code.built_bytes_size()
+    }
+}

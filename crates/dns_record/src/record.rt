@@ -1,0 +1,189 @@
+//! Records.
+
+ghost use Rattle.std.specs.Prelude.{◌≡◌, ◌≤◌, [], length, IfOk};
+ghost use Rattle.std.specs.Fn.{FnOnceTakesAt, FnOnceReturnsAt};
+ghost use Rattle.dns_wire.specs.Reading.{Gives, octets};
+ghost use Rattle.dns_record.specs.Records.{RecordOf, record_at, record_in, SizedData, SizedDataIn};
+ghost use Rattle.dns_record.specs.Seen.{record_seen};
+
+use crate::rclass::RClass;
+use crate::record_data::{ParseRecordData, ParseRecordDataBytes};
+use crate::rtype::RType;
+use crate::ttl::TTL;
+use dns_num::U16;
+use dns_wire::{ParseBytes, ParseError, ParseMessageBytes, SplitBytes, SplitMessageBytes};
+
+/// A record: an owner, a type, a class, a time to live, and data (RFC 1035 section 4.1.3).
+#[derive(Clone, Debug, PartialEq, Eq, Hash, Drop)]
+pub struct Record<N, D> {
+    /// The owner.
+    pub rname: N,
+    /// The type.
+    pub rtype: RType,
+    /// The class.
+    pub rclass: RClass,
+    /// The time to live.
+    pub ttl: TTL,
+    /// The data.
+    pub rdata: D,
+}
+
+impl<N, D> Record<N, D> {
+    /// The record of these parts.
+    pub fn new(rname: N, rtype: RType, rclass: RClass, ttl: TTL, rdata: D) -> Record<N, D>
+        ensures { result ≡ record { rname = rname; rtype = rtype; rclass = rclass; ttl = ttl; rdata = rdata } }
+    {
+        Record {
+            rname,
+            rtype,
+            rclass,
+            ttl,
+            rdata,
+        }
+    }
+
+    /// The record with what the functions make of its owner and of its data.
+    pub fn transform<NN, ND, F: FnOnce(N) -> NN, G: FnOnce(D) -> ND>(
+        self,
+        name_map: F,
+        data_map: G,
+    ) -> Record<NN, ND>
+        requires name { F.pre name_map self.rname }
+        requires content { G.pre data_map self.rdata }
+        ensures name { F.post name_map self.rname result.rname }
+        ensures content { G.post data_map self.rdata result.rdata }
+        ensures kept { (result.rtype ≡ self.rtype) × (result.rclass ≡ self.rclass) × (result.ttl ≡ self.ttl) }
+    {
+        Record {
+            rname: name_map(self.rname),
+            rtype: self.rtype,
+            rclass: self.rclass,
+            ttl: self.ttl,
+            rdata: data_map(self.rdata),
+        }
+    }
+
+    /// The record with what the functions make of references to its owner and to its data.
+    pub fn transform_ref<'a, NN, ND, F: FnOnce(&'a N) -> NN, G: FnOnce(&'a D) -> ND>(
+        &'a self,
+        name_map: F,
+        data_map: G,
+    ) -> Record<NN, ND>
+        requires name { FnOnceTakesAt F.FnOnce name_map self.now.rname }
+        requires content { FnOnceTakesAt G.FnOnce data_map self.now.rdata }
+        ensures name { FnOnceReturnsAt F.FnOnce name_map self.now.rname result.rname }
+        ensures content { FnOnceReturnsAt G.FnOnce data_map self.now.rdata result.rdata }
+        ensures kept { (result.rtype ≡ self.now.rtype) × (result.rclass ≡ self.now.rclass) × (result.ttl ≡ self.now.ttl) }
+    {
+        Record {
+            rname: name_map(&self.rname),
+            rtype: self.rtype,
+            rclass: self.rclass,
+            ttl: self.ttl,
+            rdata: data_map(&self.rdata),
+        }
+    }
+}
+
+/// So many octets, and those behind them.
+fn split_octets(bytes: &[u8], size: usize) -> Result<(&[u8], &[u8]), ParseError>
+    ensures { Gives (λ x. (x.0.now, x.1.now)) result (octets size bytes.now) }
+{
+    if bytes.len() < size {
+        return Err(ParseError);
+    }
+    Ok(bytes.split_at(size))
+}
+
+impl<'a, N: SplitBytes<'a>, D: ParseRecordDataBytes<'a>> ParseBytes<'a> for Record<N, D> {
+    ghost Seen = { RecordOf N.Seen D.Seen };
+
+    ghost seen = { record_seen N.seen D.seen };
+
+    ghost reads = { record_at N.reads D.reads_as };
+
+    ghost reads_at = { record_in N.reads_at D.reads_in };
+
+    ghost labels = { λ _. [] };
+
+    fn parse_bytes(bytes: &'a [u8]) -> Result<Record<N, D>, ParseError> {
+        let (value, rest) = Record::split_bytes(bytes)?;
+        if rest.is_empty() {
+            Ok(value)
+        } else {
+            Err(ParseError)
+        }
+    }
+}
+
+impl<'a, N: SplitBytes<'a>, D: ParseRecordDataBytes<'a>> SplitBytes<'a> for Record<N, D> {
+    /// Reads the record at the front, and gives the octets behind it. `ParseError` comes exactly where none
+    /// stands there. The data are those that `D` reads from at most 65,535 octets.
+    #[tactic(auto, unfolding(crate::specs::Records::record_at))]
+    fn split_bytes(bytes: &'a [u8]) -> Result<(Record<N, D>, &'a [u8]), ParseError>
+        ensures exact { Gives (λ x. (record_seen N.seen D.seen x.0, x.1.now)) result (record_at N.reads D.reads_as bytes.now) }
+        ensures within { IfOk result (λ x. length x.1.now ≤ length bytes.now) }
+        ensures sized { IfOk result (λ x. SizedData D.reads_as (D.seen x.0.rdata) x.0.rtype.code.value) }
+    {
+        let (rname, rest) = N::split_bytes(bytes)?;
+        let (rtype, rest) = RType::split_bytes(rest)?;
+        let (rclass, rest) = RClass::split_bytes(rest)?;
+        let (ttl, rest) = TTL::split_bytes(rest)?;
+        let (size, rest) = U16::split_bytes(rest)?;
+        let (content, rest) = split_octets(rest, usize::from(size))?;
+        let rdata = D::parse_record_data_bytes(content, rtype)?;
+        let value = Record {
+            rname,
+            rtype,
+            rclass,
+            ttl,
+            rdata,
+        };
+        Ok((value, rest))
+    }
+}
+
+impl<'a, N: SplitMessageBytes<'a>, D: ParseRecordData<'a>> ParseMessageBytes<'a> for Record<N, D> {
+    fn parse_message_bytes(contents: &'a [u8], start: usize) -> Result<Record<N, D>, ParseError> {
+        let (value, end) = Record::split_message_bytes(contents, start)?;
+        if end == contents.len() {
+            Ok(value)
+        } else {
+            Err(ParseError)
+        }
+    }
+}
+
+impl<'a, N: SplitMessageBytes<'a>, D: ParseRecordData<'a>> SplitMessageBytes<'a> for Record<N, D> {
+    /// Reads the record at the place, and gives the place where it ends. `ParseError` comes exactly where
+    /// none stands there. The data are those that `D` reads from at most 65,535 octets, of which the last is
+    /// the record's last.
+    #[tactic(auto, unfolding(crate::specs::Records::record_in))]
+    fn split_message_bytes(
+        contents: &'a [u8],
+        start: usize,
+    ) -> Result<(Record<N, D>, usize), ParseError>
+        ensures exact { Gives (λ x. (record_seen N.seen D.seen x.0, x.1)) result (record_in N.reads_at D.reads_in contents.now start) }
+        ensures within { IfOk result (λ x. (start ≤ x.1) × (x.1 ≤ length contents.now)) }
+        ensures sized { IfOk result (λ x. SizedDataIn D.reads_in contents.now (D.seen x.0.rdata) x.0.rtype.code.value x.1) }
+    {
+        let (rname, at) = N::split_message_bytes(contents, start)?;
+        let (rtype, at) = RType::split_message_bytes(contents, at)?;
+        let (rclass, at) = RClass::split_message_bytes(contents, at)?;
+        let (ttl, at) = TTL::split_message_bytes(contents, at)?;
+        let (size, at) = U16::split_message_bytes(contents, at)?;
+        let end = at + usize::from(size);
+        if contents.len() < end {
+            return Err(ParseError);
+        }
+        let rdata = D::parse_record_data(&contents[..end], at, rtype)?;
+        let value = Record {
+            rname,
+            rtype,
+            rclass,
+            ttl,
+            rdata,
+        };
+        Ok((value, end))
+    }
+}

@@ -1,0 +1,35 @@
+//! Data of records, whose grammar depends on the type.
+
+ghost use Rattle.std.specs.Prelude.{◌≡◌, ℕ, List, Option};
+ghost use Rattle.dns_wire.specs.Reading.{Gives};
+
+use crate::rtype::RType;
+use dns_wire::ParseError;
+
+/// Data that are read for a type of record.
+pub trait ParseRecordDataBytes<'a>: Sized + Drop {
+    /// What is read: the value, without where it lies in memory.
+    ghost Seen: { Type 0 };
+
+    ghost seen: { Self → Seen };
+
+    /// The grammar, by the number of the type: what all the octets spell.
+    ghost reads_as: { ℕ → List ℕ → Option Seen };
+
+    /// The grammar in a message, by the number of the type: what stands from a place to the end of the
+    /// contents.
+    ghost reads_in: { ℕ → List ℕ → ℕ → Option Seen };
+
+    /// Reads the data that all the octets spell. `ParseError` comes exactly where they spell none of this
+    /// type.
+    fn parse_record_data_bytes(bytes: &'a [u8], rtype: RType) -> Result<Self, ParseError>
+        ensures { Gives seen result (reads_as rtype.code.value bytes.now) };
+}
+
+/// Data that are read in a message, whose contents may be pointed to.
+pub trait ParseRecordData<'a>: ParseRecordDataBytes<'a> {
+    /// Reads the data that stand from the place to the end of the contents. `ParseError` comes exactly
+    /// where none of this type do.
+    fn parse_record_data(contents: &'a [u8], start: usize, rtype: RType) -> Result<Self, ParseError>
+        ensures { Gives Self.seen result (Self.reads_in rtype.code.value contents.now start) };
+}

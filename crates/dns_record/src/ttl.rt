@@ -1,0 +1,95 @@
+//! Times to live.
+
+ghost use Rattle.std.specs.Prelude.{◌≡◌, ℕ, [], ⊤};
+ghost use Rattle.std.specs.Int.{w32, to_be_bytes};
+ghost use Rattle.dns_wire.specs.Reading.{number, plain_at};
+
+use dns_num::U32;
+use dns_wire::{
+    BuildBytes, ParseBytes, ParseError, ParseMessageBytes, SplitBytes, SplitMessageBytes,
+    TruncationError, parse_without_compression, split_without_compression,
+};
+
+/// For how many seconds a record may be kept: four octets on the wire (RFC 1035 section 3.2.1).
+#[derive(Clone, Copy, Debug, PartialEq, Eq, PartialOrd, Ord, Hash)]
+pub struct TTL {
+    /// The seconds.
+    pub value: U32,
+}
+
+impl TTL {
+    /// The seconds as a plain number.
+    pub fn as_secs(&self) -> u32
+        ensures { result ≡ self.now.value.value }
+    {
+        self.value.get()
+    }
+}
+
+impl From<u32> for TTL {
+    ghost from_gives = { λ plain v. v.value.value ≡ plain };
+
+    fn from(value: u32) -> TTL {
+        TTL {
+            value: U32 { value },
+        }
+    }
+}
+
+impl From<TTL> for u32 {
+    ghost from_gives = { λ v plain. plain ≡ v.value.value };
+
+    fn from(value: TTL) -> u32 {
+        value.value.get()
+    }
+}
+
+impl<'a> ParseBytes<'a> for TTL {
+    ghost Seen = { ℕ };
+
+    ghost seen = { λ v. v.value.value };
+
+    ghost reads = { number w32 };
+
+    ghost reads_at = { plain_at (number w32) };
+
+    ghost labels = { λ _. [] };
+
+    fn parse_bytes(bytes: &'a [u8]) -> Result<TTL, ParseError> {
+        let value = U32::parse_bytes(bytes)?;
+        Ok(TTL { value })
+    }
+}
+
+impl<'a> SplitBytes<'a> for TTL {
+    fn split_bytes(bytes: &'a [u8]) -> Result<(TTL, &'a [u8]), ParseError> {
+        let (value, rest) = U32::split_bytes(bytes)?;
+        Ok((TTL { value }, rest))
+    }
+}
+
+impl<'a> ParseMessageBytes<'a> for TTL {
+    fn parse_message_bytes(contents: &'a [u8], start: usize) -> Result<TTL, ParseError> {
+        parse_without_compression(contents, start)
+    }
+}
+
+impl<'a> SplitMessageBytes<'a> for TTL {
+    fn split_message_bytes(contents: &'a [u8], start: usize) -> Result<(TTL, usize), ParseError> {
+        split_without_compression(contents, start)
+    }
+}
+
+impl BuildBytes for TTL {
+    ghost octets = { λ v. to_be_bytes w32 v.value.value };
+
+    ghost fits = { λ _. ⊤ };
+
+    fn build_at(&self, bytes: &mut [u8], start: usize) -> Result<usize, TruncationError> {
+        self.value.build_at(bytes, start)
+    }
+
+    fn built_bytes_size(&self) -> usize {
+        self.value.built_bytes_size()
+    }
+}

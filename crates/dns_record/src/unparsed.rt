@@ -1,0 +1,77 @@
+//! Record data as they stand.
+
+ghost use Rattle.std.specs.Prelude.{◌≡◌, ◌≤◌, ◌<◌, ◌^◌, ℕ, List, length, ⊤};
+ghost use Rattle.std.proofs.Props.{props};
+ghost use Rattle.dns_record.specs.Unparsed.{few, few_in};
+
+use crate::record_data::{ParseRecordData, ParseRecordDataBytes};
+use crate::rtype::RType;
+use dns_wire::{BuildBytes, ParseError, TruncationError, put};
+
+/// The data of a record as they stand, whatever its type: at most 65,535 octets, which is what a record's
+/// size can say (RFC 1035 section 3.2.1). Pointers in them are octets like others.
+#[derive(Clone, Copy, Debug)]
+pub struct UnparsedRecordData<'a> {
+    octets: &'a [u8],
+    ghost short: { length octets.now < 2 ^ 16 },
+}
+
+impl<'a> UnparsedRecordData<'a> {
+    /// The octets.
+    pub fn octets(&self) -> &'a [u8]
+        ensures octets { result.now ≡ self.now.octets.now }
+        ensures short { length result.now < 2 ^ 16 }
+    {
+        self.octets
+    }
+}
+
+/// `ParseError` comes exactly above 65,535 octets.
+impl<'a> ParseRecordDataBytes<'a> for UnparsedRecordData<'a> {
+    ghost Seen = { List ℕ };
+
+    ghost seen = { λ v. v.octets.now };
+
+    ghost reads_as = { λ _ bytes. few bytes };
+
+    ghost reads_in = { λ _ contents at. few_in contents at };
+
+    fn parse_record_data_bytes(
+        bytes: &'a [u8],
+        _rtype: RType,
+    ) -> Result<UnparsedRecordData<'a>, ParseError> {
+        if bytes.len() > 65_535 {
+            return Err(ParseError);
+        }
+        Ok(UnparsedRecordData { octets: bytes })
+    }
+}
+
+/// `ParseError` comes exactly where more than 65,535 octets stand from the place on, and from a place
+/// behind the end.
+impl<'a> ParseRecordData<'a> for UnparsedRecordData<'a> {
+    fn parse_record_data(
+        contents: &'a [u8],
+        start: usize,
+        rtype: RType,
+    ) -> Result<UnparsedRecordData<'a>, ParseError> {
+        if contents.len() < start {
+            return Err(ParseError);
+        }
+        UnparsedRecordData::parse_record_data_bytes(&contents[start..], rtype)
+    }
+}
+
+impl BuildBytes for UnparsedRecordData<'_> {
+    ghost octets = { λ v. v.octets.now };
+
+    ghost fits = { λ _. ⊤ };
+
+    fn build_at(&self, bytes: &mut [u8], start: usize) -> Result<usize, TruncationError> {
+        put(self.octets(), bytes, start)
+    }
+
+    fn built_bytes_size(&self) -> usize {
+        self.octets().len()
+    }
+}
