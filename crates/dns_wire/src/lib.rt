@@ -10,7 +10,6 @@ mod compression;
 mod compressor;
 mod error;
 mod follow;
-mod holders;
 mod in_message;
 mod laws;
 mod list;
