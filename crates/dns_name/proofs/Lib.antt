@@ -1,4 +1,5 @@
 -- The crate's own lemmas.
 pub mod Followed
+pub mod Labelled
 pub mod Ordered
 pub mod Sameness

@@ -1,33 +1,16 @@
 //! The order of names: by labels from the root on, each by its lowered octets (RFC 4034 section 6.1).
 
 ghost use Rattle.std.specs.Prelude.{◌≡◌, ◌≤◌, length, drop};
-ghost use Rattle.std.specs.Str.{str_to_ascii_lowercase};
 ghost use Rattle.std.proofs.Common.{rules};
 ghost use Rattle.std.specs.Cmp.{partial_order_from_own_ties};
 ghost use Rattle.std.specs.Cmp.Rules.{comparing};
-ghost use Rattle.std.specs.Cmp.Lexicographic.{slice_cmp};
-ghost use Rattle.std.specs.Ordering.{nat_cmp, on, as_partial_cmp, eq_by_cmp, ordering_then};
+ghost use Rattle.std.specs.Ordering.{on, as_partial_cmp, eq_by_cmp, ordering_then};
 ghost use Rattle.dns_wire.specs.Names.{labels_of};
 ghost use Rattle.dns_name.specs.Order.{key, key_of, key_cmp};
 
 use crate::name::Name;
 use crate::name_buf::NameBuf;
 use std::cmp::Ordering;
-
-/// The order of two labels by their lowered octets; a proper prefix comes first.
-fn compare_labels(a: &[u8], b: &[u8]) -> Ordering
-    ensures { result ≡ slice_cmp nat_cmp (str_to_ascii_lowercase a.now) (str_to_ascii_lowercase b.now) }
-{
-    let mut at = 0;
-    while at < a.len() && at < b.len() {
-        let order = a[at].to_ascii_lowercase().cmp(&b[at].to_ascii_lowercase());
-        if order.is_ne() {
-            return order;
-        }
-        at += 1;
-    }
-    a.len().cmp(&b.len())
-}
 
 /// How many labels a name has, without the root's.
 fn count_labels(name: Name<'_>) -> usize
@@ -71,7 +54,7 @@ fn compare_aligned(a: Name<'_>, b: Name<'_>, ahead: Ordering) -> Ordering
         let Some((other, last)) = right.split_first() else {
             return order;
         };
-        order = compare_labels(label, other).then(order);
+        order = label.cmp(&other).then(order);
         left = next;
         right = last;
     }
