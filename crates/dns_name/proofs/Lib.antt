@@ -1,5 +1,6 @@
 -- The crate's own lemmas.
 pub mod Followed
+pub mod Labelled
 pub mod Ordered
 pub mod Preceding
 pub mod Sameness

@@ -1,10 +1,12 @@
 //! A name as a view over its octets.
 
-ghost use Rattle.std.specs.Prelude.{◌≡◌, ◌≤◌, ◌<◌, ◌^◌, ◌↔◌, ℕ, List, [], ◌∷◌, length, Option, Some, IfOk, IsTrue, MatchOption};
+ghost use Rattle.std.specs.Prelude.{◌≡◌, ◌≤◌, ◌<◌, ◌^◌, ◌↔◌, ℕ, List, [], ◌∷◌, ◌++◌, length, Option, Some, IfOk, IsTrue, MatchOption};
 ghost use Rattle.std.proofs.Props.{props};
 ghost use Rattle.dns_wire.specs.Reading.{Gives, all_of, plain_at};
 ghost use Rattle.dns_wire.specs.Names.{plain_name, labels_of, wire};
+ghost use Rattle.dns_label.specs.Labels.{contents_of};
 
+use dns_label::{Label, LabelIter};
 use dns_wire::{BuildBytes, ParseBytes, ParseError, SplitBytes, TruncationError, put};
 
 /// A name without pointers: labels of 1 to 63 octets, each behind its length, and the root's length 0,
@@ -53,18 +55,25 @@ impl<'a> Name<'a> {
         self.slice
     }
 
+    /// The labels in order, the root's last, at most 128 in all.
+    pub fn labels(&self) -> LabelIter<'a>
+        ensures labels { result ≡ labels_of self.now.slice.now ++ [] ∷ [] }
+        ensures few { length result ≤ 128 }
+    {
+        LabelIter::new(self.as_bytes())
+    }
+
     /// The first label, and the name behind it; none where the name is the root.
-    pub(crate) fn split_first(&self) -> Option<(&'a [u8], Name<'a>)>
+    pub(crate) fn split_first(&self) -> Option<(Label<'a>, Name<'a>)>
         ensures { MatchOption result (labels_of self.now.slice.now ≡ [])
-            (λ x. labels_of self.now.slice.now ≡ x.0.now ∷ labels_of x.1.slice.now) }
+            (λ x. labels_of self.now.slice.now ≡ contents_of x.0.slice.now ∷ labels_of x.1.slice.now) }
     {
         let size = self.slice[0] as usize;
         if size == 0 {
             return None;
         }
-        let (_head, behind) = self.slice.split_at(1);
-        let (label, rest) = behind.split_at(size);
-        Some((label, Name { slice: rest }))
+        let (label, rest) = self.slice.split_at(1 + size);
+        Some((Label { slice: label }, Name { slice: rest }))
     }
 }
 

@@ -1,12 +1,10 @@
 //! The order of names: by labels from the root on, each by its lowered octets (RFC 4034 section 6.1).
 
 ghost use Rattle.std.specs.Prelude.{◌≡◌, ◌≤◌, length, drop};
-ghost use Rattle.std.specs.Str.{str_to_ascii_lowercase};
 ghost use Rattle.std.proofs.Common.{rules};
 ghost use Rattle.std.specs.Cmp.{partial_order_from_own_ties};
 ghost use Rattle.std.specs.Cmp.Rules.{comparing};
-ghost use Rattle.std.specs.Cmp.Lexicographic.{slice_cmp};
-ghost use Rattle.std.specs.Ordering.{nat_cmp, on, as_partial_cmp, eq_by_cmp, ordering_then};
+ghost use Rattle.std.specs.Ordering.{on, as_partial_cmp, eq_by_cmp, ordering_then};
 ghost use Rattle.dns_wire.specs.Names.{labels_of};
 ghost use Rattle.dns_name.specs.Order.{key, key_of, key_cmp};
 
@@ -14,6 +12,7 @@ use crate::name::Name;
 use crate::name_buf::NameBuf;
 use std::cmp::Ordering;
 
+<<<<<<< HEAD
 /// The order of two labels by their lowered octets; a proper prefix comes first.
 pub(crate) fn compare_labels(a: &[u8], b: &[u8]) -> Ordering
     ensures { result ≡ slice_cmp nat_cmp (str_to_ascii_lowercase a.now) (str_to_ascii_lowercase b.now) }
@@ -29,6 +28,8 @@ pub(crate) fn compare_labels(a: &[u8], b: &[u8]) -> Ordering
     a.len().cmp(&b.len())
 }
 
+=======
+>>>>>>> 7548449f6ab9caa42714eb56e331a6a8f46e2292
 /// How many labels a name has, without the root's.
 fn count_labels(name: Name<'_>) -> usize
     ensures { result ≡ length (labels_of name.entry.slice.now) }
@@ -71,7 +72,7 @@ fn compare_aligned(a: Name<'_>, b: Name<'_>, ahead: Ordering) -> Ordering
         let Some((other, last)) = right.split_first() else {
             return order;
         };
-        order = compare_labels(label, other).then(order);
+        order = label.cmp(&other).then(order);
         left = next;
         right = last;
     }

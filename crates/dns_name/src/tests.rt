@@ -105,6 +105,22 @@ fn compares_labels_from_the_root_on(rt: HostRuntime) -> Result<(), Fail> {
     Ok(())
 }
 
+/// The root's label is the last.
+#[test]
+fn goes_over_labels(rt: HostRuntime) -> Result<(), Fail> {
+    let name = NameBuf::parse_bytes(b"\x03www\x07Example\0")?;
+    let expected: [&[u8]; 3] = [b"www", b"Example", b""];
+    let mut labels = name.as_name().labels();
+    for contents in expected {
+        let label = labels.next().ok_or("no label")?;
+        assert_eq!(rt; label.contents(), contents);
+    }
+    assert!(rt; labels.next().is_none());
+    assert_eq!(rt; name.as_name().labels().count(), 3);
+    assert_eq!(rt; Name::root().labels().count(), 1);
+    Ok(())
+}
+
 #[test]
 fn owns_names(rt: HostRuntime) -> Result<(), Fail> {
     let (name, rest) = NameBuf::split_bytes(b"\x03www\x07Example\0rest")?;
