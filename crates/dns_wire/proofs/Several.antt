@@ -1,5 +1,5 @@
 -- The octets of a list of values, value by value.
-use Rattle.std.proofs.Common.{◌≡◌, ℕ, ◌+◌, ◌<◌, ◌≤◌, List, [], ◌∷◌, ◌++◌, length, take, get_or, Result, Err, sym, ap, ◌∙◌, arith}
+use Rattle.std.proofs.Common.{◌≡◌, ℕ, ◌+◌, ◌<◌, ◌≤◌, List, [], ◌∷◌, ◌++◌, length, take, get_or, Result, Ok, Err, refl, sym, ap, ◌∙◌, arith}
 use Rattle.std.specs.List.{flat_map}
 use Rattle.std.proofs.lemmas.List.{take_more, flat_map_more}
 use Rattle.std.proofs.lemmas.List.Folds.{length-flat_map-take}
@@ -23,3 +23,15 @@ refused_later {a = a} {b} {whole} {first} {second} {third} {start} {middle} s t 
   ok = tt;
   err = (kept_front first second third a start middle s t.err.0, t.err.1 ∙ stands_long s, λ f. omega (arith, t.err.2 (all f), s.end_is, stands_long s));
 }
+
+-- a list of octets stands as it is
+pub themselves : (bytes : List ℕ) → flat_map (λ b. b ∷ []) bytes ≡ bytes
+themselves [] = refl
+themselves (b ∷ bytes) = ap (λ (rest : List ℕ). b ∷ rest) (themselves bytes)
+
+-- the same octets, which fit where the others do
+pub builds_alike : {E F G : Type 0} {a b old new : List ℕ} {start : ℕ} {result : Result ℕ E} → (F → G) → (G → F) → a ≡ b → Builds F a old start new result → Builds G b old start new result
+builds_alike {old = old} {new} {start} {result = Ok end} there back same s =
+    record { ok = (there s.ok.0, rw (← same) s.ok.1); err = tt }
+builds_alike {old = old} {new} {start} {result = Err e} there back same s =
+    record { ok = tt; err = (s.err.0, s.err.1, λ g. rw (← same) (s.err.2 (back g))) }

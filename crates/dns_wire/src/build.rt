@@ -1,6 +1,7 @@
 //! Writing values as octets.
 
-ghost use Rattle.std.specs.Prelude.{◌≡◌, ℕ, ◌≤◌, ◌<◌, ◌^◌, List, [], ◌∷◌, length, drop, IfOk, OnOk, OnErr, ⊤};
+ghost use Rattle.std.specs.Prelude.{◌≡◌, ℕ, ◌≤◌, ◌<◌, ◌^◌, List, [], ◌∷◌, length, drop, IfOk, OnOk, OnErr, All, ⊤};
+ghost use Rattle.std.specs.List.{flat_map};
 ghost use Rattle.std.specs.Borrow.{sem};
 ghost use Rattle.dns_wire.specs.Building.{Builds, LendsRest};
 
@@ -25,6 +26,25 @@ pub trait BuildBytes {
     fn built_bytes_size(&self) -> usize
         requires { length (octets self.now) < 2 ^ 64 }
         ensures { result ≡ length (octets self.now) };
+
+    /// Writes the values one after another at a place of the buffer, and gives the place where they end.
+    /// After `TruncationError` the octets before `start` are as before.
+    fn build_all_at(
+        values: &[Self],
+        bytes: &mut [u8],
+        start: usize,
+    ) -> Result<usize, TruncationError>
+    where
+        Self: Sized,
+        requires { start ≤ length bytes.old }
+        ensures { Builds (All fits values.now) (flat_map octets values.now) bytes.old start bytes.new result }
+    {
+        let mut end = start;
+        for value in values {
+            end = value.build_at(bytes, end)?;
+        }
+        Ok(end)
+    }
 
     /// Writes the value's octets to the beginning of the buffer. What is behind them is lent back as it
     /// was. `TruncationError` comes exactly where the value does not fit; what the buffer holds then is
@@ -68,5 +88,14 @@ impl BuildBytes for u8 {
 
     fn built_bytes_size(&self) -> usize {
         1
+    }
+
+    /// Writes all the octets by one copy.
+    fn build_all_at(
+        values: &[u8],
+        bytes: &mut [u8],
+        start: usize,
+    ) -> Result<usize, TruncationError> {
+        put(values, bytes, start)
     }
 }

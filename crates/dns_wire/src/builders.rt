@@ -68,22 +68,6 @@ impl<T: BuildBytes> BuildBytes for Rc<T> {
     }
 }
 
-/// Writes the values one after another at a place of the buffer, and gives the place where they end.
-fn put_all<T: BuildBytes>(
-    values: &[T],
-    bytes: &mut [u8],
-    start: usize,
-) -> Result<usize, TruncationError>
-    requires { start ≤ length bytes.old }
-    ensures { Builds (All T.fits values.now) (flat_map T.octets values.now) bytes.old start bytes.new result }
-{
-    let mut end = start;
-    for value in values {
-        end = value.build_at(bytes, end)?;
-    }
-    Ok(end)
-}
-
 /// The number of octets of all the values.
 fn size_of_all<T: BuildBytes>(values: &[T]) -> usize
     requires { length (flat_map T.octets values.now) < 2 ^ 64 }
@@ -103,7 +87,7 @@ impl<T: BuildBytes> BuildBytes for &[T] {
     ghost fits = { λ v. All T.fits v.now };
 
     fn build_at(&self, bytes: &mut [u8], start: usize) -> Result<usize, TruncationError> {
-        put_all(self, bytes, start)
+        T::build_all_at(self, bytes, start)
     }
 
     fn built_bytes_size(&self) -> usize {
@@ -118,7 +102,7 @@ impl<T: BuildBytes, const N: usize> BuildBytes for [T; N] {
     ghost fits = { λ v. All T.fits v };
 
     fn build_at(&self, bytes: &mut [u8], start: usize) -> Result<usize, TruncationError> {
-        put_all(self, bytes, start)
+        T::build_all_at(self, bytes, start)
     }
 
     fn built_bytes_size(&self) -> usize {
@@ -133,7 +117,7 @@ impl<T: BuildBytes> BuildBytes for Vec<T> {
     ghost fits = { λ v. All T.fits v.items };
 
     fn build_at(&self, bytes: &mut [u8], start: usize) -> Result<usize, TruncationError> {
-        put_all(self.as_slice(), bytes, start)
+        T::build_all_at(self.as_slice(), bytes, start)
     }
 
     fn built_bytes_size(&self) -> usize {

@@ -1,6 +1,6 @@
 //! The definitions of this crate in other words.
 
-ghost use Rattle.std.specs.Prelude.{◌≡◌, ◌≤◌, ◌<◌, ◌+◌, ◌++◌, ℕ, List, Some, length, flat_map};
+ghost use Rattle.std.specs.Prelude.{◌≡◌, ◌≤◌, ◌<◌, ◌+◌, ◌++◌, ℕ, List, [], ◌∷◌, Some, length, flat_map};
 ghost use Rattle.dns_wire.specs.Hexadecimal.{spelled, shown};
 ghost use Rattle.dns_wire.specs.Names.{IsName, wire, plain_name};
 ghost use Rattle.dns_wire.specs.Pointers.{Segment, NameAt, head_count, name_at};
@@ -60,4 +60,9 @@ pub fn added_octets()
 /// What is written in hexadecimal is read back (RFC 4648 section 8).
 pub fn hexadecimal_text()
     ensures { (octets : List ℕ) → AreOctets octets → spelled (flat_map shown octets) ≡ Some octets }
+{}
+
+/// A list of octets is written as these octets.
+pub fn lists_of_octets()
+    ensures { (bytes : List ℕ) → flat_map (λ b. b ∷ []) bytes ≡ bytes }
 {}

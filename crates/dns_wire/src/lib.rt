@@ -29,8 +29,8 @@ pub use error::{ParseError, TruncationError};
 pub use follow::{Head, read_head};
 pub use in_message::BuildInMessage;
 pub use laws::{
-    added_octets, hexadecimal_text, names_follow_pointers, plain_names, pointed_names,
-    pointers_lead_back,
+    added_octets, hexadecimal_text, lists_of_octets, names_follow_pointers, plain_names,
+    pointed_names, pointers_lead_back,
 };
 pub use list::{ListError, split_list};
 pub use memory::{NullSink, PlainSource, TextSink, TextSource};

@@ -1,5 +1,8 @@
 //! Each public call once, and the devices where a call fails in mid-stream.
 
+mod builders;
+mod lists;
+
 use crate::{
     BuildBytes, Failed, Head, NullSink, ParseBytes, ParseError, ParseMessageBytes, PlainSource,
     ReadSource, Sink, Source, SplitBytes, SplitMessageBytes, TextSink, TextSource, TruncationError,

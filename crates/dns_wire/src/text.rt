@@ -1,7 +1,8 @@
 //! Reading and writing text.
 
-ghost use Rattle.std.specs.Prelude.{ℕ, List, [], ⊤};
-ghost use Rattle.dns_wire.specs.Reading.{plain_at};
+ghost use Rattle.std.specs.Prelude.{◌↔◌, ℕ, List, [], IsOk, ⊤};
+ghost use Rattle.std.specs.Str.{IsUtf8};
+ghost use Rattle.dns_wire.specs.Reading.{Gives, all_of, plain_at};
 ghost use Rattle.dns_wire.specs.Texts.{text};
 
 use crate::build::{BuildBytes, put};
@@ -20,7 +21,12 @@ impl<'a> ParseBytes<'a> for &'a str {
 
     ghost labels = { λ _. [] };
 
-    fn parse_bytes(bytes: &'a [u8]) -> Result<&'a str, ParseError> {
+    /// Reads the text that all the octets are. `ParseError` comes exactly where they are not UTF-8
+    /// (RFC 3629 section 4).
+    fn parse_bytes(bytes: &'a [u8]) -> Result<&'a str, ParseError>
+        ensures exact { Gives (λ v. v.now) result (all_of (text bytes.now)) }
+        ensures utf8 { IsOk result ↔ IsUtf8 bytes.now }
+    {
         match str::from_utf8(bytes) {
             Ok(text) => Ok(text),
             Err(_) => Err(ParseError),

@@ -9,5 +9,5 @@ built_bytes_size-size-requires g c =
 
 pub overflow_add-size : goal.overflow_add-size
 overflow_add-size g c = record {
-  fits = omega (arith, no_longer c.args.values.now c.loop-value.value-index c.value-item.result c.loop-value-test.true c.value-item.is g.T.BuildBytes.octets)
+  fits = omega (arith, no_longer c.args.values.now c.loop-value.value-index c.value-item.result c.loop-value-test.true c.value-item.is g.T.BuildBytes.octets);
 }
