@@ -2,6 +2,7 @@
 #![tactic(auto)]
 
 mod hash;
+mod in_message;
 mod name;
 mod name_buf;
 mod order;

@@ -6,6 +6,8 @@ use std::cmp::Ordering;
 use std::hash::{DefaultHasher, Hash, Hasher};
 use std::test::Fail;
 
+mod in_message;
+
 #[test]
 fn reads_and_writes_names(rt: HostRuntime) -> Result<(), Fail> {
     let (name, rest) = Name::split_bytes(b"\x03www\x07Example\x00rest")?;
