@@ -49,9 +49,15 @@ module _ (first second : Pressing) (first_fits second_fits : List ℕ → List �
   both_built new after end t =
       let u = seen t in
       record {
-        accepted = (f, u.accepted); stands = stands_then s u.stands; after_is = u.after_is;
-        grows = grows_then (omega (arith, s.end_is)) g u.grows; leads = u.leads;
-        refused = tt; front = tt; size = tt; kept = tt;
+        accepted = (f, u.accepted);
+        stands = stands_then s u.stands;
+        after_is = u.after_is;
+        grows = grows_then (omega (arith, s.end_is)) g u.grows;
+        leads = u.leads;
+        refused = tt;
+        front = tt;
+        size = tt;
+        kept = tt;
       }
 
   -- the places of the first one are taken back where the second one is refused
@@ -59,18 +65,13 @@ module _ (first second : Pressing) (first_fits second_fits : List ℕ → List �
   both_refused new after back e d back_is t =
       let u = seen t in
       record {
-        accepted = tt; stands = tt; after_is = tt; grows = tt; leads = tt;
+        accepted = tt;
+        stands = tt;
+        after_is = tt;
+        grows = tt;
+        leads = tt;
         refused = λ h. omega (arith, u.refused h.1, s.end_is, stands_long s, length-append (first (take start old) places).0 (second (take start old ++ (first (take start old) places).0) (first (take start old) places).1).0);
         front = kept_front old middle_old new _ start middle s u.front;
         size = u.size ∙ stands_long s;
         kept = back_is ∙ ap (take (length places)) (u.kept ∙ g.after_is) ∙ take_at places g.added (length places) refl;
       }
-
--- where the first one is refused, the second is not tried
-pub first_refused : {E F : Type 0} (first second : Pressing) (first_fits second_fits : List ℕ → List ℕ → Type 0) (old new places after : List ℕ) (start : ℕ) (e : E) (d : F) → BuildsIn (first_fits (take start old) places) (first (take start old) places) old start places new after (Err e) → BuildsIn (then_fits first_fits first second_fits (take start old) places) (then_presses first second (take start old) places) old start places new after (Err d)
-first_refused first second first_fits second_fits old new places after start e d t =
-    record {
-      accepted = tt; stands = tt; after_is = tt; grows = tt; leads = tt;
-      refused = λ h. omega (arith, t.refused h.0, length-append (first (take start old) places).0 (second (take start old ++ (first (take start old) places).0) (first (take start old) places).1).0);
-      front = t.front; size = t.size; kept = t.kept;
-    }

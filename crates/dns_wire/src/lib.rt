@@ -18,7 +18,7 @@ mod suffix;
 
 pub use adapters::{ReadSource, WriteSink};
 pub use build::{BuildBytes, put};
-pub use compression::{longest_suffixes, pressed_names};
+pub use compression::{longest_suffixes, pressed_names, pressed_names_are_read};
 pub use compressor::NameCompressor;
 pub use error::{ParseError, TruncationError};
 pub use follow::{Head, read_head};
