@@ -3,6 +3,7 @@
 
 mod canonical_name;
 mod hash;
+mod in_message;
 mod laws;
 mod name;
 mod name_buf;

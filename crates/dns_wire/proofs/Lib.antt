@@ -10,6 +10,7 @@ pub mod Lowered
 pub mod Matching
 pub mod Noting
 pub mod Parts
+pub mod Rereading
 pub mod Rising
 pub mod Runs
 pub mod Several

@@ -6,31 +6,25 @@ use Rattle.std.specs.List.{AllByRecursion}
 use Rattle.std.proofs.lemmas.List.{length-append}
 use Rattle.std.proofs.lemmas.List.Elements.{Contains-append_right, Contains-append_cases, All-contains, All-from_recursion}
 use Rattle.std.proofs.lemmas.Option.{some_pair_parts}
-use Rattle.dns_wire.specs.Compression.{reads_as, stands_at, or_shorter, longest_kept, KeptSuffix, LongestKept}
-use Rattle.dns_wire.specs.Names.{heads, lowered}
-use Rattle.dns_wire.specs.Pointers.{NameAt, name_at}
+use Rattle.dns_wire.specs.Compression.{reads_as, stands_at, or_shorter, longest_kept, ReadsAlike, KeptSuffix, LongestKept}
+use Rattle.dns_wire.specs.Names.{heads}
+use Rattle.dns_wire.specs.Pointers.{name_at}
 use Rattle.dns_wire.proofs.Alike.{Found, alike_lowered, lowered_alike}
 use Rattle.dns_wire.proofs.Following.{name_at_is, name_at_finds}
 use Rattle.dns_wire.proofs.Rising.{Rises, rises_all, strict_rises}
 
 -- ---- a name at a place
 
-pub record StandsAt (contents : List ℕ) (labels : List (List ℕ)) (place : ℕ) : Type 0 where
-  pub there : List (List ℕ)
-  pub end : ℕ
-  pub reads : NameAt contents place there end
-  pub alike : lowered there ≡ lowered labels
-
-pub stood : (contents : List ℕ) (labels : List (List ℕ)) (place : ℕ) → stands_at contents labels place ≡ true → StandsAt contents labels place
+pub stood : (contents : List ℕ) (labels : List (List ℕ)) (place : ℕ) → stands_at contents labels place ≡ true → (end : ℕ) × ReadsAlike contents labels place end
 unfolding stands_at
 stood contents labels place e = by (name_at contents place) refl e where
-  by : (read : Found) → name_at contents place ≡ read → reads_as labels read ≡ true → StandsAt contents labels place
+  by : (read : Found) → name_at contents place ≡ read → reads_as labels read ≡ true → (end : ℕ) × ReadsAlike contents labels place end
   by None is e = absurd cc
-  by (Some (there, end)) is e = record { there = there; end = end; reads = name_at_is contents place there end is; alike = alike_lowered labels there e }
+  by (Some (there, end)) is e = (end, record { there = there; name = name_at_is contents place there end is; alike = alike_lowered labels there e })
 
-pub stands : (contents : List ℕ) (labels there : List (List ℕ)) (place end : ℕ) → NameAt contents place there end → lowered there ≡ lowered labels → stands_at contents labels place ≡ true
+pub stands : (contents : List ℕ) (labels : List (List ℕ)) (place end : ℕ) → ReadsAlike contents labels place end → stands_at contents labels place ≡ true
 unfolding stands_at
-stands contents labels there place end reads alike = ap (reads_as labels) (name_at_finds contents place there end reads) ∙ lowered_alike labels there alike
+stands contents labels place end reads = ap (reads_as labels) (name_at_finds contents place reads.there end reads.name) ∙ lowered_alike labels reads.there reads.alike
 
 -- ---- the first place that passes a test
 
@@ -85,7 +79,7 @@ module _ (contents places : List ℕ) where
   whole_suffix : (label : List ℕ) (labels : List (List ℕ)) (place : ℕ) → Contains places place → stands_at contents (label ∷ labels) place ≡ true → Kept (label ∷ labels) 0 place
   whole_suffix label labels place kept is =
       let s = stood contents (label ∷ labels) place is in
-      record { before = []; suffix = label ∷ labels; labels_is = refl; some = omega arith; front_is = refl; kept = kept; there = s.there; end = s.end; reads = s.reads; alike = s.alike }
+      record { before = []; suffix = label ∷ labels; labels_is = refl; some = omega arith; front_is = refl; kept = kept; end = s.0; reads = s.1 }
 
   later_suffix : (label : List ℕ) (labels : List (List ℕ)) (front place : ℕ) → Kept labels front place → Kept (label ∷ labels) (1 + length label + front) place
   later_suffix label labels front place k =
@@ -96,10 +90,8 @@ module _ (contents places : List ℕ) where
         some = k.some;
         front_is = omega (arith, k.front_is, length-append label (heads k.before));
         kept = k.kept;
-        there = k.there;
         end = k.end;
         reads = k.reads;
-        alike = k.alike;
       }
 
   -- a suffix is all labels, or a suffix of those behind the first
@@ -116,14 +108,14 @@ module _ (contents places : List ℕ) where
   parted : (label : List ℕ) (labels : List (List ℕ)) (front place : ℕ) → Kept (label ∷ labels) front place → Whole label labels front place ⊎ Later label labels front place
   parted label labels front place k = by k.before k.labels_is k.front_is where
     by : (before : List (List ℕ)) → label ∷ labels ≡ before ++ k.suffix → front ≡ length (heads before) → Whole label labels front place ⊎ Later label labels front place
-    by [] labels_is front_is = inl (record { at_front = front_is; there = k.kept; passes = ap (λ (l : List (List ℕ)). stands_at contents l place) labels_is ∙ stands contents k.suffix k.there place k.end k.reads k.alike })
+    by [] labels_is front_is = inl (record { at_front = front_is; there = k.kept; passes = ap (λ (l : List (List ℕ)). stands_at contents l place) labels_is ∙ stands contents k.suffix place k.end k.reads })
     by (first ∷ before) labels_is front_is =
         let same : label ≡ first = cc in
         let others : labels ≡ before ++ k.suffix = cc in
         inr (record {
           behind = length (heads before);
           front_is = omega (arith, front_is, length-append first (heads before), ap length same);
-          later = record { before = before; suffix = k.suffix; labels_is = others; some = k.some; front_is = refl; kept = k.kept; there = k.there; end = k.end; reads = k.reads; alike = k.alike };
+          later = record { before = before; suffix = k.suffix; labels_is = others; some = k.some; front_is = refl; kept = k.kept; end = k.end; reads = k.reads };
         })
 
   no_suffix : (front place : ℕ) → Kept [] front place → ⊥

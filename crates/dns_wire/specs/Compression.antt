@@ -38,6 +38,12 @@ longest_kept contents places front (label ∷ labels) =
 
 -- ---- the same in words
 
+-- the name at the place is these labels, ASCII case aside, and what stands there ends at end
+pub record ReadsAlike (contents : List ℕ) (labels : List (List ℕ)) (at end : ℕ) : Type 0 where
+  pub there : List (List ℕ)
+  pub name : NameAt contents at there end
+  pub alike : lowered there ≡ lowered labels
+
 -- a suffix of at least one label, which begins behind so many octets, is the name at a kept place, ASCII case aside
 pub record KeptSuffix (contents places : List ℕ) (labels : List (List ℕ)) (front place : ℕ) : Type 0 where
   pub before : List (List ℕ)
@@ -46,10 +52,8 @@ pub record KeptSuffix (contents places : List ℕ) (labels : List (List ℕ)) (f
   pub some : 0 < length suffix
   pub front_is : front ≡ length (heads before)
   pub kept : Contains places place
-  pub there : List (List ℕ)
   pub end : ℕ
-  pub reads : NameAt contents place there end
-  pub alike : lowered there ≡ lowered suffix
+  pub reads : ReadsAlike contents suffix place end
 
 -- no longer suffix is at any kept place, and this one at no smaller
 pub record LongestKept (contents places : List ℕ) (labels : List (List ℕ)) (front place : ℕ) : Type 0 where

@@ -1,8 +1,8 @@
 -- What it means that a value is written in a message, whatever the type. Contents are the octets behind the header, and
 -- end where writing begins. Places are those of names that are known.
-use Rattle.std.specs.Prelude.{◌≡◌, ℕ, ◌+◌, ◌<◌, List, length, take, Result, IfOk, OnOk, OnErr}
+use Rattle.std.specs.Prelude.{◌≡◌, ℕ, ◌+◌, ◌<◌, List, ◌++◌, length, take, Result, IfOk, OnOk, OnErr}
 use Rattle.dns_wire.specs.Building.{Stands}
-use Rattle.dns_wire.specs.Compression.{FitsIn, Grows}
+use Rattle.dns_wire.specs.Compression.{FitsIn, Grows, Pressing}
 
 -- What a building call in a message does, where these octets are to be written, and these are the places afterwards. It
 -- is accepted exactly where all prefixed data fit and the octets are at most the free ones. Then they stand from start
@@ -18,3 +18,8 @@ pub record BuildsIn {E : Type 0} (fits : Type 0) (pressed : List ℕ × List ℕ
   pub front : OnErr result (take start new ≡ take start old)
   pub size : OnErr result (length new ≡ length old)
   pub kept : OnErr result (after ≡ places)
+
+-- two values fit, one behind the other: the second one sees the octets of the first, and the places after it
+abbrev pub then_fits : (List ℕ → List ℕ → Type 0) → Pressing → (List ℕ → List ℕ → Type 0) → List ℕ → List ℕ → Type 0
+then_fits first presses second contents places =
+    first contents places × second (contents ++ (presses contents places).0) (presses contents places).1

@@ -31,3 +31,9 @@ laid (piece ∷ pieces) contents places = then_presses (piece_presses piece) (la
 abbrev pub IsTold : Option (List Piece) → Pressing → Type 0
 IsTold None presses = ⊤
 IsTold (Some pieces) presses = (contents places : List ℕ) → presses contents places ≡ laid pieces contents places
+
+-- the pieces of one value and then of another, where both are told
+abbrev pub both_told : Option (List Piece) → Option (List Piece) → Option (List Piece)
+both_told None others = None
+both_told (Some pieces) None = None
+both_told (Some pieces) (Some others) = Some (pieces ++ others)

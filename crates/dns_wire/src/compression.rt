@@ -1,9 +1,9 @@
 //! What a name shares with the names before it, in other words than its definitions.
 
-ghost use Rattle.std.specs.Prelude.{◌≡◌, ◌+◌, ◌++◌, ℕ, List, Some, None, take};
+ghost use Rattle.std.specs.Prelude.{◌≡◌, ◌+◌, ◌++◌, ℕ, List, Some, None, length, take};
 ghost use Rattle.std.specs.Int.{w16, to_be_bytes};
-ghost use Rattle.dns_wire.specs.Compression.{longest_kept, KeptSuffix, LongestKept, ArePlaces, press};
-ghost use Rattle.dns_wire.specs.Names.{wire};
+ghost use Rattle.dns_wire.specs.Compression.{longest_kept, ReadsAlike, KeptSuffix, LongestKept, ArePlaces, FitsIn, press};
+ghost use Rattle.dns_wire.specs.Names.{IsName, wire};
 
 /// What is found is the longest suffix that is the name at a kept place, ASCII case aside, and the smallest
 /// such place; and nothing exactly where no suffix is kept (RFC 1035 section 4.1.4).
@@ -26,4 +26,11 @@ pub fn pressed_names()
     ensures cut { (contents places : List ℕ) (labels : List (List ℕ)) (front place : ℕ) → ArePlaces places →
         LongestKept contents places labels front place →
         press contents places labels ≡ take front (wire labels) ++ to_be_bytes w16 (49152 + 12 + place) }
+{}
+
+/// A name that is pressed behind contents is read there, ASCII case aside, and whatever is written behind
+/// it.
+pub fn pressed_names_are_read()
+    ensures { (contents places more : List ℕ) (labels : List (List ℕ)) → IsName labels → FitsIn places contents →
+        ReadsAlike ((contents ++ press contents places labels) ++ more) labels (length contents) (length contents + length (press contents places labels)) }
 {}

@@ -2,8 +2,9 @@
 
 ghost use Rattle.std.specs.Prelude.{◌≤◌, List, ℕ, [], ◌∷◌, length, take, Option, None, ⊤};
 ghost use Rattle.dns_wire.specs.Compression.{Pressing, FitsIn};
-ghost use Rattle.dns_wire.specs.InMessage.{BuildsIn};
-ghost use Rattle.dns_wire.specs.Pieces.{Piece, IsTold, whole_presses};
+ghost use Rattle.dns_wire.specs.InMessage.{BuildsIn, then_fits};
+ghost use Rattle.dns_wire.specs.Pieces.{Piece, IsTold, whole_presses, then_presses, both_told};
+ghost use Rattle.dns_wire.specs.Told.{told_then};
 
 use crate::build::put;
 use crate::compressor::NameCompressor;
@@ -79,5 +80,53 @@ impl BuildInMessage for &[u8] {
         _compressor: &mut NameCompressor,
     ) -> Result<usize, TruncationError> {
         put(self, contents, start)
+    }
+}
+
+/// What the reference leads to.
+impl<T: BuildInMessage> BuildInMessage for &T {
+    ghost presses = { λ v. T.presses v.now };
+
+    ghost fits_in = { λ v. T.fits_in v.now };
+
+    ghost pieces = { λ v. T.pieces v.now };
+
+    ghost told = { λ v. T.told v.now };
+
+    fn build_in_message(
+        &self,
+        contents: &mut [u8],
+        start: usize,
+        compressor: &mut NameCompressor,
+    ) -> Result<usize, TruncationError> {
+        (**self).build_in_message(contents, start, compressor)
+    }
+}
+
+/// Two values, one behind the other.
+impl<A: BuildInMessage, B: BuildInMessage> BuildInMessage for (A, B) {
+    ghost presses = { λ v. then_presses (A.presses v.0) (B.presses v.1) };
+
+    ghost fits_in = { λ v. then_fits (A.fits_in v.0) (A.presses v.0) (B.fits_in v.1) };
+
+    ghost pieces = { λ v. both_told (A.pieces v.0) (B.pieces v.1) };
+
+    ghost told = { λ v. told_then (A.presses v.0) (B.presses v.1) (A.pieces v.0) (B.pieces v.1) (A.told v.0) (B.told v.1) };
+
+    fn build_in_message(
+        &self,
+        contents: &mut [u8],
+        start: usize,
+        compressor: &mut NameCompressor,
+    ) -> Result<usize, TruncationError> {
+        let known = compressor.places().len();
+        let middle = self.0.build_in_message(contents, start, compressor)?;
+        match self.1.build_in_message(contents, middle, compressor) {
+            Ok(end) => Ok(end),
+            Err(error) => {
+                compressor.truncate(known);
+                Err(error)
+            }
+        }
     }
 }

@@ -23,7 +23,7 @@ mod text;
 pub use adapters::{ReadSource, WriteSink};
 pub use as_bytes::AsBytes;
 pub use build::{BuildBytes, put};
-pub use compression::{longest_suffixes, pressed_names};
+pub use compression::{longest_suffixes, pressed_names, pressed_names_are_read};
 pub use compressor::NameCompressor;
 pub use error::{ParseError, TruncationError};
 pub use follow::{Head, read_head};

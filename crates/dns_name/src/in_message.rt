@@ -1,0 +1,49 @@
+//! Names in a message: the longest suffix that stands there already is a pointer.
+
+ghost use Rattle.std.specs.Prelude.{[], ◌∷◌, Some, ⊤};
+ghost use Rattle.dns_wire.specs.Compression.{name_presses};
+ghost use Rattle.dns_wire.specs.Names.{labels_of};
+ghost use Rattle.dns_wire.specs.Pieces.Piece.{Pressed};
+ghost use Rattle.dns_wire.specs.Told.{told_piece};
+
+use crate::name::Name;
+use crate::name_buf::NameBuf;
+use dns_wire::{BuildInMessage, NameCompressor, TruncationError, put_name};
+
+impl BuildInMessage for Name<'_> {
+    ghost presses = { λ v. name_presses (labels_of v.slice.now) };
+
+    ghost fits_in = { λ _ _ _. ⊤ };
+
+    ghost pieces = { λ v. Some (Pressed (labels_of v.slice.now) ∷ []) };
+
+    ghost told = { λ v. told_piece (Pressed (labels_of v.slice.now)) };
+
+    fn build_in_message(
+        &self,
+        contents: &mut [u8],
+        start: usize,
+        compressor: &mut NameCompressor,
+    ) -> Result<usize, TruncationError> {
+        put_name(self.as_bytes(), contents, start, compressor)
+    }
+}
+
+impl BuildInMessage for NameBuf {
+    ghost presses = { name_presses };
+
+    ghost fits_in = { λ _ _ _. ⊤ };
+
+    ghost pieces = { λ v. Some (Pressed v ∷ []) };
+
+    ghost told = { λ v. told_piece (Pressed v) };
+
+    fn build_in_message(
+        &self,
+        contents: &mut [u8],
+        start: usize,
+        compressor: &mut NameCompressor,
+    ) -> Result<usize, TruncationError> {
+        self.as_name().build_in_message(contents, start, compressor)
+    }
+}

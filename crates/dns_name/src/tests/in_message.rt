@@ -1,0 +1,159 @@
+//! Names in a message, as RFC 1035 section 4.1.4 shows them and as dnspython 2.3.0 writes them.
+
+use crate::{Name, NameBuf};
+use dns_wire::{BuildInMessage, NameCompressor, ParseBytes, SplitMessageBytes};
+use std::test::Fail;
+
+/// Names, each with the place where it ends in the contents of a message.
+const NAMES: [(&[u8], usize); 14] = [
+    (b"\x03www\x07Example\x03org\0", 17),
+    (b"\x04mail\x07example\x03ORG\0", 24),
+    (b"\x07example\x03net\0", 37),
+    (b"\x03ORG\0", 39),
+    (b"\x01a\x01b\x03www\x07example\x03org\0", 45),
+    (b"\x01B\x03WWW\x07EXAMPLE\x03ORG\0", 47),
+    (b"\x03www\x07example\x03net\0", 53),
+    (b"\x01c\x01b\x03www\x07example\x03com\0", 74),
+    (b"\x03com\0", 76),
+    (b"\0", 77),
+    (b"\x04mail\x07example\x03org\0", 79),
+    (b"\x01x\x01A\x01b\x03www\x07example\x03org\0", 83),
+    (b"\x07example\x03org\x07example\x03net\0", 97),
+    (b"\x01\0\x01\xff\x03a.b\x03net\0", 107),
+];
+
+/// The contents of the message with these names: `dns.name.Name.to_wire` wrote them one behind another with
+/// one table of names for all of them, behind 12 octets for the header.
+const CONTENTS: [u8; 107] = *b"\x03www\x07Example\x03org\0\x04mail\xc0\x10\x07example\x03net\0\
+    \xc0\x18\x01a\x01b\xc0\x0c\xc0\x35\x03www\xc0\x24\x01c\x01b\x03www\x07example\x03com\0\xc0\x51\0\xc0\x1d\
+    \x01x\xc0\x33\x07example\x03org\xc0\x24\x01\0\x01\xff\x03a.b\xc0\x2c";
+
+/// The places of that table, counted from the end of the header.
+const PLACES: [u16; 20] = [
+    0, 4, 12, 17, 24, 32, 39, 41, 47, 53, 55, 57, 61, 69, 79, 83, 91, 97, 99, 101,
+];
+
+#[test]
+fn shares_names_as_other_software_does(rt: HostRuntime) -> Result<(), Fail> {
+    let mut contents = [0; 107];
+    let mut compressor = NameCompressor::new();
+    let mut start = 0;
+    for (octets, end) in NAMES {
+        let name = NameBuf::parse_bytes(octets)?;
+        start = name.build_in_message(&mut contents, start, &mut compressor)?;
+        assert_eq!(rt; start, end);
+    }
+    assert_eq!(rt; contents, CONTENTS);
+    assert_eq!(rt; compressor.places(), PLACES.as_slice());
+
+    let mut place = 0;
+    for (octets, end) in NAMES {
+        let (name, next) = NameBuf::split_message_bytes(&contents, place)?;
+        assert_eq!(rt; name.as_name(), Name::parse_bytes(octets)?);
+        assert_eq!(rt; next, end);
+        place = next;
+    }
+    Ok(())
+}
+
+/// The names stand at 20, 40, 64 and 92 of the message, and so at 8, 28, 52 and 80 behind the header.
+#[test]
+fn shares_the_names_of_the_standard(rt: HostRuntime) -> Result<(), Fail> {
+    let mut contents = [b'.'; 81];
+    let mut compressor = NameCompressor::new();
+    let isi = Name::parse_bytes(b"\x01F\x03ISI\x04ARPA\0")?;
+    let foo = Name::parse_bytes(b"\x03FOO\x01F\x03ISI\x04ARPA\0")?;
+    let arpa = Name::parse_bytes(b"\x04ARPA\0")?;
+    assert_eq!(rt;
+        isi.build_in_message(&mut contents, 8, &mut compressor)?,
+        20
+    );
+    assert_eq!(rt;
+        foo.build_in_message(&mut contents, 28, &mut compressor)?,
+        34
+    );
+    assert_eq!(rt;
+        arpa.build_in_message(&mut contents, 52, &mut compressor)?,
+        54
+    );
+    assert_eq!(rt;
+        Name::root().build_in_message(&mut contents, 80, &mut compressor)?,
+        81
+    );
+    assert_eq!(rt;
+        contents,
+        *b"........\x01F\x03ISI\x04ARPA\0........\x03FOO\xc0\x14..................\xc0\x1a\
+        ..........................\0"
+    );
+    assert_eq!(rt; compressor.places(), [8, 10, 14, 28].as_slice());
+    Ok(())
+}
+
+/// A name of 127 labels, and one of two, of which the first is the 128th that is kept.
+#[test]
+fn keeps_128_places(rt: HostRuntime) -> Result<(), Fail> {
+    let mut octets = [b'a'; 255];
+    for (place, octet) in octets.iter_mut().enumerate() {
+        if place % 2 == 0 {
+            *octet = 1;
+        }
+    }
+    octets[254] = 0;
+    let longest = Name::parse_bytes(&octets)?;
+    let two = Name::parse_bytes(b"\x01x\x01y\0")?;
+    let one = Name::parse_bytes(b"\x01Y\0")?;
+
+    let mut contents = [0; 265];
+    let mut compressor = NameCompressor::new();
+    let end = longest.build_in_message(&mut contents, 0, &mut compressor)?;
+    let end = two.build_in_message(&mut contents, end, &mut compressor)?;
+    let end = one.build_in_message(&mut contents, end, &mut compressor)?;
+    let end = two.build_in_message(&mut contents, end, &mut compressor)?;
+    assert_eq!(rt; end, 265);
+    assert_eq!(rt; &contents[255..], b"\x01x\x01y\0\x01Y\0\xc1\x0b".as_slice());
+    assert_eq!(rt; compressor.places().len(), 128);
+    assert_eq!(rt; compressor.places().last(), Some(&255));
+    Ok(())
+}
+
+/// The last place is 16,371, which with the 12 octets of the header makes 14 bits 1.
+#[test]
+fn keeps_places_in_reach(rt: HostRuntime) -> Result<(), Fail> {
+    let two = Name::parse_bytes(b"\x01x\x01y\0")?;
+    let one = Name::parse_bytes(b"\x01Y\0")?;
+    let mut buffer = vec![in rt.alloc(); 0; 16380]?;
+    let contents = buffer.as_mut_slice();
+    let mut compressor = NameCompressor::new();
+    let end = two.build_in_message(contents, 16370, &mut compressor)?;
+    let end = one.build_in_message(contents, end, &mut compressor)?;
+    let end = two.build_in_message(contents, end, &mut compressor)?;
+    assert_eq!(rt; end, 16380);
+    assert_eq!(rt;
+        &contents[16370..],
+        b"\x01x\x01y\0\x01Y\0\xff\xfe".as_slice()
+    );
+    assert_eq!(rt; compressor.places(), [16370].as_slice());
+
+    let mut compressor = NameCompressor::new();
+    let end = one.build_in_message(contents, 16371, &mut compressor)?;
+    let end = one.build_in_message(contents, end, &mut compressor)?;
+    assert_eq!(rt; end, 16376);
+    assert_eq!(rt; &contents[16371..16376], b"\x01Y\0\xff\xff".as_slice());
+    Ok(())
+}
+
+#[test]
+fn refuses_names_without_a_trace(rt: HostRuntime) -> Result<(), Fail> {
+    let two = Name::parse_bytes(b"\x01x\x01y\0")?;
+    let three = Name::parse_bytes(b"\x03www\x01X\x01Y\0")?;
+    let mut contents = [b'.'; 10];
+    let mut compressor = NameCompressor::new();
+    let end = two.build_in_message(&mut contents, 0, &mut compressor)?;
+    let known = compressor.compress_name(&contents[..end], three.as_bytes());
+    assert_eq!(rt; known, Some((4, 0)));
+    let refused = three.build_in_message(&mut contents, end, &mut compressor);
+    assert!(rt; refused.is_err());
+    assert_eq!(rt; &contents[..end], b"\x01x\x01y\0".as_slice());
+    assert_eq!(rt; compressor.places(), [0, 2].as_slice());
+    Ok(())
+}
