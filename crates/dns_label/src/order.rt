@@ -12,8 +12,8 @@ use crate::label::Label;
 use crate::label_buf::LabelBuf;
 use std::cmp::Ordering;
 
-/// The order of two labels by their octets in small letters; a proper prefix comes first.
-fn compare(a: &[u8], b: &[u8]) -> Ordering
+/// The order of octets in small letters; a proper prefix comes first (RFC 4034 section 6.1).
+pub fn compare_lowercase(a: &[u8], b: &[u8]) -> Ordering
     ensures { result ≡ label_cmp a.now b.now }
 {
     let mut at = 0;
@@ -53,7 +53,7 @@ impl Ord for Label<'_> {
 
     /// By octets in small letters; a proper prefix comes first.
     fn cmp(&self, other: &Self) -> Ordering {
-        compare(self.contents(), other.contents())
+        compare_lowercase(self.contents(), other.contents())
     }
 }
 

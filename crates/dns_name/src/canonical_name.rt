@@ -11,7 +11,7 @@ ghost use Rattle.dns_name.specs.Order.{key, key_cmp};
 
 use crate::name::Name;
 use crate::name_buf::NameBuf;
-use crate::order::compare_labels;
+use dns_label::compare_lowercase;
 use dns_wire::{BuildBytes, TruncationError};
 use std::cmp::Ordering;
 use std::rc::Rc;
@@ -103,7 +103,7 @@ impl CanonicalName for Name<'_> {
     }
 
     fn cmp_lowercase_composed(&self, other: &Self) -> Ordering {
-        compare_labels(self.as_bytes(), other.as_bytes())
+        compare_lowercase(self.as_bytes(), other.as_bytes())
     }
 }
 

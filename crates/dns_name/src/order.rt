@@ -12,24 +12,6 @@ use crate::name::Name;
 use crate::name_buf::NameBuf;
 use std::cmp::Ordering;
 
-<<<<<<< HEAD
-/// The order of two labels by their lowered octets; a proper prefix comes first.
-pub(crate) fn compare_labels(a: &[u8], b: &[u8]) -> Ordering
-    ensures { result ≡ slice_cmp nat_cmp (str_to_ascii_lowercase a.now) (str_to_ascii_lowercase b.now) }
-{
-    let mut at = 0;
-    while at < a.len() && at < b.len() {
-        let order = a[at].to_ascii_lowercase().cmp(&b[at].to_ascii_lowercase());
-        if order.is_ne() {
-            return order;
-        }
-        at += 1;
-    }
-    a.len().cmp(&b.len())
-}
-
-=======
->>>>>>> 7548449f6ab9caa42714eb56e331a6a8f46e2292
 /// How many labels a name has, without the root's.
 fn count_labels(name: Name<'_>) -> usize
     ensures { result ≡ length (labels_of name.entry.slice.now) }

@@ -6,11 +6,8 @@ use std::cmp::Ordering;
 use std::hash::{DefaultHasher, Hash, Hasher};
 use std::test::Fail;
 
-<<<<<<< HEAD
 mod canonical_name;
-=======
 mod in_message;
->>>>>>> b6379b4ca3d31d9e37557c0eaa24904b3bfb59fe
 
 #[test]
 fn reads_and_writes_names(rt: HostRuntime) -> Result<(), Fail> {

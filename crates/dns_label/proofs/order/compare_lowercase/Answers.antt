@@ -1,7 +1,7 @@
 use Rattle.std.proofs.Common.{arith, inl, inr, ◌∙◌, sym}
 use Rattle.dns_label.proofs.Compared.{label_ended}
-use Rattle.dns_label.proofs.order.compare.Goals as goal
-use Rattle.dns_label.proofs.order.compare.Goals.{then-loop-at-test+else-at-b, else-loop-at-test}
+use Rattle.dns_label.proofs.order.compare_lowercase.Goals as goal
+use Rattle.dns_label.proofs.order.compare_lowercase.Goals.{then-loop-at-test+else-at-b, else-loop-at-test}
 
 pub returns : goal.returns
 returns c =
