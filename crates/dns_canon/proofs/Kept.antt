@@ -1,10 +1,13 @@
 -- What is kept of a record.
-use Rattle.std.proofs.Common.{◌≡◌, ℕ, List, [], ◌∷◌, Some, refl, sym, ap, ◌∙◌}
+use Rattle.std.proofs.Common.{◌≡◌, ℕ, List, [], ◌∷◌, ◌++◌, length, take, drop, Some, Result, Ok, Err, refl, sym, ap, ◌∙◌, arith, append-nil}
+use Rattle.std.specs.Prelude.{⊤, IsOk}
+use Rattle.std.proofs.lemmas.List.{drop_all, take_at}
 use Rattle.std.specs.Str.{str_to_ascii_lowercase}
 use Rattle.std.proofs.lemmas.Str.Ascii.{lowercase-lowercase}
 use Rattle.dns_wire.specs.Names.{wire, plain_name, labels_of, lowered}
+use Rattle.dns_wire.specs.Building.{Builds}
 use Rattle.dns_wire.specs.Reading.{all_of}
-use Rattle.dns_wire.proofs.Lowered.{lower_wire, name_lowered}
+use Rattle.dns_wire.proofs.Lowered.{name_lowered, lowered_long}
 use Rattle.dns_wire.proofs.Spelled.{name_octets, labels_of_wire}
 
 -- small letters stay
@@ -22,10 +25,9 @@ pub record IsLowered (name octets : List ℕ) : Type 0 where
   pub labels : labels_of octets ≡ lowered (labels_of name)
   pub is_lowered : lowered (labels_of octets) ≡ labels_of octets
 
-pub lowered_octets : (name octets : List ℕ) → all_of (plain_name name) ≡ Some (labels_of name) → octets ≡ str_to_ascii_lowercase name → IsLowered name octets
-lowered_octets name octets is small =
+pub lowered_octets : (name octets : List ℕ) → all_of (plain_name name) ≡ Some (labels_of name) → octets ≡ wire (lowered (labels_of name)) → IsLowered name octets
+lowered_octets name octets is whole =
     let n = name_octets name (labels_of name) is in
-    let whole : octets ≡ wire (lowered (labels_of name)) = small ∙ ap str_to_ascii_lowercase n.1 ∙ lower_wire (labels_of name) n.0.sizes in
     let read = labels_of_wire (lowered (labels_of name)) (name_lowered (labels_of name) n.0) in
     let labels : labels_of octets ≡ lowered (labels_of name) = ap labels_of whole ∙ read.1 in
     record {
@@ -33,3 +35,18 @@ lowered_octets name octets is small =
       labels = labels;
       is_lowered = ap lowered labels ∙ lowered_twice (labels_of name) ∙ sym labels;
     }
+
+-- there is room for it over octets that are as many as the name's, and then none of them is left
+pub is_written : {E : Type 0} (labels : List (List ℕ)) (old new : List ℕ) (result : Result ℕ E) → length old ≡ length (wire labels)
+    → Builds ⊤ (wire (lowered labels)) old 0 new result → IsOk result × (new ≡ wire (lowered labels))
+is_written labels old new (Ok end) long built =
+    let stands = built.ok.1 in
+    let none : drop end old ≡ [] = drop_all end old (omega (arith, long, lowered_long labels, stands.end_is)) in
+    (refl, stands.new_is ∙ ap (λ (rest : List ℕ). wire (lowered labels) ++ rest) none ∙ append-nil (wire (lowered labels)))
+is_written labels old new (Err e) long built = absurd (omega (arith, built.err.2 tt, long, lowered_long labels))
+
+-- it fills a vector that is as long as the name
+pub is_kept_whole : (name new items : List ℕ) (len : ℕ) → all_of (plain_name name) ≡ Some (labels_of name) → new ≡ wire (lowered (labels_of name)) → len ≡ length (wire (labels_of name))
+    → IsLowered name (take len (new ++ drop (length new) items))
+is_kept_whole name new items len is whole long =
+    lowered_octets name _ is (take_at new (drop (length new) items) len (ap length whole ∙ lowered_long (labels_of name) ∙ sym long) ∙ whole)

@@ -1,30 +1,27 @@
 //! What is kept of a record until all are read.
 
-ghost use Rattle.std.specs.Prelude.{◌≡◌, ◌<◌, Some, vec_len, IfOk};
+ghost use Rattle.std.specs.Prelude.{◌≡◌, ◌<◌, Some, length, vec_len, IfOk};
 ghost use Rattle.std.proofs.Props.{props};
 ghost use Rattle.std.proofs.Common.{rules};
 ghost use Rattle.std.specs.Cmp.{partial_order_from_own_ties};
 ghost use Rattle.std.specs.Cmp.Rules.{comparing};
-ghost use Rattle.std.specs.Str.{str_to_ascii_lowercase};
 ghost use Rattle.std.specs.Ordering.{on, as_partial_cmp, eq_by_cmp};
 ghost use Rattle.dns_wire.specs.Names.{wire, plain_name, labels_of, lowered};
 ghost use Rattle.dns_wire.specs.Reading.{all_of};
 ghost use Rattle.dns_name.specs.Order.{key_of, key_cmp};
 
 use crate::record_data::RecordData;
-use dns_name::{Name, NameBuf};
+use dns_name::{CanonicalName, Name, NameBuf};
 use dns_record::Record;
 use std::alloc::{AllocError, Global};
 use std::cmp::Ordering;
 
-/// The octets with ASCII capitals made small.
-fn lowercase(alloc: Global, octets: &[u8]) -> Result<Vec<u8>, AllocError>
-    ensures { IfOk result (λ small. small.items ≡ str_to_ascii_lowercase octets.now) }
+/// Writes the name in small letters over octets that are as many as its own.
+fn write_lowered(name: Name<'_>, octets: &mut [u8])
+    requires { length octets.old ≡ length (wire (labels_of name.slice.now)) }
+    ensures { octets.new ≡ wire (lowered (labels_of name.entry.slice.now)) }
 {
-    octets
-        .iter()
-        .map(|octet| octet.to_ascii_lowercase())
-        .collect(alloc)
+    name.build_lowercased_at(octets, 0).unwrap();
 }
 
 /// The octets of a name in small letters.
@@ -40,7 +37,8 @@ impl LoweredName {
     pub fn of(alloc: Global, name: Name<'_>) -> Result<LoweredName, AllocError>
         ensures { IfOk result (λ small. labels_of small.octets.items ≡ lowered (labels_of name.entry.slice.now)) }
     {
-        let octets = lowercase(alloc, name.as_bytes())?;
+        let mut octets = vec![in alloc; 0; name.len()]?;
+        write_lowered(name, &mut octets);
         Ok(LoweredName { octets })
     }
 
@@ -111,7 +109,7 @@ pub(crate) struct OwnedRecord {
 }
 
 impl OwnedRecord {
-    ghost use Rattle.std.specs.Prelude.{◌^◌, length};
+    ghost use Rattle.std.specs.Prelude.{◌^◌};
     ghost use Rattle.dns_record.specs.Fields.{fields_octets};
     ghost use Rattle.dns_record.specs.Seen.{record_seen};
     ghost use Rattle.dns_canon.specs.Order.{sort_key};

@@ -1,0 +1,9 @@
+use Rattle.dns_wire.specs.Names.{labels_of}
+use Rattle.dns_canon.proofs.Kept.{is_written}
+use Rattle.dns_canon.proofs.owned.write_lowered.Goals as goal
+
+pub unwrap-requires : goal.unwrap-requires
+unwrap-requires c = (is_written (labels_of c.args.name.slice.now) c.args.octets.now c.build_lowercased_at.new.bytes c.build_lowercased_at.result c.requires c.build_lowercased_at.ensures).0
+
+pub returns : goal.returns
+returns c = (is_written (labels_of c.args.name.slice.now) c.args.octets.now c.build_lowercased_at.new.bytes c.build_lowercased_at.result c.requires c.build_lowercased_at.ensures).1
