@@ -1,10 +1,10 @@
 -- The labels of a name, one after another.
-use Rattle.std.proofs.Common.{◌≡◌, ℕ, suc, ◌+◌, ◌*◌, ◌<◌, ◌≤◌, List, [], ◌∷◌, ◌++◌, length, get_or, take, drop, Some, refl, sym, ap, subst, ◌∙◌, arith}
+use Rattle.std.proofs.Common.{◌≡◌, ℕ, suc, ◌+◌, ◌*◌, ◌<◌, ◌≤◌, List, [], ◌∷◌, ◌++◌, length, get_or, take, drop, Some, sym, ap, subst, ◌∙◌, arith}
 use Rattle.std.specs.List.{AllByRecursion}
 use Rattle.std.proofs.lemmas.List.{length-append, length-take, length-drop, drop-drop, drop-take}
-use Rattle.dns_wire.specs.Names.{IsLabel, heads, wire, plain_name, labels_of}
+use Rattle.dns_wire.specs.Names.{IsLabel, heads, plain_name, labels_of}
 use Rattle.dns_wire.specs.Reading.{all_of}
-use Rattle.dns_wire.proofs.Spelled.{FirstLabel, name_octets, name_nonempty, first_label}
+use Rattle.dns_wire.proofs.Spelled.{FirstLabel, name_octets, first_label}
 use Rattle.dns_wire.proofs.Walk.{heads-append, wire_long}
 use Rattle.dns_label.specs.Labels.{IsShort, AreLabels, contents_of, label_wire, labels_in, plain_label}
 use Rattle.dns_label.proofs.Filled.{are_labels, labels_in_heads, label_alone}
