@@ -7,7 +7,7 @@ ghost use Rattle.dns_wire.specs.Names.{plain_name, labels_of, wire};
 ghost use Rattle.dns_label.specs.Labels.{contents_of};
 
 use dns_label::{Label, LabelIter};
-use dns_wire::{BuildBytes, ParseBytes, ParseError, SplitBytes, TruncationError, put};
+use dns_wire::{AsBytes, BuildBytes, ParseBytes, ParseError, SplitBytes, TruncationError, put};
 
 /// A name without pointers: labels of 1 to 63 octets, each behind its length, and the root's length 0,
 /// at most 255 octets in all (RFC 1035 section 3.1).
@@ -74,6 +74,14 @@ impl<'a> Name<'a> {
         }
         let (label, rest) = self.slice.split_at(1 + size);
         Some((Label { slice: label }, Name { slice: rest }))
+    }
+}
+
+impl AsBytes for Name<'_> {
+    ghost bytes = { λ v. wire (labels_of v.slice.now) };
+
+    fn as_bytes(&self) -> &[u8] {
+        Name::as_bytes(self)
     }
 }
 

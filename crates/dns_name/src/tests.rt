@@ -1,7 +1,7 @@
 //! Each public call once, the order of names that RFC 4034 shows, and pointers in the contents of messages.
 
 use crate::{Name, NameBuf};
-use dns_wire::{BuildBytes, ParseBytes, ParseMessageBytes, SplitBytes, SplitMessageBytes};
+use dns_wire::{AsBytes, BuildBytes, ParseBytes, ParseMessageBytes, SplitBytes, SplitMessageBytes};
 use std::cmp::Ordering;
 use std::hash::{DefaultHasher, Hash, Hasher};
 use std::test::Fail;
@@ -9,11 +9,16 @@ use std::test::Fail;
 mod canonical_name;
 mod in_message;
 
+fn octets_at_hand<T: AsBytes>(value: &T) -> &[u8] {
+    value.as_bytes()
+}
+
 #[test]
 fn reads_and_writes_names(rt: HostRuntime) -> Result<(), Fail> {
     let (name, rest) = Name::split_bytes(b"\x03www\x07Example\x00rest")?;
     assert_eq!(rt; name.len(), 13);
     assert_eq!(rt; name.as_bytes(), b"\x03www\x07Example\x00".as_slice());
+    assert_eq!(rt; octets_at_hand(&name), name.as_bytes());
     assert_eq!(rt; rest, b"rest".as_slice());
     assert!(rt; !name.is_root());
     assert!(rt; Name::root().is_root());

@@ -1,1 +1,2 @@
 -- What the contracts of wire numbers and of prefixed data cite.
+pub mod Prefixed

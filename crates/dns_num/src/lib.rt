@@ -6,12 +6,16 @@ mod laws;
 mod number16;
 mod number32;
 mod number64;
+mod size_prefix;
+mod size_prefixed;
 mod sums;
 
 pub use laws::wire_numbers;
 pub use number16::U16;
 pub use number32::U32;
 pub use number64::U64;
+pub use size_prefix::SizePrefix;
+pub use size_prefixed::SizePrefixed;
 
 #[cfg(test)]
 mod tests;

@@ -1,7 +1,9 @@
 //! The edges of the numbers, and each public call once.
 
 use crate::{U16, U32, U64, wire_numbers};
-use dns_wire::{BuildBytes, ParseBytes, ParseMessageBytes, SplitBytes, SplitMessageBytes};
+use dns_wire::{
+    BuildBytes, ListError, ParseBytes, ParseMessageBytes, SplitBytes, SplitMessageBytes, split_list,
+};
 use std::cmp::Ordering;
 use std::fmt::Debug;
 use std::hash::{DefaultHasher, Hash, Hasher};
@@ -83,6 +85,25 @@ fn numbers_are_read_at_places(rt: HostRuntime) -> Result<(), Fail> {
     assert_eq!(rt; U32::new(7).built_bytes_size(), 4);
     assert_eq!(rt; U64::new(7).built_bytes_size(), 8);
     wire_numbers();
+    Ok(())
+}
+
+/// The row `split-list-u16`.
+#[test]
+fn lists_of_numbers(rt: HostRuntime) -> Result<(), Fail> {
+    let octets = b"\0\x01\0\x02\0\x03\xff";
+    let (numbers, rest) = split_list::<U16>(rt.alloc(), octets, 3)?;
+    assert_eq!(rt;
+        numbers.as_slice(),
+        [U16::new(1), U16::new(2), U16::new(3)].as_slice()
+    );
+    assert_eq!(rt; rest, b"\xff".as_slice());
+    assert!(rt;
+        matches!(
+            split_list::<U16>(rt.alloc(), octets, 4),
+            Err(ListError::Parse)
+        )
+    );
     Ok(())
 }
 

@@ -1,0 +1,36 @@
+-- Data behind the number of their octets.
+use Rattle.std.specs.Prelude.{ℕ, ◌+◌, List, ◌++◌, length, take, Option, Some, None, nat_lt, if◌then◌else◌}
+use Rattle.std.specs.Int.{Width, to_be_bytes}
+use Rattle.dns_wire.specs.Reading.{number, octets, all_of, all_at, plain_at}
+
+-- what is read next, where something was read
+infixl 10 ◌>>=◌
+abbrev pub ◌>>=◌ : {A B : Type 0} → Option A → (A → Option B) → Option B
+None >>= next = None
+(Some a) >>= next = next a
+
+-- these octets, behind their number
+abbrev pub sized : Width → List ℕ → List ℕ
+sized w content = to_be_bytes w (length content) ++ content
+
+-- what the grammar reads from exactly the octets that the number in front counts, and the octets behind them
+unfoldable pub prefixed : {Y : Type 0} → Width → (List ℕ → Option (Y × List ℕ)) → List ℕ → Option (Y × List ℕ)
+prefixed w grammar bytes = do
+  size ← number w bytes
+  content ← octets size.0 size.1
+  value ← all_of (grammar content.0)
+  Some (value, content.1)
+
+-- ---- at a place in the contents of a message
+
+-- what the grammar reads from a place up to an end, behind which it sees nothing; none where that lies behind the contents
+abbrev pub all_up_to : {Y : Type 0} → (List ℕ → ℕ → Option (Y × ℕ)) → List ℕ → ℕ → ℕ → Option Y
+all_up_to grammar contents start end =
+    if nat_lt (length contents) end then None else all_at (take end contents) (grammar (take end contents) start)
+
+-- what the grammar reads from exactly the octets that the number at the place counts, and where they end
+unfoldable pub prefixed_at : {Y : Type 0} → Width → (List ℕ → ℕ → Option (Y × ℕ)) → List ℕ → ℕ → Option (Y × ℕ)
+prefixed_at w grammar contents start = do
+  size ← plain_at (number w) contents start
+  value ← all_up_to grammar contents size.1 (size.1 + size.0)
+  Some (value, size.1 + size.0)
