@@ -1,6 +1,8 @@
-//! The compressor with no places, and the laws of what it finds.
+//! The compressor by itself, and octets in a message.
 
-use crate::{NameCompressor, longest_suffixes, pressed_names};
+use crate::{
+    BuildInMessage, NameCompressor, longest_suffixes, pressed_names, pressed_names_are_read,
+};
 use std::test::Fail;
 
 #[test]
@@ -12,5 +14,55 @@ fn knows_no_names_at_first(rt: HostRuntime) -> Result<(), Fail> {
     assert_eq!(rt; NameCompressor::new().places(), none);
     longest_suffixes();
     pressed_names();
+    pressed_names_are_read();
+    Ok(())
+}
+
+/// The contents have the names `a`, `A` and `b.a`, each written whole.
+#[test]
+fn finds_names_by_their_places(rt: HostRuntime) -> Result<(), Fail> {
+    let contents = b"\x01a\0\x01A\0\x01b\x01a\0";
+    let mut compressor = NameCompressor::new();
+    compressor.note(contents, 0, 3);
+    compressor.note(contents, 3, 6);
+    compressor.note(contents, 6, 11);
+    assert_eq!(rt; compressor.places(), [0, 3, 6, 8].as_slice());
+    assert_eq!(rt;
+        compressor.compress_name(contents, b"\x01A\0"),
+        Some((0, 0))
+    );
+    assert_eq!(rt;
+        compressor.compress_name(contents, b"\x01B\x01A\0"),
+        Some((0, 6))
+    );
+    assert_eq!(rt;
+        compressor.compress_name(contents, b"\x01c\x01b\x01a\0"),
+        Some((2, 6))
+    );
+    assert_eq!(rt; compressor.compress_name(contents, b"\x01b\0"), None);
+    assert_eq!(rt; compressor.compress_name(contents, b"\0"), None);
+    compressor.truncate(2);
+    assert_eq!(rt; compressor.places(), [0, 3].as_slice());
+    Ok(())
+}
+
+#[test]
+fn writes_octets_in_messages(rt: HostRuntime) -> Result<(), Fail> {
+    let mut contents = *b".....";
+    let mut compressor = NameCompressor::new();
+    let octets: &[u8] = b"bc";
+    let end = (&b'a', octets).build_in_message(&mut contents, 1, &mut compressor)?;
+    assert_eq!(rt; end, 4);
+    assert_eq!(rt; contents, *b".abc.");
+    assert!(rt;
+        octets
+            .build_in_message(&mut contents, end, &mut compressor)
+            .is_err()
+    );
+    assert_eq!(rt;
+        b'd'.build_in_message(&mut contents, end, &mut compressor)?,
+        5
+    );
+    assert_eq!(rt; contents, *b".abcd");
     Ok(())
 }
