@@ -1,5 +1,7 @@
 -- The crate's own lemmas.
 pub mod Followed
+pub mod Gathered
 pub mod Ordered
 pub mod Preceding
 pub mod Sameness
+pub mod Turned

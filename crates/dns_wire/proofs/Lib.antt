@@ -1,4 +1,5 @@
 -- The crate's own lemmas.
+pub mod Backward
 pub mod Digits
 pub mod Following
 pub mod Lent

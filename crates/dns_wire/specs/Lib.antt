@@ -6,3 +6,4 @@ pub mod Names
 pub mod Outside
 pub mod Pointers
 pub mod Reading
+pub mod Reversed
