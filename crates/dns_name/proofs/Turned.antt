@@ -6,7 +6,7 @@ use Rattle.std.proofs.Math.Seq.{drop-cons}
 use Rattle.dns_wire.specs.Building.{Stands}
 use Rattle.dns_wire.specs.Names.{heads, wire, IsName, plain_name, labels_of}
 use Rattle.dns_wire.specs.Reading.{all_of}
-use Rattle.dns_wire.specs.Reversed.{label_row, labels_in}
+use Rattle.dns_wire.specs.Reversed.{label_row, row_labels}
 use Rattle.dns_wire.proofs.Backward.{row_is, no_labels, reversed_long}
 use Rattle.dns_wire.proofs.Spelled.{labels_of_wire}
 use Rattle.dns_wire.proofs.Walk.{heads-append, wire_long}
@@ -15,7 +15,7 @@ use Rattle.dns_wire.proofs.Walk.{heads-append, wire_long}
 pub record Turned (octets old : List ℕ) (end at : ℕ) (new : List ℕ) : Type 0 where
   pub done : List (List ℕ)
   pub todo : List (List ℕ)
-  pub all : labels_in octets ≡ done ++ todo
+  pub all : row_labels octets ≡ done ++ todo
   pub here : drop at octets ≡ heads todo
   pub at_is : length (heads done) ≡ at
   pub new_is : new ≡ take (end - at) old ++ (heads (reverse done) ++ drop end old)
@@ -26,15 +26,15 @@ pub record NextLabel (octets old : List ℕ) (end at size : ℕ) (new : List ℕ
   pub long : length (slice_range octets at (at + 1 + size)) ≡ 1 + size
   pub more : (newer : List ℕ) → newer ≡ take (end - at - length (slice_range octets at (at + 1 + size))) new ++ (slice_range octets at (at + 1 + size) ++ drop (end - at) new) → Turned octets old end (at + 1 + size) newer
 
-module _ (octets old : List ℕ) (end : ℕ) (is : label_row octets ≡ Some (labels_in octets)) (room : length octets ≤ end) (within : end ≤ length old) where
-  octets_are : octets ≡ heads (labels_in octets)
-  octets_are = (row_is octets (labels_in octets) is).1
+module _ (octets old : List ℕ) (end : ℕ) (is : label_row octets ≡ Some (row_labels octets)) (room : length octets ≤ end) (within : end ≤ length old) where
+  octets_are : octets ≡ heads (row_labels octets)
+  octets_are = (row_is octets (row_labels octets) is).1
 
   pub turned_none : Turned octets old end 0 old
   turned_none =
       record {
         done = [];
-        todo = labels_in octets;
+        todo = row_labels octets;
         all = refl;
         here = octets_are;
         at_is = refl;
@@ -50,7 +50,7 @@ module _ (octets old : List ℕ) (end : ℕ) (is : label_row octets ≡ Some (la
             ∙ omega (arith, long, turned.at_is, reversed_long turned.done, length-take (end - at) old, length-append (heads (reverse turned.done)) (drop end old), length-drop end old),
       )
 
-  with_label : (at size : ℕ) (new : List ℕ) (done : List (List ℕ)) (label : List ℕ) (labels : List (List ℕ)) → at ≤ end → labels_in octets ≡ done ++ label ∷ labels → drop at octets ≡ heads (label ∷ labels) → length (heads done) ≡ at → new ≡ take (end - at) old ++ (heads (reverse done) ++ drop end old) → at < length octets → get_or octets at 0 ≡ size → NextLabel octets old end at size new
+  with_label : (at size : ℕ) (new : List ℕ) (done : List (List ℕ)) (label : List ℕ) (labels : List (List ℕ)) → at ≤ end → row_labels octets ≡ done ++ label ∷ labels → drop at octets ≡ heads (label ∷ labels) → length (heads done) ≡ at → new ≡ take (end - at) old ++ (heads (reverse done) ++ drop end old) → at < length octets → get_or octets at 0 ≡ size → NextLabel octets old end at size new
   with_label at size new done label labels before all here at_is new_is some size_is =
       let head : drop at octets ≡ size ∷ drop (at + 1) octets = rw (← size_is, add-one) (drop-cons octets at 0 some) in
       let both : size ∷ drop (at + 1) octets ≡ length label ∷ (label ++ heads labels) = sym head ∙ here in
@@ -86,14 +86,14 @@ module _ (octets old : List ℕ) (end : ℕ) (is : label_row octets ≡ Some (la
 
   pub turned_more : (at size : ℕ) (new : List ℕ) → Turned octets old end at new → at < length octets → get_or octets at 0 ≡ size → NextLabel octets old end at size new
   turned_more at size new turned some size_is = by turned.todo turned.all turned.here where
-    by : (todo : List (List ℕ)) → labels_in octets ≡ turned.done ++ todo → drop at octets ≡ heads todo → NextLabel octets old end at size new
+    by : (todo : List (List ℕ)) → row_labels octets ≡ turned.done ++ todo → drop at octets ≡ heads todo → NextLabel octets old end at size new
     by [] all here = absurd (omega (arith, some, ap length here, length-drop at octets))
     by (label ∷ labels) all here = with_label at size new turned.done label labels (omega (arith, some, room)) all here turned.at_is turned.new_is some size_is
 
-  pub turned_all : (at : ℕ) (new : List ℕ) → Turned octets old end at new → length octets ≤ at → new ≡ take (end - length octets) old ++ (heads (reverse (labels_in octets)) ++ drop end old)
+  pub turned_all : (at : ℕ) (new : List ℕ) → Turned octets old end at new → length octets ≤ at → new ≡ take (end - length octets) old ++ (heads (reverse (row_labels octets)) ++ drop end old)
   turned_all at new turned past =
       let none : turned.todo ≡ [] = no_labels turned.todo (sym turned.here ∙ drop_all at octets past) in
-      let all : labels_in octets ≡ turned.done = turned.all ∙ ap (λ (l : List (List ℕ)). turned.done ++ l) none ∙ append-nil turned.done in
+      let all : row_labels octets ≡ turned.done = turned.all ∙ ap (λ (l : List (List ℕ)). turned.done ++ l) none ∙ append-nil turned.done in
       let place : at ≡ length octets = omega (arith, past, (turned_within at new turned).0) in
       rw (all, ← place) turned.new_is
 

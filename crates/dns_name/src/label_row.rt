@@ -3,20 +3,20 @@
 ghost use Rattle.std.specs.Prelude.{◌≡◌, ◌≤◌, ◌-◌, List, [], ◌∷◌, ◌++◌, length, take, drop, reverse, Some, MatchOption};
 ghost use Rattle.std.proofs.Props.{props};
 ghost use Rattle.dns_wire.specs.Names.{heads};
-ghost use Rattle.dns_wire.specs.Reversed.{label_row, labels_in};
+ghost use Rattle.dns_wire.specs.Reversed.{label_row, row_labels};
 
 /// Labels of 1 to 63 octets, each behind its length, with no root behind them: at most 254 octets.
 #[derive(Clone, Copy)]
 pub(crate) struct LabelRow<'a> {
     pub slice: &'a [u8],
-    ghost are_labels: { label_row slice.now ≡ Some (labels_in slice.now) } by { Prim.hlevel props },
+    ghost are_labels: { label_row slice.now ≡ Some (row_labels slice.now) } by { Prim.hlevel props },
 }
 
 impl<'a> LabelRow<'a> {
     /// The first label, and those behind it; none where there are no labels.
     pub fn split_first(&self) -> Option<(&'a [u8], LabelRow<'a>)>
-        ensures { MatchOption result (labels_in self.now.slice.now ≡ [])
-            (λ x. labels_in self.now.slice.now ≡ x.0.now ∷ labels_in x.1.slice.now) }
+        ensures { MatchOption result (row_labels self.now.slice.now ≡ [])
+            (λ x. row_labels self.now.slice.now ≡ x.0.now ∷ row_labels x.1.slice.now) }
     {
         let Some((size, behind)) = self.slice.split_first() else {
             return None;
@@ -29,7 +29,7 @@ impl<'a> LabelRow<'a> {
     pub fn put_reversed(&self, bytes: &mut [u8], end: usize)
         requires room { length self.now.slice.now ≤ end }
         requires within { end ≤ length bytes.old }
-        ensures { bytes.new ≡ take (end - length self.now.slice.now) bytes.old ++ (heads (reverse (labels_in self.now.slice.now)) ++ drop end bytes.old) }
+        ensures { bytes.new ≡ take (end - length self.now.slice.now) bytes.old ++ (heads (reverse (row_labels self.now.slice.now)) ++ drop end bytes.old) }
     {
         let mut at = 0;
         while at < self.slice.len() {

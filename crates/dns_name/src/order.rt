@@ -15,7 +15,7 @@ use crate::name_buf::NameBuf;
 use std::cmp::Ordering;
 
 /// The order of two labels by their lowered octets; a proper prefix comes first.
-pub(crate) fn compare_labels(a: &[u8], b: &[u8]) -> Ordering
+fn compare_labels(a: &[u8], b: &[u8]) -> Ordering
     ensures { result ≡ slice_cmp nat_cmp (str_to_ascii_lowercase a.now) (str_to_ascii_lowercase b.now) }
 {
     let mut at = 0;

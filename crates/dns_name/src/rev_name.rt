@@ -4,7 +4,7 @@ ghost use Rattle.std.specs.Prelude.{◌≡◌, ◌+◌, ◌≤◌, ◌<◌, ◌^
 ghost use Rattle.std.proofs.Props.{props};
 ghost use Rattle.dns_wire.specs.Building.{Builds, Stands};
 ghost use Rattle.dns_wire.specs.Names.{wire};
-ghost use Rattle.dns_wire.specs.Reversed.{labels_in, reversed_wire, reversed_name, reversed_labels_of};
+ghost use Rattle.dns_wire.specs.Reversed.{row_labels, reversed_wire, reversed_name, reversed_labels_of};
 
 use crate::label_row::{LabelRow, copy_before};
 use crate::name::Name;
@@ -72,7 +72,7 @@ impl<'a> RevName<'a> {
 
     /// The labels, from the last to the first.
     pub(crate) fn row(&self) -> LabelRow<'a>
-        ensures labels { labels_in result.slice.now ≡ reverse (reversed_labels_of self.now.slice.now) }
+        ensures labels { row_labels result.slice.now ≡ reverse (reversed_labels_of self.now.slice.now) }
         ensures octets { length self.now.slice.now ≡ length result.slice.now + 1 }
     {
         let (_root, labels) = self.slice.split_at(1);

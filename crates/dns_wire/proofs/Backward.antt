@@ -5,7 +5,7 @@ use Rattle.std.specs.List.{AllByRecursion}
 use Rattle.std.proofs.lemmas.Bool.Decides.{nat_tests}
 use Rattle.std.proofs.lemmas.List.{take_at, drop_at, length-append, append-nil, reverse-append, reverse-reverse}
 use Rattle.dns_wire.specs.Names.{heads, wire, IsLabel, IsName, labels_of}
-use Rattle.dns_wire.specs.Reversed.{label_row, labels_in, reversed_wire, reversed_name, reversed_labels_of}
+use Rattle.dns_wire.specs.Reversed.{label_row, row_labels, reversed_wire, reversed_name, reversed_labels_of}
 use Rattle.dns_wire.proofs.Spelled.{chosen, name_octets, labels_of_wire}
 use Rattle.dns_wire.proofs.Walk.{AllByRecursion-append, heads-append, wire_long}
 
@@ -45,14 +45,14 @@ row_is bytes labels e =
     let t = name_octets (bytes ++ 0 ∷ []) labels e in
     (t.0, cut_root bytes (heads labels) t.1)
 
-pub row_read : (labels : List (List ℕ)) → IsName labels → (label_row (heads labels) ≡ Some labels) × (labels_in (heads labels) ≡ labels)
+pub row_read : (labels : List (List ℕ)) → IsName labels → (label_row (heads labels) ≡ Some labels) × (row_labels (heads labels) ≡ labels)
 row_read labels is = labels_of_wire labels is
 
 -- the first label of some
 pub record FirstOfRow (bytes : List ℕ) (size : ℕ) (behind : List ℕ) : Type 0 where
   pub room : size ≤ length behind
-  pub labels : labels_in bytes ≡ take size behind ∷ labels_in (drop size behind)
-  pub whole : label_row (drop size behind) ≡ Some (labels_in (drop size behind))
+  pub labels : row_labels bytes ≡ take size behind ∷ row_labels (drop size behind)
+  pub whole : label_row (drop size behind) ≡ Some (row_labels (drop size behind))
 
 first_of : (labels : List (List ℕ)) (bytes : List ℕ) (size : ℕ) (behind : List ℕ) → IsName labels → bytes ≡ heads labels → bytes ≡ size ∷ behind → FirstOfRow bytes size behind
 first_of [] bytes size behind is e parts = absurd (omega (arith, ap length e, ap length parts))
@@ -64,27 +64,27 @@ first_of (label ∷ labels) bytes size behind is e parts =
     let body : behind ≡ label ++ heads labels = ap (drop 1) both in
     let at_front : take size behind ≡ label = rw body (take_at label (heads labels) size (sym long)) in
     let at_back : drop size behind ≡ heads labels = rw body (drop_at label (heads labels) size (sym long)) in
-    let others : take size behind ∷ labels_in (drop size behind) ≡ label ∷ labels = rw (at_front, at_back, again.1) refl in
+    let others : take size behind ∷ row_labels (drop size behind) ≡ label ∷ labels = rw (at_front, at_back, again.1) refl in
     record {
       room = omega (arith, long, ap length body, length-append label (heads labels));
-      labels = ap labels_in e ∙ (row_read (label ∷ labels) is).1 ∙ sym others;
+      labels = ap row_labels e ∙ (row_read (label ∷ labels) is).1 ∙ sym others;
       whole = rw (at_back, again.1) again.0;
     }
 
-pub first_of_row : (bytes : List ℕ) (size : ℕ) (behind : List ℕ) → label_row bytes ≡ Some (labels_in bytes) → bytes ≡ size ∷ behind → FirstOfRow bytes size behind
+pub first_of_row : (bytes : List ℕ) (size : ℕ) (behind : List ℕ) → label_row bytes ≡ Some (row_labels bytes) → bytes ≡ size ∷ behind → FirstOfRow bytes size behind
 first_of_row bytes size behind e parts =
-    let t = row_is bytes (labels_in bytes) e in
-    first_of (labels_in bytes) bytes size behind t.0 t.1 parts
+    let t = row_is bytes (row_labels bytes) e in
+    first_of (row_labels bytes) bytes size behind t.0 t.1 parts
 
 pub no_labels : (labels : List (List ℕ)) → heads labels ≡ [] → labels ≡ []
 no_labels [] e = refl
 no_labels (label ∷ labels) e = absurd cc
 
 -- where there are no octets, there are no labels
-pub empty_row : (bytes : List ℕ) → label_row bytes ≡ Some (labels_in bytes) → length bytes ≡ 0 → labels_in bytes ≡ []
+pub empty_row : (bytes : List ℕ) → label_row bytes ≡ Some (row_labels bytes) → length bytes ≡ 0 → row_labels bytes ≡ []
 empty_row bytes e none =
-    let t = row_is bytes (labels_in bytes) e in
-    no_labels (labels_in bytes) (sym t.1 ∙ nothing bytes none) where
+    let t = row_is bytes (row_labels bytes) e in
+    no_labels (row_labels bytes) (sym t.1 ∙ nothing bytes none) where
       nothing : (bytes : List ℕ) → length bytes ≡ 0 → bytes ≡ []
       nothing [] e = refl
       nothing (x ∷ xs) e = absurd (omega arith)
@@ -119,12 +119,12 @@ pub reversed_labels : (labels : List (List ℕ)) → IsName labels → reversed_
 reversed_labels labels is = ap (λ (read : Option (List (List ℕ))). unwrap_or read []) (reversed_read labels is)
 
 -- behind the root stand the labels from the last to the first
-pub row_behind_root : (bytes : List ℕ) → reversed_name bytes ≡ Some (reversed_labels_of bytes) → (label_row (drop 1 bytes) ≡ Some (labels_in (drop 1 bytes))) × (labels_in (drop 1 bytes) ≡ reverse (reversed_labels_of bytes))
+pub row_behind_root : (bytes : List ℕ) → reversed_name bytes ≡ Some (reversed_labels_of bytes) → (label_row (drop 1 bytes) ≡ Some (row_labels (drop 1 bytes))) × (row_labels (drop 1 bytes) ≡ reverse (reversed_labels_of bytes))
 row_behind_root bytes e =
     let t = reversed_is bytes (reversed_labels_of bytes) e in
     let again = row_read (reverse (reversed_labels_of bytes)) (name_reversed (reversed_labels_of bytes) t.0) in
     let row : drop 1 bytes ≡ heads (reverse (reversed_labels_of bytes)) = ap (drop 1) t.1 in
-    let labels : labels_in (drop 1 bytes) ≡ reverse (reversed_labels_of bytes) = ap labels_in row ∙ again.1 in
+    let labels : row_labels (drop 1 bytes) ≡ reverse (reversed_labels_of bytes) = ap row_labels row ∙ again.1 in
     (ap label_row row ∙ again.0 ∙ ap Some (sym labels), labels)
 
 -- there are as many octets in both layouts

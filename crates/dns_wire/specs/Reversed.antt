@@ -10,8 +10,8 @@ abbrev pub label_row : List ℕ → Option (List (List ℕ))
 label_row bytes = all_of (plain_name (bytes ++ 0 ∷ []))
 
 -- the labels of such octets
-abbrev pub labels_in : List ℕ → List (List ℕ)
-labels_in bytes = labels_of (bytes ++ 0 ∷ [])
+abbrev pub row_labels : List ℕ → List (List ℕ)
+row_labels bytes = labels_of (bytes ++ 0 ∷ [])
 
 -- ---- names from the root on
 

@@ -8,6 +8,7 @@ mod error;
 mod follow;
 mod holders;
 mod laws;
+mod lowercase;
 mod memory;
 mod outside;
 mod parse;
@@ -20,6 +21,7 @@ pub use laws::{
     added_octets, hexadecimal_text, names_follow_pointers, plain_names, pointed_names,
     pointers_lead_back,
 };
+pub use lowercase::{build_lowercase, compare_lowercase};
 pub use memory::{NullSink, PlainSource, TextSink, TextSource};
 pub use outside::{Failed, Sink, Source};
 pub use parse::{

@@ -8,7 +8,7 @@ use Rattle.dns_name.proofs.canonical_name.NameCanonicalName.cmp_lowercase_compos
 
 pub returns-clause-order : goal.returns-clause-order
 returns-clause-order c =
-    c.compare_labels.ensures
+    c.compare_lowercase.ensures
     ∙ ap (λ a. octets_cmp a (str_to_ascii_lowercase c.as_bytes-2.result.now)) (ap str_to_ascii_lowercase c.as_bytes.ensures.octets ∙ octets_lowered _ c.args.self.now.is_name)
     ∙ ap (octets_cmp (wire (lowered (labels_of c.args.self.now.slice.now)))) (ap str_to_ascii_lowercase c.as_bytes-2.ensures.octets ∙ octets_lowered _ c.args.other.now.is_name)
 

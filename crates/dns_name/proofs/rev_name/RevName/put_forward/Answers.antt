@@ -2,7 +2,7 @@ use Rattle.std.proofs.Common.{arith, ap, ◌≡◌, ◌+◌, ◌∙◌, length}
 use Rattle.std.specs.Prelude.{reverse}
 use Rattle.std.proofs.lemmas.List.{reverse-reverse}
 use Rattle.dns_wire.specs.Names.{heads, wire}
-use Rattle.dns_wire.specs.Reversed.{labels_in, reversed_labels_of}
+use Rattle.dns_wire.specs.Reversed.{row_labels, reversed_labels_of}
 use Rattle.dns_wire.proofs.Backward.{ReversedSize, reversed_size}
 use Rattle.dns_wire.proofs.Walk.{wire_long}
 use Rattle.dns_name.proofs.Turned.{forward_stands}
@@ -18,6 +18,6 @@ pub returns : goal.returns
 returns c =
     let labels = reversed_labels_of c.args.self.now.slice.now in
     let size : ReversedSize c.args.self.now.slice.now labels = reversed_size _ _ c.args.self.now.is_name in
-    let turned : reverse (labels_in c.row.result.slice.now) ≡ labels = ap reverse c.row.ensures.labels ∙ reverse-reverse labels in
+    let turned : reverse (row_labels c.row.result.slice.now) ≡ labels = ap reverse c.row.ensures.labels ∙ reverse-reverse labels in
     let long : length c.row.result.slice.now ≡ length (heads labels) = omega (arith, c.row.ensures.octets, size.long, wire_long labels) in
     forward_stands _ _ _ labels c.args.start _ (omega (arith, size.long)) c.requires c.copy_before.ensures (rw (turned, long) at c.put_reversed.ensures)
