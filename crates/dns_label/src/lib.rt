@@ -13,7 +13,6 @@ pub use iter::LabelIter;
 pub use label::Label;
 pub use label_buf::{LabelBuf, label_of};
 pub use laws::{labels_fill, one_label};
-pub use order::compare_lowercase;
 
 #[cfg(test)]
 mod tests;

@@ -10,22 +10,8 @@ ghost use Rattle.dns_label.specs.Order.{label_cmp};
 
 use crate::label::Label;
 use crate::label_buf::LabelBuf;
+use dns_wire::compare_lowercase;
 use std::cmp::Ordering;
-
-/// The order of octets in small letters; a proper prefix comes first (RFC 4034 section 6.1).
-pub fn compare_lowercase(a: &[u8], b: &[u8]) -> Ordering
-    ensures { result ≡ label_cmp a.now b.now }
-{
-    let mut at = 0;
-    while at < a.len() && at < b.len() {
-        let order = a[at].to_ascii_lowercase().cmp(&b[at].to_ascii_lowercase());
-        if order.is_ne() {
-            return order;
-        }
-        at += 1;
-    }
-    a.len().cmp(&b.len())
-}
 
 impl PartialEq for Label<'_> {
     ghost eq = { eq_by_cmp (on (λ v. contents_of v.slice.now) label_cmp) };

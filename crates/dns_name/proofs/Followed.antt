@@ -68,10 +68,10 @@ pred_less zero some = absurd (omega arith)
 pred_less (suc n) some = omega arith
 
 module _ (contents : List ℕ) (start segment at size : ℕ) (end : Option ℕ) (front : List ℕ) (followed : Followed contents start segment at end front) (is : head_at contents segment at ≡ Some (Label size)) (fits : (slice_index contents at ≡ size) × (0 < size) × (size < 64) × (at + 1 + size ≤ length contents)) where
-  label_long : length (take size (drop (at + 1) contents)) ≡ size
+  pub label_long : length (take size (drop (at + 1) contents)) ≡ size
   label_long = omega (arith, length-take size (drop (at + 1) contents), length-drop (at + 1) contents)
 
-  label_octets : slice_range contents at (at + 1 + size) ≡ size ∷ take size (drop (at + 1) contents)
+  pub label_octets : slice_range contents at (at + 1 + size) ≡ size ∷ take size (drop (at + 1) contents)
   label_octets =
       let count : at + 1 + size - at ≡ suc size = omega arith in
       let head : drop at contents ≡ size ∷ drop (at + 1) contents = rw fits.0 at (next_octet contents at (omega arith)) in

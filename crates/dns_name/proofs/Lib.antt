@@ -1,6 +1,8 @@
 -- The crate's own lemmas.
 pub mod Followed
+pub mod Gathered
 pub mod Labelled
 pub mod Ordered
 pub mod Preceding
 pub mod Sameness
+pub mod Turned

@@ -1,7 +1,6 @@
 //! Names as DNSSEC sees them (RFC 4034 section 6): in small letters, and in the orders of their octets.
 
 ghost use Rattle.std.specs.Prelude.{◌≡◌, ◌≤◌, ◌<◌, ℕ, List, length, drop, IfOk, OnOk, OnErr, ⊤};
-ghost use Rattle.std.specs.Str.{str_to_ascii_lowercase};
 ghost use Rattle.std.specs.Borrow.{sem};
 ghost use Rattle.std.proofs.Common.{refl};
 ghost use Rattle.dns_wire.specs.Building.{Builds, LendsRest};
@@ -11,8 +10,7 @@ ghost use Rattle.dns_name.specs.Order.{key, key_cmp};
 
 use crate::name::Name;
 use crate::name_buf::NameBuf;
-use dns_label::compare_lowercase;
-use dns_wire::{BuildBytes, TruncationError};
+use dns_wire::{BuildBytes, TruncationError, build_lowercase, compare_lowercase};
 use std::cmp::Ordering;
 use std::rc::Rc;
 
@@ -66,21 +64,6 @@ pub trait CanonicalName: BuildBytes + Ord {
     ghost ordered: { (x y : Self) → Self.cmp x y ≡ key_cmp (key (name x)) (key (name y)) };
 }
 
-/// Writes the value at a place of the buffer with its capitals made small, and gives the place where it
-/// ends.
-fn build_small<T: BuildBytes>(
-    value: &T,
-    bytes: &mut [u8],
-    start: usize,
-) -> Result<usize, TruncationError>
-    requires { start ≤ length bytes.old }
-    ensures { Builds (T.fits value.now) (str_to_ascii_lowercase (T.octets value.now)) bytes.old start bytes.new result }
-{
-    let end = value.build_at(bytes, start)?;
-    bytes[start..end].make_ascii_lowercase();
-    Ok(end)
-}
-
 impl CanonicalName for Name<'_> {
     ghost name = { λ v. labels_of v.slice.now };
 
@@ -95,7 +78,7 @@ impl CanonicalName for Name<'_> {
         bytes: &mut [u8],
         start: usize,
     ) -> Result<usize, TruncationError> {
-        build_small(self, bytes, start)
+        build_lowercase(self, bytes, start)
     }
 
     fn cmp_composed(&self, other: &Self) -> Ordering {

@@ -4,15 +4,20 @@
 mod canonical_name;
 mod hash;
 mod in_message;
+mod label_row;
 mod laws;
 mod name;
 mod name_buf;
 mod order;
+mod rev_name;
+mod rev_name_buf;
 
 pub use canonical_name::CanonicalName;
 pub use laws::{label_order, orders_by_octets};
 pub use name::Name;
 pub use name_buf::NameBuf;
+pub use rev_name::RevName;
+pub use rev_name_buf::RevNameBuf;
 
 #[cfg(test)]
 mod tests;

@@ -16,8 +16,8 @@ use std::marker::Model;
 /// A name that owns its octets, and is seen as its labels. It takes no memory.
 #[derive(Debug, Drop)]
 pub struct NameBuf {
-    size: u8,
-    buffer: [u8; Name::MAX_SIZE],
+    pub(crate) size: u8,
+    pub(crate) buffer: [u8; Name::MAX_SIZE],
 }
 
 impl Model for NameBuf {

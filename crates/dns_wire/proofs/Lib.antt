@@ -1,7 +1,9 @@
 -- The crate's own lemmas.
 pub mod Alike
+pub mod Backward
 pub mod Cutting
 pub mod Digits
+pub mod Ended
 pub mod Following
 pub mod Lent
 pub mod Listed

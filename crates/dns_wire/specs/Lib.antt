@@ -10,6 +10,7 @@ pub mod Outside
 pub mod Pieces
 pub mod Pointers
 pub mod Reading
+pub mod Reversed
 pub mod Searching
 pub mod Texts
 pub mod Told

@@ -13,6 +13,7 @@ mod follow;
 mod in_message;
 mod laws;
 mod list;
+mod lowercase;
 mod memory;
 mod outside;
 mod parse;
@@ -33,6 +34,7 @@ pub use laws::{
     pointed_names, pointers_lead_back,
 };
 pub use list::{ListError, split_list};
+pub use lowercase::{build_lowercase, compare_lowercase};
 pub use memory::{NullSink, PlainSource, TextSink, TextSource};
 pub use outside::{Failed, Sink, Source};
 pub use parse::{

@@ -1,0 +1,18 @@
+use Rattle.std.proofs.Common.{arith}
+use Rattle.dns_wire.proofs.Backward.{reversed_size}
+use Rattle.dns_name.proofs.Turned.{HoldsName, holds_name}
+use Rattle.dns_wire.specs.Reversed.{reversed_labels_of}
+use Rattle.dns_name.proofs.rev_name.RevName.to_name.Goals as goal
+use Rattle.dns_name.proofs.rev_name.RevName.to_name.Goals.{After-put_forward-size}
+
+held : (c : After-put_forward-size) → HoldsName c.put_forward-size.new.bytes c.put_forward-size.result (reversed_labels_of c.args.self.now.slice.now)
+held c = holds_name _ _ _ _ (reversed_size _ _ c.args.self.now.is_name).name c.put_forward-size.ensures
+
+pub put_forward-size-requires : goal.put_forward-size-requires
+put_forward-size-requires c = omega (arith, (reversed_size _ _ c.args.self.now.is_name).short)
+
+pub invariant_of-result : goal.invariant_of-result
+invariant_of-result c = let h = held (goal.at.invariant_of-result c).After-put_forward-size in (h.short, h.whole)
+
+pub returns : goal.returns
+returns c = (held (goal.at.returns c).After-put_forward-size).labels_are

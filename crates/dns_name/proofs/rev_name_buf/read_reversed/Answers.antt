@@ -1,0 +1,44 @@
+use Rattle.std.proofs.Common.{arith, ◌+◌, ◌-◌, ◌≡◌, drop, take, length, refl}
+use Rattle.std.specs.Prelude.{unwrap_or, slice_range}
+use Rattle.std.proofs.lemmas.Result.{err_from_is_err_and}
+use Rattle.std.proofs.lemmas.List.{length-take, length-drop}
+use Rattle.dns_name.proofs.Gathered.{GatheredName, gathered_none, gathered_bad, gathered_root, gathered_label, gathered_long, gathered_pointer}
+use Rattle.dns_name.proofs.rev_name_buf.read_reversed.Goals as goal
+use Rattle.dns_name.proofs.rev_name_buf.read_reversed.Goals.{After-copy_before}
+
+pub loop-buffer-init : goal.loop-buffer-init
+loop-buffer-init c = gathered_none _ _ _ refl
+
+pub returns-in_err-read_head-clause-exact : goal.returns-in_err-read_head-clause-exact
+returns-in_err-read_head-clause-exact c =
+    let p = err_from_is_err_and c.from_residual.result c.from_residual.ensures.1 in
+    rw p.1 (gathered_bad _ _ _ _ _ _ _ c.loop-buffer.invariant c.in_err-read_head.ensures.exact)
+
+-- what is read at the root
+found : (c : After-copy_before) → GatheredName c.args.contents.now c.args.start (c.loop-buffer.offset - 1) (unwrap_or c.loop-buffer.end (c.loop-buffer.at + 1)) c.copy_before.new.buffer
+found c = gathered_root _ _ _ _ _ _ _ _ c.loop-buffer.invariant (rw c.in-Root.is at c.in_ok-read_head.ensures.exact) (rw c.in-Root.is at c.in_ok-read_head.ensures.fits) c.copy_before.ensures
+
+pub invariant_of-name : goal.invariant_of-name
+invariant_of-name c = let h = (found (goal.at.invariant_of-name c).After-copy_before).holds in (h.early, h.whole)
+
+pub returns-in-Root-clause-exact : goal.returns-in-Root-clause-exact
+returns-in-Root-clause-exact c =
+    let f = found (goal.at.returns-in-Root-clause-exact c).After-copy_before in rw (c.unwrap_or.ensures, f.holds.labels_are) f.reads
+
+pub returns-in-Root-clause-within : goal.returns-in-Root-clause-within
+returns-in-Root-clause-within c = rw c.unwrap_or.ensures (found (goal.at.returns-in-Root-clause-within c).After-copy_before).within
+
+pub returns-then-offset-label-clause-exact : goal.returns-then-offset-label-clause-exact
+returns-then-offset-label-clause-exact c =
+    gathered_long _ _ _ _ _ _ _ _ c.loop-buffer.invariant (rw c.in-Label.is at c.in_ok-read_head.ensures.exact) (rw c.in-Label.is at c.in_ok-read_head.ensures.fits) c.if-offset-label.true
+
+pub loop-buffer-preserved-in-Label : goal.loop-buffer-preserved-in-Label
+loop-buffer-preserved-in-Label c =
+    let fits = rw c.in-Label.is at c.in_ok-read_head.ensures.fits in
+    let long : length (slice_range c.args.contents.now c.loop-buffer.at (c.loop-buffer.at + 1 + c.in-Label.label)) ≡ 1 + c.in-Label.label = omega (arith, length-take (c.loop-buffer.at + 1 + c.in-Label.label - c.loop-buffer.at) (drop c.loop-buffer.at c.args.contents.now), length-drop c.loop-buffer.at c.args.contents.now, fits) in
+    gathered_label _ _ _ _ _ _ _ _ c.loop-buffer.invariant (rw c.in-Label.is at c.in_ok-read_head.ensures.exact) fits _ c.if-offset-label.false (rw long at c.copy_before-in-Label.ensures)
+
+pub loop-buffer-preserved : goal.loop-buffer-preserved
+loop-buffer-preserved c =
+    let fits = rw c.in-Pointer.is at c.in_ok-read_head.ensures.fits in
+    rw c.unwrap_or-in-Pointer.ensures (gathered_pointer _ _ _ _ _ _ _ _ c.loop-buffer.invariant (rw c.in-Pointer.is at c.in_ok-read_head.ensures.exact) fits.0 fits.1)

@@ -1,0 +1,50 @@
+//! Labels one after another, as they stand in a name of either layout beside its root.
+
+ghost use Rattle.std.specs.Prelude.{◌≡◌, ◌≤◌, ◌-◌, List, [], ◌∷◌, ◌++◌, length, take, drop, reverse, Some, MatchOption};
+ghost use Rattle.std.proofs.Props.{props};
+ghost use Rattle.dns_wire.specs.Names.{heads};
+ghost use Rattle.dns_wire.specs.Reversed.{label_row, row_labels};
+
+/// Labels of 1 to 63 octets, each behind its length, with no root behind them: at most 254 octets.
+#[derive(Clone, Copy)]
+pub(crate) struct LabelRow<'a> {
+    pub slice: &'a [u8],
+    ghost are_labels: { label_row slice.now ≡ Some (row_labels slice.now) } by { Prim.hlevel props },
+}
+
+impl<'a> LabelRow<'a> {
+    /// The first label, and those behind it; none where there are no labels.
+    pub fn split_first(&self) -> Option<(&'a [u8], LabelRow<'a>)>
+        ensures { MatchOption result (row_labels self.now.slice.now ≡ [])
+            (λ x. row_labels self.now.slice.now ≡ x.0.now ∷ row_labels x.1.slice.now) }
+    {
+        let Some((size, behind)) = self.slice.split_first() else {
+            return None;
+        };
+        let (label, rest) = behind.split_at(*size as usize);
+        Some((label, LabelRow { slice: rest }))
+    }
+
+    /// Copies the labels into the buffer in reverse order, so that the first of them ends at `end`.
+    pub fn put_reversed(&self, bytes: &mut [u8], end: usize)
+        requires room { length self.now.slice.now ≤ end }
+        requires within { end ≤ length bytes.old }
+        ensures { bytes.new ≡ take (end - length self.now.slice.now) bytes.old ++ (heads (reverse (row_labels self.now.slice.now)) ++ drop end bytes.old) }
+    {
+        let mut at = 0;
+        while at < self.slice.len() {
+            let next = at + 1 + self.slice[at] as usize;
+            copy_before(&self.slice[at..next], bytes, end - at);
+            at = next;
+        }
+    }
+}
+
+/// Copies the octets to the place of the buffer that ends at `end`.
+pub(crate) fn copy_before(octets: &[u8], buffer: &mut [u8], end: usize)
+    requires room { length octets.now ≤ end }
+    requires within { end ≤ length buffer.old }
+    ensures { buffer.new ≡ take (end - length octets.now) buffer.old ++ (octets.now ++ drop end buffer.old) }
+{
+    buffer[end - octets.len()..end].copy_from_slice(octets);
+}

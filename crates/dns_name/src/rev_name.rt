@@ -1,0 +1,110 @@
+//! A name from the root on, as a view over its octets.
+
+ghost use Rattle.std.specs.Prelude.{◌≡◌, ◌+◌, ◌≤◌, ◌<◌, ◌^◌, ◌↔◌, [], length, reverse, Some, IsTrue, ⊤};
+ghost use Rattle.std.proofs.Props.{props};
+ghost use Rattle.dns_wire.specs.Building.{Builds, Stands};
+ghost use Rattle.dns_wire.specs.Names.{wire};
+ghost use Rattle.dns_wire.specs.Reversed.{row_labels, reversed_wire, reversed_name, reversed_labels_of};
+
+use crate::label_row::{LabelRow, copy_before};
+use crate::name::Name;
+use crate::name_buf::NameBuf;
+use dns_wire::{BuildBytes, TruncationError};
+
+/// A name without pointers in reverse: the root's length 0, and then labels of 1 to 63 octets from the last
+/// to the first, each behind its length, at most 255 octets in all. Names that end in the same labels begin
+/// with the same octets so. It is written as other names are, the root last.
+#[derive(Clone, Copy, Debug)]
+pub struct RevName<'a> {
+    /// All the octets, the first of them the root's 0.
+    pub slice: &'a [u8],
+    ghost is_name: { reversed_name slice.now ≡ Some (reversed_labels_of slice.now) } by { Prim.hlevel props },
+}
+
+impl<'a> RevName<'a> {
+    /// The most octets of a name, the root's 0 included (RFC 1035 section 2.3.4).
+    pub const MAX_SIZE: usize = 255;
+
+    /// The root: a name without labels.
+    pub fn root() -> RevName<'a>
+        ensures { reversed_labels_of result.slice.now ≡ [] }
+    {
+        RevName { slice: &[0] }
+    }
+
+    /// The number of octets, from 1 to 255, which is the same in both layouts.
+    pub fn len(&self) -> usize
+        ensures octets { result ≡ length self.now.slice.now }
+        ensures wire { result ≡ length (wire (reversed_labels_of self.now.slice.now)) }
+        ensures short { result ≤ 255 }
+    {
+        self.as_bytes().len()
+    }
+
+    /// Whether there are no labels but the root.
+    pub fn is_root(&self) -> bool
+        ensures { IsTrue result ↔ (reversed_labels_of self.now.slice.now ≡ []) }
+    {
+        self.len() == 1
+    }
+
+    /// The octets: the root's 0, and the labels from the last to the first, each behind its length.
+    pub fn as_bytes(&self) -> &'a [u8]
+        ensures octets { result.now ≡ self.now.slice.now }
+        ensures name { reversed_name result.now ≡ Some (reversed_labels_of self.now.slice.now) }
+        ensures reversed { result.now ≡ reversed_wire (reversed_labels_of self.now.slice.now) }
+        ensures short { length result.now ≤ 255 }
+    {
+        self.slice
+    }
+
+    /// The name with its first label in front.
+    pub fn to_name(&self) -> NameBuf
+        ensures { result ≡ reversed_labels_of self.now.slice.now }
+    {
+        let mut buffer = [0; Name::MAX_SIZE];
+        let size = self.put_forward(&mut buffer, 0);
+        NameBuf {
+            size: size as u8,
+            buffer,
+        }
+    }
+
+    /// The labels, from the last to the first.
+    pub(crate) fn row(&self) -> LabelRow<'a>
+        ensures labels { row_labels result.slice.now ≡ reverse (reversed_labels_of self.now.slice.now) }
+        ensures octets { length self.now.slice.now ≡ length result.slice.now + 1 }
+    {
+        let (_root, labels) = self.slice.split_at(1);
+        LabelRow { slice: labels }
+    }
+
+    /// Copies the labels to a place of the buffer, the first label first, and gives the place where they end.
+    fn put_forward(&self, bytes: &mut [u8], start: usize) -> usize
+        requires { start + length self.now.slice.now ≤ length bytes.old }
+        ensures { Stands (wire (reversed_labels_of self.now.slice.now)) bytes.old start bytes.new result }
+    {
+        let end = start + self.slice.len();
+        copy_before(&[0], bytes, end);
+        self.row().put_reversed(bytes, end - 1);
+        end
+    }
+}
+
+/// The octets with the first label in front and the root last.
+impl BuildBytes for RevName<'_> {
+    ghost octets = { λ v. wire (reversed_labels_of v.slice.now) };
+
+    ghost fits = { λ _. ⊤ };
+
+    fn build_at(&self, bytes: &mut [u8], start: usize) -> Result<usize, TruncationError> {
+        if bytes.len() - start < self.len() {
+            return Err(TruncationError);
+        }
+        Ok(self.put_forward(bytes, start))
+    }
+
+    fn built_bytes_size(&self) -> usize {
+        self.len()
+    }
+}

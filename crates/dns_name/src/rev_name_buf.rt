@@ -1,0 +1,222 @@
+//! A name from the root on, with its octets.
+
+ghost use Rattle.std.specs.Prelude.{◌≡◌, ◌≤◌, ℕ, List, length, IfOk, OnErr, ⊤};
+ghost use Rattle.dns_wire.specs.Reading.{Gives, all_of, all_at};
+ghost use Rattle.dns_wire.specs.Names.{plain_name, labels_of, wire};
+ghost use Rattle.dns_wire.specs.Pointers.{NameAt, name_at};
+ghost use Rattle.dns_wire.specs.Reversed.{reversed_labels_of};
+
+use crate::label_row::{LabelRow, copy_before};
+use crate::name::Name;
+use crate::name_buf::NameBuf;
+use crate::rev_name::RevName;
+use dns_wire::{
+    BuildBytes, Head, ParseBytes, ParseError, ParseMessageBytes, SplitBytes, SplitMessageBytes,
+    TruncationError, read_head,
+};
+use std::alloc::AllocError;
+use std::marker::Model;
+
+/// A name from the root on that owns its octets, and is seen as its labels, from the first to the last. It
+/// takes no memory.
+#[derive(Debug, Drop)]
+pub struct RevNameBuf {
+    /// Where the root's 0 stands in the buffer. The name ends with it, so that labels can be put before
+    /// others.
+    offset: u8,
+    buffer: [u8; RevName::MAX_SIZE],
+}
+
+impl Model for RevNameBuf {
+    ghost use Rattle.std.specs.Prelude.{◌≡◌, ◌<◌, ℕ, List, drop, Some};
+    ghost use Rattle.dns_wire.specs.Reversed.{reversed_name, reversed_labels_of};
+
+    ghost Value = { List (List ℕ) };
+
+    ghost view = { λ b. reversed_labels_of (drop b.offset b.buffer) };
+
+    ghost invariant = { λ b. (b.offset < 255) × (reversed_name (drop b.offset b.buffer) ≡ Some (reversed_labels_of (drop b.offset b.buffer))) };
+}
+
+impl RevNameBuf {
+    /// A copy of the name.
+    pub fn copy_from(name: RevName<'_>) -> RevNameBuf
+        ensures { result ≡ reversed_labels_of name.entry.slice.now }
+    {
+        let octets = name.as_bytes();
+        let mut buffer = [0; RevName::MAX_SIZE];
+        copy_before(octets, &mut buffer, RevName::MAX_SIZE);
+        RevNameBuf {
+            offset: (RevName::MAX_SIZE - octets.len()) as u8,
+            buffer,
+        }
+    }
+
+    /// The name as a view.
+    pub fn as_revname(&self) -> RevName<'_>
+        ensures { reversed_labels_of result.slice.now ≡ self.now }
+    {
+        RevName {
+            slice: &self.buffer[self.offset as usize..],
+        }
+    }
+}
+
+impl<'a> Name<'a> {
+    /// The name from the root on.
+    pub fn to_revname(&self) -> RevNameBuf
+        ensures { result ≡ labels_of self.now.slice.now }
+    {
+        let octets = self.as_bytes();
+        let (labels, _root) = octets.split_at(octets.len() - 1);
+        let mut buffer = [0; RevName::MAX_SIZE];
+        LabelRow { slice: labels }.put_reversed(&mut buffer, RevName::MAX_SIZE);
+        let offset = RevName::MAX_SIZE - labels.len();
+        copy_before(&[0], &mut buffer, offset);
+        RevNameBuf {
+            offset: (offset - 1) as u8,
+            buffer,
+        }
+    }
+}
+
+impl From<NameBuf> for RevNameBuf {
+    ghost from_gives = { λ name reversed. reversed ≡ name };
+
+    fn from(name: NameBuf) -> RevNameBuf {
+        name.as_name().to_revname()
+    }
+}
+
+impl From<RevNameBuf> for NameBuf {
+    ghost from_gives = { λ reversed name. name ≡ reversed };
+
+    fn from(name: RevNameBuf) -> NameBuf {
+        name.as_revname().to_name()
+    }
+}
+
+impl Clone for RevNameBuf {
+    ghost is_clone = { λ a b. b ≡ a };
+
+    ghost is_infallible = { λ _. ⊤ };
+
+    fn clone(&self) -> Result<RevNameBuf, AllocError> {
+        Ok(RevNameBuf::copy_from(self.as_revname()))
+    }
+}
+
+/// Reads the name at the place, its pointers followed, and gives the place where it ends. Each label is
+/// copied once, before those that are read already, and the first that leaves no room for the root ends the
+/// reading.
+fn read_reversed(contents: &[u8], start: usize) -> Result<(RevNameBuf, usize), ParseError>
+    ensures exact { Gives (λ x. (x.0, x.1)) result (name_at contents.now start) }
+    ensures within { IfOk result (λ x. (start ≤ x.1) × (x.1 ≤ length contents.now)) }
+{
+    let mut buffer = [0; RevName::MAX_SIZE];
+    let mut offset = RevName::MAX_SIZE;
+    let mut segment = start;
+    let mut at = start;
+    let mut end = None;
+    loop {
+        match read_head(contents, segment, at)? {
+            Head::Root => {
+                copy_before(&[0], &mut buffer, offset);
+                let name = RevNameBuf {
+                    offset: (offset - 1) as u8,
+                    buffer,
+                };
+                return Ok((name, end.unwrap_or(at + 1)));
+            }
+            Head::Label(label) => {
+                if offset <= 1 + label {
+                    return Err(ParseError);
+                }
+                copy_before(&contents[at..at + 1 + label], &mut buffer, offset);
+                offset -= 1 + label;
+                at += 1 + label;
+            }
+            Head::Pointer(target) => {
+                end = Some(end.unwrap_or(at + 2));
+                segment = target;
+                at = target;
+            }
+        }
+    }
+}
+
+/// The octets of a name without pointers, its first label in front.
+impl<'a> ParseBytes<'a> for RevNameBuf {
+    ghost Seen = { List (List ℕ) };
+
+    ghost seen = { λ v. v };
+
+    ghost reads = { plain_name };
+
+    ghost reads_at = { name_at };
+
+    ghost labels = { λ x. x };
+
+    fn parse_bytes(bytes: &'a [u8]) -> Result<RevNameBuf, ParseError> {
+        let name = Name::parse_bytes(bytes)?;
+        Ok(name.to_revname())
+    }
+}
+
+impl<'a> SplitBytes<'a> for RevNameBuf {
+    fn split_bytes(bytes: &'a [u8]) -> Result<(RevNameBuf, &'a [u8]), ParseError> {
+        let (name, rest) = Name::split_bytes(bytes)?;
+        Ok((name.to_revname(), rest))
+    }
+}
+
+/// A name whose pointers are followed (RFC 1035 section 4.1.4).
+impl<'a> ParseMessageBytes<'a> for RevNameBuf {
+    /// Reads the name that stands from the place to the end of the contents. `ParseError` comes exactly
+    /// where none does.
+    fn parse_message_bytes(contents: &'a [u8], start: usize) -> Result<RevNameBuf, ParseError>
+        ensures exact { Gives (λ v. v) result (all_at contents.now (name_at contents.now start)) }
+        ensures follows { IfOk result (λ v. NameAt contents.now start v (length contents.now)) }
+        ensures refused { OnErr result ((labels : List (List ℕ)) → ¬ NameAt contents.now start labels (length contents.now)) }
+    {
+        let (name, end) = read_reversed(contents, start)?;
+        if end == contents.len() {
+            Ok(name)
+        } else {
+            Err(ParseError)
+        }
+    }
+}
+
+impl<'a> SplitMessageBytes<'a> for RevNameBuf {
+    /// Reads the name at the place, and gives the place where it ends. `ParseError` comes exactly where
+    /// none stands there.
+    fn split_message_bytes(
+        contents: &'a [u8],
+        start: usize,
+    ) -> Result<(RevNameBuf, usize), ParseError>
+        ensures exact { Gives (λ x. (x.0, x.1)) result (name_at contents.now start) }
+        ensures within { IfOk result (λ x. (start ≤ x.1) × (x.1 ≤ length contents.now)) }
+        ensures follows { IfOk result (λ x. NameAt contents.now start x.0 x.1) }
+        ensures refused { OnErr result ((labels : List (List ℕ)) (end : ℕ) → ¬ NameAt contents.now start labels end) }
+    {
+        read_reversed(contents, start)
+    }
+}
+
+/// The octets with the first label in front and the root last.
+impl BuildBytes for RevNameBuf {
+    ghost use Rattle.dns_wire.specs.Building.{Builds};
+
+    ghost octets = { λ v. wire v };
+
+    ghost fits = { λ _. ⊤ };
+
+    fn build_at(&self, bytes: &mut [u8], start: usize) -> Result<usize, TruncationError> {
+        self.as_revname().build_at(bytes, start)
+    }
+
+    fn built_bytes_size(&self) -> usize {
+        self.as_revname().built_bytes_size()
+    }
+}
