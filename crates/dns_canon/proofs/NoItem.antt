@@ -12,7 +12,7 @@ use Rattle.dns_canon.specs.Messages.Item.{Told}
 use Rattle.std.specs.Int.{w16, w32}
 use Rattle.dns_canon.specs.NotBuilt.{type_behind_owner, waits, not_built_at}
 use Rattle.dns_record.specs.Records.{record_in, end_of}
-use Rattle.dns_record.specs.Steps.{◌>>=◌, first_to}
+use Rattle.dns_wire.specs.Steps.{◌>>=◌, first_to}
 
 -- ---- a type that waits for its row
 

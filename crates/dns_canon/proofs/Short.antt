@@ -10,7 +10,7 @@ use Rattle.dns_record.specs.Fields.Field.{Raw}
 use Rattle.dns_record.specs.Kinds.{fields_in, no_name_in}
 use Rattle.dns_record.specs.Records.{SizedDataIn}
 use Rattle.dns_record.specs.Rows.{row, row_a, row_unknown}
-use Rattle.dns_record.specs.Steps.{first_to, ◌>>=◌}
+use Rattle.dns_wire.specs.Steps.{first_to, ◌>>=◌}
 use Rattle.dns_canon.specs.Data.{is_waiting, read_in}
 
 -- the one field of a row of one kind

@@ -4,7 +4,7 @@ use Rattle.dns_wire.specs.Pointers.{name_at}
 use Rattle.dns_record.specs.Fields.{Field}
 use Rattle.dns_record.specs.Questions.{QuestionOf, question_in}
 use Rattle.dns_record.specs.Records.{RecordOf, record_in}
-use Rattle.dns_record.specs.Steps.{first_to}
+use Rattle.dns_wire.specs.Steps.{first_to}
 use Rattle.dns_canon.specs.Data.{read_in}
 
 -- a question, with its name's labels

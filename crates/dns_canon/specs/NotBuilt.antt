@@ -5,7 +5,7 @@ use Rattle.dns_wire.specs.Pointers.{name_at}
 use Rattle.dns_wire.specs.Reading.{octets, number, plain_at}
 use Rattle.dns_canon.specs.Data.{is_waiting}
 use Rattle.dns_canon.specs.Messages.{StopsAt}
-use Rattle.dns_record.specs.Steps.{◌>>=◌}
+use Rattle.dns_wire.specs.Steps.{◌>>=◌}
 
 -- the type of a record whose owner is read at the place, and behind whose owner ten octets stand
 unfoldable pub type_behind_owner : List ℕ → ℕ → Option ℕ

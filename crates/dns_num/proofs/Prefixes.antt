@@ -5,7 +5,8 @@ use Rattle.std.proofs.lemmas.Bool.{lt-ltb, le-ltb, cases_lt}
 use Rattle.std.proofs.lemmas.List.{length-append, length-drop, take-take}
 use Rattle.dns_wire.specs.Reading.{number, all_of}
 use Rattle.dns_wire.specs.Building.{Builds}
-use Rattle.dns_num.specs.Prefixed.{◌>>=◌, sized, prefixed}
+use Rattle.dns_wire.specs.Steps.{◌>>=◌}
+use Rattle.dns_num.specs.Prefixed.{sized, prefixed}
 
 -- ---- reading
 

@@ -2,12 +2,7 @@
 use Rattle.std.specs.Prelude.{ℕ, ◌+◌, List, ◌++◌, length, take, Option, Some, None, nat_lt, if◌then◌else◌}
 use Rattle.std.specs.Int.{Width, to_be_bytes}
 use Rattle.dns_wire.specs.Reading.{number, octets, all_of, all_at, plain_at}
-
--- what is read next, where something was read
-infixl 10 ◌>>=◌
-abbrev pub ◌>>=◌ : {A B : Type 0} → Option A → (A → Option B) → Option B
-None >>= next = None
-(Some a) >>= next = next a
+use Rattle.dns_wire.specs.Steps.{◌>>=◌}
 
 -- these octets, behind their number
 abbrev pub sized : Width → List ℕ → List ℕ

@@ -6,7 +6,7 @@ use Rattle.dns_wire.specs.Names.{plain_name}
 use Rattle.dns_wire.specs.Reading.{octet, octets, number, plain_at}
 use Rattle.dns_record.specs.Fields.{Field}
 use Rattle.dns_record.specs.Fields.Field.{Named, Raw, Sized, Byte, Number}
-use Rattle.dns_record.specs.Steps.{◌>>=◌, first_to}
+use Rattle.dns_wire.specs.Steps.{◌>>=◌, first_to}
 
 pub data Kind : Type 0 where
   OneByte : Kind

@@ -8,6 +8,5 @@ pub mod Records
 pub mod Rows
 pub mod Seen
 pub mod Serials
-pub mod Steps
 pub mod Types
 pub mod Unparsed

@@ -2,7 +2,7 @@
 use Rattle.std.specs.Prelude.{ℕ, List, Option, Some}
 use Rattle.std.specs.Int.{w16}
 use Rattle.dns_wire.specs.Reading.{number, plain_at}
-use Rattle.dns_record.specs.Steps.{◌>>=◌}
+use Rattle.dns_wire.specs.Steps.{◌>>=◌}
 
 pub record QuestionOf (N : Type 0) : Type 0 where
   pub name : N

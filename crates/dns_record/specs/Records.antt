@@ -1,8 +1,8 @@
 -- Records, whatever their owners and their data are (RFC 1035 section 4.1.3).
-use Rattle.std.specs.Prelude.{◌≡◌, ℕ, ◌+◌, ◌<◌, ◌^◌, List, length, take, Option, Some, None, nat_lt, if◌then◌else◌}
-use Rattle.std.specs.Int.{w16, w32}
+use Rattle.std.specs.Prelude.{◌≡◌, ℕ, ◌+◌, ◌<◌, ◌^◌, List, ◌++◌, length, take, Option, Some, None, nat_lt, if◌then◌else◌}
+use Rattle.std.specs.Int.{w16, w32, to_be_bytes}
 use Rattle.dns_wire.specs.Reading.{octets, number, plain_at}
-use Rattle.dns_record.specs.Steps.{◌>>=◌}
+use Rattle.dns_wire.specs.Steps.{◌>>=◌}
 
 pub record RecordOf (N D : Type 0) : Type 0 where
   pub owner : N
@@ -39,6 +39,13 @@ record_in name data_in contents at = do
   end ← end_of contents size.1 size.0
   content ← data_in rtype.0 (take end contents) size.1
   Some (record { owner = owner.0; rtype = rtype.0; class = class.0; ttl = ttl.0; content = content }, end)
+
+-- ---- octets
+
+-- an owner's octets, type, class, time to live, the number of the data's octets, and these octets
+abbrev pub record_octets : List ℕ → ℕ → ℕ → ℕ → List ℕ → List ℕ
+record_octets owner rtype class ttl octets =
+    owner ++ (to_be_bytes w16 rtype ++ (to_be_bytes w16 class ++ (to_be_bytes w32 ttl ++ (to_be_bytes w16 (length octets) ++ octets))))
 
 -- ---- how many octets the data are read from
 

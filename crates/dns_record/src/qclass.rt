@@ -1,13 +1,15 @@
 //! Classes that a question asks for.
 
-ghost use Rattle.std.specs.Prelude.{◌≡◌, ℕ, [], ⊤};
+ghost use Rattle.std.specs.Prelude.{◌≡◌, ℕ, [], None, ⊤};
 ghost use Rattle.std.specs.Int.{w16, to_be_bytes};
+ghost use Rattle.dns_wire.specs.Pieces.{whole_presses};
 ghost use Rattle.dns_wire.specs.Reading.{number, plain_at};
 
 use dns_num::U16;
 use dns_wire::{
-    BuildBytes, ParseBytes, ParseError, ParseMessageBytes, SplitBytes, SplitMessageBytes,
-    TruncationError, parse_without_compression, split_without_compression,
+    BuildBytes, BuildInMessage, NameCompressor, ParseBytes, ParseError, ParseMessageBytes,
+    SplitBytes, SplitMessageBytes, TruncationError, parse_without_compression,
+    split_without_compression,
 };
 
 /// The class that a question asks for: two octets on the wire (RFC 1035 section 3.2.5).
@@ -76,5 +78,25 @@ impl BuildBytes for QClass {
 
     fn built_bytes_size(&self) -> usize {
         self.code.built_bytes_size()
+    }
+}
+
+/// Whole, with no name in it.
+impl BuildInMessage for QClass {
+    ghost presses = { λ v. whole_presses (to_be_bytes w16 v.code.value) };
+
+    ghost fits_in = { λ _ _ _. ⊤ };
+
+    ghost pieces = { λ _. None };
+
+    ghost told = { λ _. tt };
+
+    fn build_in_message(
+        &self,
+        contents: &mut [u8],
+        start: usize,
+        _compressor: &mut NameCompressor,
+    ) -> Result<usize, TruncationError> {
+        self.build_at(contents, start)
     }
 }

@@ -1,13 +1,17 @@
 //! Questions.
 
-ghost use Rattle.std.specs.Prelude.{◌≡◌, []};
+ghost use Rattle.std.specs.Prelude.{◌≡◌, [], ◌++◌, length};
+ghost use Rattle.std.specs.Int.{w16, to_be_bytes};
 ghost use Rattle.std.specs.Fn.{FnOnceTakesAt, FnOnceReturnsAt};
 ghost use Rattle.dns_record.specs.Questions.{QuestionOf, question_at, question_in};
 ghost use Rattle.dns_record.specs.Seen.{question_seen};
 
 use crate::qclass::QClass;
 use crate::qtype::QType;
-use dns_wire::{ParseBytes, ParseError, ParseMessageBytes, SplitBytes, SplitMessageBytes};
+use dns_wire::{
+    BuildBytes, ParseBytes, ParseError, ParseMessageBytes, SplitBytes, SplitMessageBytes,
+    TruncationError,
+};
 
 /// A question of a message: a name, a type and a class (RFC 1035 section 4.1.2).
 #[derive(Clone, Debug, PartialEq, Eq, Hash, Drop)]
@@ -121,5 +125,19 @@ impl<'a, N: SplitMessageBytes<'a>> SplitMessageBytes<'a> for Question<N> {
             qclass,
         };
         Ok((question, end))
+    }
+}
+
+impl<N: BuildBytes> BuildBytes for Question<N> {
+    ghost octets = { λ v. N.octets v.qname ++ (to_be_bytes w16 v.qtype.code.value ++ to_be_bytes w16 v.qclass.code.value) };
+
+    ghost fits = { λ v. N.fits v.qname };
+
+    fn build_at(&self, bytes: &mut [u8], start: usize) -> Result<usize, TruncationError> {
+        (&self.qname, (&self.qtype, &self.qclass)).build_at(bytes, start)
+    }
+
+    fn built_bytes_size(&self) -> usize {
+        self.qname.built_bytes_size() + 4
     }
 }

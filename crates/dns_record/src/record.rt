@@ -1,17 +1,20 @@
 //! Records.
 
-ghost use Rattle.std.specs.Prelude.{◌≡◌, ◌≤◌, [], length, IfOk};
+ghost use Rattle.std.specs.Prelude.{◌≡◌, ◌≤◌, ◌<◌, ◌^◌, [], length, IfOk};
 ghost use Rattle.std.specs.Fn.{FnOnceTakesAt, FnOnceReturnsAt};
 ghost use Rattle.dns_wire.specs.Reading.{Gives, octets};
-ghost use Rattle.dns_record.specs.Records.{RecordOf, record_at, record_in, SizedData, SizedDataIn};
+ghost use Rattle.dns_record.specs.Records.{RecordOf, record_at, record_in, record_octets, SizedData, SizedDataIn};
 ghost use Rattle.dns_record.specs.Seen.{record_seen};
 
 use crate::rclass::RClass;
 use crate::record_data::{ParseRecordData, ParseRecordDataBytes};
 use crate::rtype::RType;
 use crate::ttl::TTL;
-use dns_num::U16;
-use dns_wire::{ParseBytes, ParseError, ParseMessageBytes, SplitBytes, SplitMessageBytes};
+use dns_num::{SizePrefixed, U16};
+use dns_wire::{
+    BuildBytes, ParseBytes, ParseError, ParseMessageBytes, SplitBytes, SplitMessageBytes,
+    TruncationError,
+};
 
 /// A record: an owner, a type, a class, a time to live, and data (RFC 1035 section 4.1.3).
 #[derive(Clone, Debug, PartialEq, Eq, Hash, Drop)]
@@ -185,5 +188,22 @@ impl<'a, N: SplitMessageBytes<'a>, D: ParseRecordData<'a>> SplitMessageBytes<'a>
             rdata,
         };
         Ok((value, end))
+    }
+}
+
+/// The size and the data stand as data behind their size do: the data are at most 65,535 octets.
+impl<N: BuildBytes, D: BuildBytes> BuildBytes for Record<N, D> {
+    ghost octets = { λ v. record_octets (N.octets v.rname) v.rtype.code.value v.rclass.code.value v.ttl.value.value (D.octets v.rdata) };
+
+    ghost fits = { λ v. N.fits v.rname × (length (D.octets v.rdata) < 2 ^ 16) × D.fits v.rdata };
+
+    fn build_at(&self, bytes: &mut [u8], start: usize) -> Result<usize, TruncationError> {
+        let data = SizePrefixed::<U16, _>::new(&self.rdata);
+        let parts = (&self.rtype, (&self.rclass, (&self.ttl, data)));
+        (&self.rname, parts).build_at(bytes, start)
+    }
+
+    fn built_bytes_size(&self) -> usize {
+        self.rname.built_bytes_size() + (10 + self.rdata.built_bytes_size())
     }
 }

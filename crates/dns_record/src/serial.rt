@@ -1,15 +1,17 @@
 //! Serial numbers.
 
-ghost use Rattle.std.specs.Prelude.{◌≡◌, ◌≤ℤ◌, ◌+◌, ◌%◌, ◌^◌, ℕ, pos, [], Some, ⊤};
+ghost use Rattle.std.specs.Prelude.{◌≡◌, ◌≤ℤ◌, ◌+◌, ◌%◌, ◌^◌, ℕ, pos, [], Some, None, ⊤};
 ghost use Rattle.std.specs.Int.{w32, to_be_bytes};
 ghost use Rattle.std.specs.Fmt.{decimal};
+ghost use Rattle.dns_wire.specs.Pieces.{whole_presses};
 ghost use Rattle.dns_wire.specs.Reading.{number, plain_at};
 ghost use Rattle.dns_record.specs.Serials.{serial_cmp};
 
 use dns_num::U32;
 use dns_wire::{
-    BuildBytes, ParseBytes, ParseError, ParseMessageBytes, SplitBytes, SplitMessageBytes,
-    TruncationError, parse_without_compression, split_without_compression,
+    BuildBytes, BuildInMessage, NameCompressor, ParseBytes, ParseError, ParseMessageBytes,
+    SplitBytes, SplitMessageBytes, TruncationError, parse_without_compression,
+    split_without_compression,
 };
 use std::cmp::Ordering;
 use std::fmt;
@@ -119,6 +121,26 @@ impl BuildBytes for Serial {
 
     fn built_bytes_size(&self) -> usize {
         self.0.built_bytes_size()
+    }
+}
+
+/// Whole, with no name in it.
+impl BuildInMessage for Serial {
+    ghost presses = { λ v. whole_presses (to_be_bytes w32 v.0.value) };
+
+    ghost fits_in = { λ _ _ _. ⊤ };
+
+    ghost pieces = { λ _. None };
+
+    ghost told = { λ _. tt };
+
+    fn build_in_message(
+        &self,
+        contents: &mut [u8],
+        start: usize,
+        _compressor: &mut NameCompressor,
+    ) -> Result<usize, TruncationError> {
+        self.build_at(contents, start)
     }
 }
 

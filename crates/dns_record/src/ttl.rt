@@ -1,13 +1,15 @@
 //! Times to live.
 
-ghost use Rattle.std.specs.Prelude.{◌≡◌, ℕ, [], ⊤};
+ghost use Rattle.std.specs.Prelude.{◌≡◌, ℕ, [], None, ⊤};
 ghost use Rattle.std.specs.Int.{w32, to_be_bytes};
+ghost use Rattle.dns_wire.specs.Pieces.{whole_presses};
 ghost use Rattle.dns_wire.specs.Reading.{number, plain_at};
 
 use dns_num::U32;
 use dns_wire::{
-    BuildBytes, ParseBytes, ParseError, ParseMessageBytes, SplitBytes, SplitMessageBytes,
-    TruncationError, parse_without_compression, split_without_compression,
+    BuildBytes, BuildInMessage, NameCompressor, ParseBytes, ParseError, ParseMessageBytes,
+    SplitBytes, SplitMessageBytes, TruncationError, parse_without_compression,
+    split_without_compression,
 };
 
 /// For how many seconds a record may be kept: four octets on the wire (RFC 1035 section 3.2.1).
@@ -91,5 +93,25 @@ impl BuildBytes for TTL {
 
     fn built_bytes_size(&self) -> usize {
         self.value.built_bytes_size()
+    }
+}
+
+/// Whole, with no name in it.
+impl BuildInMessage for TTL {
+    ghost presses = { λ v. whole_presses (to_be_bytes w32 v.value.value) };
+
+    ghost fits_in = { λ _ _ _. ⊤ };
+
+    ghost pieces = { λ _. None };
+
+    ghost told = { λ _. tt };
+
+    fn build_in_message(
+        &self,
+        contents: &mut [u8],
+        start: usize,
+        _compressor: &mut NameCompressor,
+    ) -> Result<usize, TruncationError> {
+        self.build_at(contents, start)
     }
 }

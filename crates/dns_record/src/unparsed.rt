@@ -1,12 +1,15 @@
 //! Record data as they stand.
 
-ghost use Rattle.std.specs.Prelude.{◌≡◌, ◌≤◌, ◌<◌, ◌^◌, ℕ, List, length, ⊤};
+ghost use Rattle.std.specs.Prelude.{◌≡◌, ◌<◌, ◌^◌, ℕ, List, [], ◌∷◌, length, Some, ⊤};
 ghost use Rattle.std.proofs.Props.{props};
+ghost use Rattle.dns_wire.specs.Pieces.{whole_presses};
+ghost use Rattle.dns_wire.specs.Pieces.Piece.{Whole};
+ghost use Rattle.dns_wire.specs.Told.{told_piece};
 ghost use Rattle.dns_record.specs.Unparsed.{few, few_in};
 
 use crate::record_data::{ParseRecordData, ParseRecordDataBytes};
 use crate::rtype::RType;
-use dns_wire::{BuildBytes, ParseError, TruncationError, put};
+use dns_wire::{AsBytes, BuildBytes, BuildInMessage, NameCompressor, ParseError, TruncationError, put};
 
 /// The data of a record as they stand, whatever its type: at most 65,535 octets, which is what a record's
 /// size can say (RFC 1035 section 3.2.1). Pointers in them are octets like others.
@@ -62,6 +65,14 @@ impl<'a> ParseRecordData<'a> for UnparsedRecordData<'a> {
     }
 }
 
+impl AsBytes for UnparsedRecordData<'_> {
+    ghost bytes = { λ v. v.octets.now };
+
+    fn as_bytes(&self) -> &[u8] {
+        self.octets()
+    }
+}
+
 impl BuildBytes for UnparsedRecordData<'_> {
     ghost octets = { λ v. v.octets.now };
 
@@ -73,5 +84,25 @@ impl BuildBytes for UnparsedRecordData<'_> {
 
     fn built_bytes_size(&self) -> usize {
         self.octets().len()
+    }
+}
+
+/// Whole, with no name in it.
+impl BuildInMessage for UnparsedRecordData<'_> {
+    ghost presses = { λ v. whole_presses (v.octets.now) };
+
+    ghost fits_in = { λ _ _ _. ⊤ };
+
+    ghost pieces = { λ v. Some (Whole v.octets.now ∷ []) };
+
+    ghost told = { λ v. told_piece (Whole v.octets.now) };
+
+    fn build_in_message(
+        &self,
+        contents: &mut [u8],
+        start: usize,
+        _compressor: &mut NameCompressor,
+    ) -> Result<usize, TruncationError> {
+        self.build_at(contents, start)
     }
 }

@@ -22,4 +22,3 @@ pub mod Suffixes
 pub mod Told
 pub mod Utf8
 pub mod Walk
-pub mod Written

@@ -12,10 +12,10 @@ use Rattle.dns_wire.proofs.Runs.{fits_more}
 use Rattle.dns_wire.proofs.Standing.{stands_front, stands_long, stands_then, kept_front}
 
 -- octets as they are
-pub builds_whole : {E : Type 0} {octets old new places : List ℕ} {start : ℕ} {result : Result ℕ E} → FitsIn places (take start old) → Builds ⊤ octets old start new result → BuildsIn ⊤ (whole_presses octets (take start old) places) old start places new places result
+pub builds_whole : {E F : Type 0} {octets old new places : List ℕ} {start : ℕ} {result : Result ℕ E} → FitsIn places (take start old) → Builds F octets old start new result → BuildsIn F (whole_presses octets (take start old) places) old start places new places result
 builds_whole {octets = octets} {old} {new} {places} {start} {result = Ok end} fits b =
     record {
-      accepted = tt;
+      accepted = b.ok.0;
       stands = b.ok.1;
       after_is = refl;
       grows = record { added = []; after_is = sym (append-nil places); behind = tt };

@@ -4,7 +4,7 @@ use Rattle.std.specs.List.{flat_map}
 use Rattle.std.proofs.lemmas.List.{take_more, flat_map_more}
 use Rattle.std.proofs.lemmas.List.Folds.{length-flat_map-take}
 use Rattle.dns_wire.specs.Building.{Stands, Builds}
-use Rattle.dns_wire.proofs.Written.{stands_long, kept_front}
+use Rattle.dns_wire.proofs.Standing.{stands_long, kept_front}
 
 -- the values up to one of them, and that one
 module _ {X : Type 0} (values : List X) (i : ℕ) (x : X) (within : i < length values) (is : x ≡ get_or values i x) where

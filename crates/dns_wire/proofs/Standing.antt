@@ -1,8 +1,11 @@
 -- Octets that are written one behind another.
 use Rattle.std.proofs.Common.{◌≡◌, ℕ, ◌≤◌, List, [], ◌++◌, length, take, drop, sym, ap, ◌∙◌, append_assoc, arith, Result, Ok, Err}
 use Rattle.std.specs.Prelude.{⊤}
-use Rattle.std.proofs.lemmas.List.{take_at, drop_at, length-append, length-take, length-drop, drop-drop, take-append-le, take-take}
+use Rattle.std.proofs.lemmas.List.{take_at, drop_at, length-append, length-take, length-drop, take-append-drop, drop-drop, take-append-le, take-take}
 use Rattle.dns_wire.specs.Building.{Stands, Builds}
+
+pub stands_nothing : (old : List ℕ) (start : ℕ) → start ≤ length old → Stands [] old start old start
+stands_nothing old start within = record { end_is = omega arith; within = within; new_is = sym (take-append-drop start old) }
 
 -- what is written before a place, and behind it
 module _ {a old new : List ℕ} {start end : ℕ} (s : Stands a old start new end) where
@@ -18,7 +21,7 @@ module _ {a old new : List ℕ} {start end : ℕ} (s : Stands a old start new en
   pub stands_front : take end new ≡ take start old ++ a
   stands_front = ap (take end) regrouped ∙ take_at (take start old ++ a) (drop end old) end front_long
 
-  stands_back : drop end new ≡ drop end old
+  pub stands_back : drop end new ≡ drop end old
   stands_back = ap (drop end) regrouped ∙ drop_at (take start old ++ a) (drop end old) end front_long
 
 pub stands_then : {a b first second third : List ℕ} {start middle end : ℕ} → Stands a first start second middle → Stands b second middle third end → Stands (a ++ b) first start third end
@@ -45,3 +48,9 @@ pub builds_behind : {E : Type 0} {a b first second third : List ℕ} {start midd
 builds_behind {result = Ok end} s t = record { ok = (tt, stands_then s t.ok.1); err = tt }
 builds_behind {a = a} {b} {first} {second} {third} {start} {middle} {result = Err e} s t =
     record { ok = tt; err = (kept_front first second third a start middle s t.err.0, t.err.1 ∙ stands_long s, λ g. omega (arith, t.err.2 tt, s.end_is, stands_long s, length-append a b)) }
+
+-- the same where prefixed data have to fit
+pub builds_then : {E F G : Type 0} {a b first second third : List ℕ} {start middle : ℕ} {result : Result ℕ E} → F → Stands a first start second middle → Builds G b second middle third result → Builds (F × G) (a ++ b) first start third result
+builds_then {result = Ok end} f s t = record { ok = ((f, t.ok.0), stands_then s t.ok.1); err = tt }
+builds_then {a = a} {b} {first} {second} {third} {start} {middle} {result = Err e} f s t =
+    record { ok = tt; err = (kept_front first second third a start middle s t.err.0, t.err.1 ∙ stands_long s, λ g. omega (arith, t.err.2 g.1, s.end_is, stands_long s, length-append a b)) }

@@ -12,5 +12,6 @@ pub mod Pointers
 pub mod Reading
 pub mod Reversed
 pub mod Searching
+pub mod Steps
 pub mod Texts
 pub mod Told

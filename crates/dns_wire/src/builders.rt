@@ -1,6 +1,6 @@
-//! Writing nothing, what a reference or a pointer holds, and lists.
+//! Writing nothing, what a reference or a pointer holds, pairs, and lists.
 
-ghost use Rattle.std.specs.Prelude.{◌≡◌, ◌≤◌, ◌<◌, ◌^◌, [], length, All, ⊤};
+ghost use Rattle.std.specs.Prelude.{◌≡◌, ◌≤◌, ◌<◌, ◌^◌, [], ◌++◌, length, All, ⊤};
 ghost use Rattle.std.specs.List.{flat_map};
 ghost use Rattle.dns_wire.specs.Building.{Builds};
 
@@ -65,6 +65,22 @@ impl<T: BuildBytes> BuildBytes for Rc<T> {
 
     fn built_bytes_size(&self) -> usize {
         (**self).built_bytes_size()
+    }
+}
+
+/// Two values, one behind the other.
+impl<A: BuildBytes, B: BuildBytes> BuildBytes for (A, B) {
+    ghost octets = { λ v. A.octets v.0 ++ B.octets v.1 };
+
+    ghost fits = { λ v. A.fits v.0 × B.fits v.1 };
+
+    fn build_at(&self, bytes: &mut [u8], start: usize) -> Result<usize, TruncationError> {
+        let middle = self.0.build_at(bytes, start)?;
+        self.1.build_at(bytes, middle)
+    }
+
+    fn built_bytes_size(&self) -> usize {
+        self.0.built_bytes_size() + self.1.built_bytes_size()
     }
 }
 

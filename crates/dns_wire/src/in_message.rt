@@ -6,7 +6,7 @@ ghost use Rattle.dns_wire.specs.InMessage.{BuildsIn, then_fits};
 ghost use Rattle.dns_wire.specs.Pieces.{Piece, IsTold, whole_presses, then_presses, both_told};
 ghost use Rattle.dns_wire.specs.Told.{told_then};
 
-use crate::build::put;
+use crate::build::{BuildBytes, put};
 use crate::compressor::NameCompressor;
 use crate::error::TruncationError;
 
@@ -41,6 +41,24 @@ pub trait BuildInMessage {
 
     /// Where pieces are told, what is written is what they write one behind another.
     ghost told: { (v : Self) → IsTold (pieces v) (presses v) };
+}
+
+/// Writes a value whole at a place of the contents, and gives the place where it ends. The compressor stays as
+/// it is. It is accepted and refused as `build_at` is.
+pub fn build_whole<T: BuildBytes>(
+    value: &T,
+    contents: &mut [u8],
+    start: usize,
+    compressor: &NameCompressor,
+) -> Result<usize, TruncationError>
+    requires room { start ≤ length contents.old }
+    requires known { FitsIn compressor.now (take start contents.old) }
+    ensures { BuildsIn (T.fits value.now) (whole_presses (T.octets value.now) (take start contents.old) compressor.now)
+        contents.old start compressor.now contents.new compressor.now result }
+{
+    // It is passed so that the contract can say what becomes of its places.
+    let _places = compressor;
+    value.build_at(contents, start)
 }
 
 /// One octet.

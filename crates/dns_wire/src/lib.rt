@@ -28,7 +28,7 @@ pub use compression::{longest_suffixes, pressed_names, pressed_names_are_read};
 pub use compressor::NameCompressor;
 pub use error::{ParseError, TruncationError};
 pub use follow::{Head, read_head};
-pub use in_message::BuildInMessage;
+pub use in_message::{BuildInMessage, build_whole};
 pub use laws::{
     added_octets, hexadecimal_text, lists_of_octets, names_follow_pointers, plain_names,
     pointed_names, pointers_lead_back,
