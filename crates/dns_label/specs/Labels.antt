@@ -37,7 +37,7 @@ labels_to_end steps [] = Some []
 labels_to_end zero (size ∷ rest) = None
 labels_to_end (suc steps) (size ∷ rest) = then_labels (λ more. labels_to_end steps more) (plain_label (size ∷ rest))
 
--- The labels that fill the octets, one after another. `labels_fill` says it in other words.
+-- the labels that fill the octets, one after another
 unfoldable pub label_list : List ℕ → Option (List (List ℕ))
 label_list octets = labels_to_end (length octets) octets
 
@@ -49,6 +49,6 @@ labels_or_none (Some labels) = labels
 unfoldable pub labels_in : List ℕ → List (List ℕ)
 labels_in octets = labels_or_none (label_list octets)
 
--- octets are labels one after another
+-- Octets are labels one after another. `labels_fill` says it in other words.
 abbrev pub AreLabels : List ℕ → Type 0
 AreLabels octets = label_list octets ≡ Some (labels_in octets)

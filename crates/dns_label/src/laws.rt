@@ -3,7 +3,7 @@
 ghost use Rattle.std.specs.Prelude.{◌≡◌, ◌++◌, ℕ, List, Some};
 ghost use Rattle.std.specs.List.{AllByRecursion};
 ghost use Rattle.dns_wire.specs.Names.{heads};
-ghost use Rattle.dns_label.specs.Labels.{IsShort, label_wire, label_list, plain_label};
+ghost use Rattle.dns_label.specs.Labels.{AreLabels, IsShort, label_wire, labels_in, plain_label};
 
 /// A label is read exactly where its octets stand at the front: its length, which is at most 63, and so
 /// many octets (RFC 1035 section 3.1).
@@ -14,11 +14,11 @@ pub fn one_label()
         IsShort contents → plain_label (label_wire contents ++ rest) ≡ Some (contents, rest) }
 {}
 
-/// Octets are labels one after another exactly where they are those of labels of at most 63 octets, each
-/// behind its length. They are of one list of labels only.
+/// Octets are labels one after another exactly where they are the octets of labels of at most 63 octets,
+/// each behind its length. They are so of one list of labels only, and it is the one that is read.
 pub fn labels_fill()
-    ensures spelled { (octets : List ℕ) (labels : List (List ℕ)) →
-        label_list octets ≡ Some labels → AllByRecursion IsShort labels × (octets ≡ heads labels) }
-    ensures read { (labels : List (List ℕ)) →
-        AllByRecursion IsShort labels → label_list (heads labels) ≡ Some labels }
+    ensures spelled { (octets : List ℕ) → AreLabels octets →
+        AllByRecursion IsShort (labels_in octets) × (octets ≡ heads (labels_in octets)) }
+    ensures read { (labels : List (List ℕ)) → AllByRecursion IsShort labels →
+        AreLabels (heads labels) × (labels_in (heads labels) ≡ labels) }
 {}

@@ -37,7 +37,7 @@ fn reads_and_writes_labels(rt: HostRuntime) -> Result<(), Fail> {
 }
 
 #[test]
-fn refuses_what_is_no_label(rt: HostRuntime) -> Result<(), Fail> {
+fn label_64_refused(rt: HostRuntime) -> Result<(), Fail> {
     let mut octets = [b'a'; 65];
     octets[0] = 64;
     assert!(rt; Label::split_bytes(&octets).is_err());
@@ -46,6 +46,11 @@ fn refuses_what_is_no_label(rt: HostRuntime) -> Result<(), Fail> {
     let (label, rest) = LabelBuf::split_bytes(&octets)?;
     assert_eq!(rt; label.as_label().contents().len(), Label::MAX_SIZE);
     assert_eq!(rt; rest, b"a".as_slice());
+    Ok(())
+}
+
+#[test]
+fn refuses_what_is_no_label(rt: HostRuntime) -> Result<(), Fail> {
     let cases: [&[u8]; 4] = [b"", b"\x01", b"\x03ab", b"\xc0\x0c"];
     for case in cases {
         assert!(rt; Label::split_bytes(case).is_err());

@@ -1,8 +1,11 @@
-use Rattle.dns_label.proofs.Filled.{list_takes, list_again}
+use Rattle.std.proofs.Common.{refl}
+use Rattle.dns_wire.specs.Names.{heads}
+use Rattle.dns_label.specs.Labels.{labels_in}
+use Rattle.dns_label.proofs.Filled.{list_takes, are_labels, labels_in_heads}
 use Rattle.dns_label.proofs.laws.labels_fill.Goals as goal
 
 pub returns-clause-spelled : goal.returns-clause-spelled
-returns-clause-spelled c = list_takes
+returns-clause-spelled c = λ octets is. list_takes octets (labels_in octets) is
 
 pub returns-clause-read : goal.returns-clause-read
-returns-clause-read c = list_again
+returns-clause-read c = λ labels sizes. (are_labels (heads labels) labels sizes refl, (labels_in_heads (heads labels) labels sizes refl).1)
