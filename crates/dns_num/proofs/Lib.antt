@@ -1,2 +1,3 @@
 -- The crate's own lemmas.
+pub mod Counted
 pub mod Prefixes

@@ -1,8 +1,12 @@
 //! The definitions of this crate in other words.
 
-ghost use Rattle.std.specs.Prelude.{◌≡◌, ◌+◌, ◌*◌, ◌<◌, ◌^◌, ◌∷◌, ◌++◌, ℕ, List, Some};
-ghost use Rattle.std.specs.Int.{w16, w32, w64, to_be_bytes};
-ghost use Rattle.dns_wire.specs.Reading.{number};
+ghost use Rattle.std.specs.Prelude.{◌≡◌, length, ◌+◌, ◌*◌, ◌<◌, ◌^◌, ◌∷◌, ◌++◌, ℕ, List, Some};
+ghost use Rattle.std.specs.Int.{w16, w32, w64, byte_len, to_be_bytes};
+ghost use Rattle.dns_wire.specs.Reading.{AreOctets, number, all_of};
+ghost use Rattle.dns_num.specs.Prefixed.{sized, prefixed};
+
+use crate::size_prefix::SizePrefix;
+use dns_wire::ParseBytes;
 
 /// Each octet of a number is worth 256 times as much as the one behind it (RFC 1035 section 2.3.2), and
 /// what is written is read back.
@@ -16,4 +20,16 @@ pub fn wire_numbers()
     ensures two_back { (n : ℕ) (rest : List ℕ) → n < 2 ^ 16 → number w16 (to_be_bytes w16 n ++ rest) ≡ Some (n, rest) }
     ensures four_back { (n : ℕ) (rest : List ℕ) → n < 2 ^ 32 → number w32 (to_be_bytes w32 n ++ rest) ≡ Some (n, rest) }
     ensures eight_back { (n : ℕ) (rest : List ℕ) → n < 2 ^ 64 → number w64 (to_be_bytes w64 n ++ rest) ≡ Some (n, rest) }
+{}
+
+/// Prefixed data are read exactly where they stand as they are written: the number of their octets in front, and
+/// behind it just these octets.
+pub fn prefixed_data<'a, S: SizePrefix, T: ParseBytes<'a>>()
+    ensures read { (content rest : List ℕ) (value : T.Seen) → length content < 256 ^ byte_len S.number_width →
+        all_of (T.reads content) ≡ Some value →
+        prefixed S.number_width T.reads (sized S.number_width content ++ rest) ≡ Some (value, rest) }
+    ensures stand { (bytes rest : List ℕ) (value : T.Seen) → AreOctets bytes →
+        prefixed S.number_width T.reads bytes ≡ Some (value, rest) →
+        (content : List ℕ) × (length content < 256 ^ byte_len S.number_width)
+        × (bytes ≡ sized S.number_width content ++ rest) × (all_of (T.reads content) ≡ Some value) }
 {}

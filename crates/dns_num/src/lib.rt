@@ -10,7 +10,7 @@ mod size_prefix;
 mod size_prefixed;
 mod sums;
 
-pub use laws::wire_numbers;
+pub use laws::{prefixed_data, wire_numbers};
 pub use number16::U16;
 pub use number32::U32;
 pub use number64::U64;

@@ -69,7 +69,7 @@ impl SizePrefix for U16 {
 }
 
 /// Whether the prefix can say the size.
-pub fn can_say<S: SizePrefix>(size: usize) -> bool
+pub(crate) fn can_say<S: SizePrefix>(size: usize) -> bool
     ensures { IsTrue result ↔ (size < 256 ^ byte_len S.number_width) }
 {
     size >> (8 * S::width()) == 0

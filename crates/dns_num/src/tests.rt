@@ -1,5 +1,7 @@
 //! The edges of the numbers, and each public call once.
 
+mod prefixed;
+
 use crate::{U16, U32, U64, wire_numbers};
 use dns_wire::{
     BuildBytes, ListError, ParseBytes, ParseMessageBytes, SplitBytes, SplitMessageBytes, split_list,

@@ -1,0 +1,10 @@
+use Rattle.dns_num.proofs.Counted.{read_back, stands_so}
+use Rattle.dns_num.proofs.laws.prefixed_data.Goals as goal
+
+pub returns-clause-read : goal.returns-clause-read
+returns-clause-read g c = λ content rest value fits is.
+    read_back g.S.SizePrefix.number_width g.met.S.SizePrefix.one_or_two g.T.ParseBytes.reads content rest value fits is
+
+pub returns-clause-stand : goal.returns-clause-stand
+returns-clause-stand g c = λ bytes rest value octets is.
+    stands_so g.S.SizePrefix.number_width g.met.S.SizePrefix.one_or_two g.T.ParseBytes.reads bytes rest value octets is
