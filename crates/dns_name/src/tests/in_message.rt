@@ -146,7 +146,16 @@ fn keeps_places_in_reach(rt: HostRuntime) -> Result<(), Fail> {
 fn refuses_names_without_a_trace(rt: HostRuntime) -> Result<(), Fail> {
     let two = Name::parse_bytes(b"\x01x\x01y\0")?;
     let three = Name::parse_bytes(b"\x03www\x01X\x01Y\0")?;
+    let octets: &[u8] = b"octets";
     let mut contents = [b'.'; 10];
+
+    // The name has room, and the octets behind it have not.
+    let none: &[u16] = &[];
+    let mut compressor = NameCompressor::new();
+    let refused = (&two, octets).build_in_message(&mut contents, 0, &mut compressor);
+    assert!(rt; refused.is_err());
+    assert_eq!(rt; compressor.places(), none);
+
     let mut compressor = NameCompressor::new();
     let end = two.build_in_message(&mut contents, 0, &mut compressor)?;
     let known = compressor.compress_name(&contents[..end], three.as_bytes());
