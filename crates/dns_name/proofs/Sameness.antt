@@ -10,7 +10,7 @@ use Rattle.dns_wire.specs.Names.{plain_name, labels_of, wire, lowered, IsName}
 use Rattle.dns_wire.proofs.Lowered.{lower_wire, name_lowered, wire_one}
 use Rattle.dns_wire.proofs.Spelled.{name_octets}
 use Rattle.dns_name.specs.Hashing.{lowered_from_keys}
-use Rattle.dns_name.specs.Order.{key_of, key_cmp}
+use Rattle.dns_name.specs.Order.{key, key_of, key_cmp}
 
 -- names whose lowered octets are equal are equal when lowered
 pub lowered_from_octets : (a b : List (List ℕ)) → IsName a → IsName b → str_to_ascii_lowercase (wire a) ≡ str_to_ascii_lowercase (wire b) → lowered a ≡ lowered b
@@ -43,3 +43,12 @@ same_names a b false is js test = by (is_eq (key_cmp (key_of a) (key_of b))) ref
       let q = name_octets b (labels_of b) js in
       let same = lowered_from_keys (labels_of a) (labels_of b) ((Equal-is (key_cmp (key_of a) (key_of b))).0 e) in
       test.1 (ap str_to_ascii_lowercase p.1 ∙ lower_wire (labels_of a) p.0.sizes ∙ ap wire same ∙ sym (lower_wire (labels_of b) q.0.sizes) ∙ ap str_to_ascii_lowercase (sym q.1))
+
+-- a test of two names in small letters is a test of the order
+pub same_by_octets : (a b : List (List ℕ)) (r : Bool) → (IsTrue r → lowered a ≡ lowered b) → (lowered a ≡ lowered b → IsTrue r) → r ≡ is_eq (key_cmp (key a) (key b))
+same_by_octets a b true same is =
+    sym (ap is_eq (ap (λ (l : List (List ℕ)). key_cmp (reverse l) (key b)) (same refl) ∙ tied_itself keys_total (key b)))
+same_by_octets a b false same is = by (is_eq (key_cmp (key a) (key b))) refl where
+  by : (t : Bool) → is_eq (key_cmp (key a) (key b)) ≡ t → false ≡ t
+  by false e = refl
+  by true e = is (lowered_from_keys a b ((Equal-is (key_cmp (key a) (key b))).0 e))

@@ -25,6 +25,36 @@ impl<'a> LabelRow<'a> {
         Some((label, LabelRow { slice: rest }))
     }
 
+    /// How many labels there are.
+    pub fn count(&self) -> usize
+        ensures { result ≡ length (row_labels self.now.slice.now) }
+    {
+        let mut rest = *self;
+        let mut count = 0;
+        while let Some((_label, next)) = rest.split_first() {
+            rest = next;
+            count += 1;
+        }
+        count
+    }
+
+    /// The labels behind so many.
+    pub fn skip(&self, count: usize) -> LabelRow<'a>
+        requires { count ≤ length (row_labels self.now.slice.now) }
+        ensures { row_labels result.slice.now ≡ drop count (row_labels self.now.slice.now) }
+    {
+        let mut rest = *self;
+        let mut left = count;
+        while left > 0 {
+            let Some((_label, next)) = rest.split_first() else {
+                return rest;
+            };
+            rest = next;
+            left -= 1;
+        }
+        rest
+    }
+
     /// Copies the labels into the buffer in reverse order, so that the first of them ends at `end`.
     pub fn put_reversed(&self, bytes: &mut [u8], end: usize)
         requires room { length self.now.slice.now ≤ end }

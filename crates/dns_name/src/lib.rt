@@ -11,6 +11,7 @@ mod name_buf;
 mod order;
 mod rev_name;
 mod rev_name_buf;
+mod rev_order;
 
 pub use canonical_name::CanonicalName;
 pub use laws::{label_order, orders_by_octets};

@@ -3,11 +3,14 @@ use Rattle.std.proofs.Common.{◌≡◌, ℕ, ◌+◌, ◌≤◌, ◌<◌, inl, 
 use Rattle.std.specs.Prelude.{reverse, option_map, unwrap_or, ◌==◌}
 use Rattle.std.specs.List.{AllByRecursion}
 use Rattle.std.proofs.lemmas.Bool.Decides.{nat_tests}
-use Rattle.std.proofs.lemmas.List.{take_at, drop_at, length-append, append-nil, reverse-append, reverse-reverse}
-use Rattle.dns_wire.specs.Names.{heads, wire, IsLabel, IsName, labels_of}
+use Rattle.std.proofs.lemmas.List.{take_at, drop_at, length-append, append-nil, map-append, reverse-append, reverse-reverse}
+use Rattle.std.specs.Char.{to_ascii_lowercase}
+use Rattle.std.specs.Str.{str_to_ascii_lowercase}
+use Rattle.dns_wire.specs.Names.{heads, wire, IsLabel, IsName, labels_of, lowered}
 use Rattle.dns_wire.specs.Reversed.{label_row, row_labels, reversed_wire, reversed_name, reversed_labels_of}
 use Rattle.dns_wire.proofs.Spelled.{chosen, name_octets, labels_of_wire}
-use Rattle.dns_wire.proofs.Walk.{AllByRecursion-append, heads-append, wire_long}
+use Rattle.dns_wire.proofs.Lowered.{lower_wire}
+use Rattle.dns_wire.proofs.Walk.{AllByRecursion-append, heads-append, heads_long, wire_long}
 
 -- ---- labels the other way
 
@@ -151,3 +154,29 @@ reversed_size bytes labels e =
 pub root_alone : (labels : List (List ℕ)) → length (wire labels) ≡ 1 → labels ≡ []
 root_alone [] e = refl
 root_alone (label ∷ labels) e = absurd (omega (arith, e, wire_long (label ∷ labels)))
+
+pub row_few : (bytes : List ℕ) (labels : List (List ℕ)) → label_row bytes ≡ Some labels → length labels ≤ 255
+row_few bytes labels e = let t = row_is bytes labels e in omega (arith, t.0.size, wire_long labels, heads_long labels)
+
+-- ---- small letters
+
+-- they change no order of labels
+pub lowered-reverse : (labels : List (List ℕ)) → lowered (reverse labels) ≡ reverse (lowered labels)
+lowered-reverse [] = refl
+lowered-reverse (label ∷ labels) =
+    ap lowered (reverse-cons label labels) ∙ map-append str_to_ascii_lowercase (reverse labels) (label ∷ [])
+    ∙ ap (λ (l : List (List ℕ)). l ++ str_to_ascii_lowercase label ∷ []) (lowered-reverse labels) ∙ sym (reverse-cons (str_to_ascii_lowercase label) (lowered labels))
+
+lower_heads : (labels : List (List ℕ)) → AllByRecursion IsLabel labels → str_to_ascii_lowercase (heads labels) ≡ heads (lowered labels)
+lower_heads labels is =
+    cut_root (str_to_ascii_lowercase (heads labels)) (heads (lowered labels)) (sym (map-append to_ascii_lowercase (heads labels) (0 ∷ [])) ∙ lower_wire labels is)
+
+-- a name's octets from the root on in small letters are those of its labels in small letters
+pub lower_reversed : (labels : List (List ℕ)) → IsName labels → str_to_ascii_lowercase (reversed_wire labels) ≡ reversed_wire (lowered labels)
+lower_reversed labels is =
+    ap (λ (l : List ℕ). 0 ∷ l) (lower_heads (reverse labels) (sizes_reversed labels is.sizes) ∙ ap heads (lowered-reverse labels))
+
+-- equal octets are one name's
+pub reversed_one : (a b : List (List ℕ)) → IsName a → IsName b → reversed_wire a ≡ reversed_wire b → a ≡ b
+reversed_one a b is js e =
+    let same : Some a ≡ Some b = sym (reversed_read a is) ∙ ap reversed_name e ∙ reversed_read b js in cc

@@ -1,0 +1,123 @@
+//! The order of names from the root on, which is that of names in the other layout: by labels from the root
+//! on, each in small letters (RFC 4034 section 6.1).
+
+ghost use Rattle.std.specs.Prelude.{◌≡◌};
+ghost use Rattle.std.proofs.Common.{rules};
+ghost use Rattle.std.specs.Cmp.{partial_order_from_own_ties};
+ghost use Rattle.std.specs.Cmp.Rules.{comparing};
+ghost use Rattle.std.specs.Ordering.{on, as_partial_cmp, eq_by_cmp};
+ghost use Rattle.dns_wire.specs.Names.{lowered};
+ghost use Rattle.dns_wire.specs.Reversed.{row_labels, reversed_labels_of};
+ghost use Rattle.dns_name.specs.Order.{key, key_cmp};
+
+use crate::label_row::LabelRow;
+use crate::rev_name::RevName;
+use crate::rev_name_buf::RevNameBuf;
+use dns_wire::compare_lowercase;
+use std::cmp::Ordering;
+
+/// The order of labels one after another, each in small letters. The first that differ decide, and fewer
+/// labels come first.
+fn compare_rows(a: LabelRow<'_>, b: LabelRow<'_>) -> Ordering
+    ensures { result ≡ key_cmp (lowered (row_labels a.entry.slice.now)) (lowered (row_labels b.entry.slice.now)) }
+{
+    let mut left = a;
+    let mut right = b;
+    while let Some((label, next)) = left.split_first() {
+        let Some((other, last)) = right.split_first() else {
+            return Ordering::Greater;
+        };
+        let order = compare_lowercase(label, other);
+        if order.is_ne() {
+            return order;
+        }
+        left = next;
+        right = last;
+    }
+    if right.split_first().is_none() {
+        Ordering::Equal
+    } else {
+        Ordering::Less
+    }
+}
+
+impl PartialEq for RevName<'_> {
+    ghost eq = { eq_by_cmp (on (λ v. key (reversed_labels_of v.slice.now)) key_cmp) };
+
+    ghost laws = { Prim.search (comparing, rules) depth 9 };
+
+    /// Whether the labels are the same, ASCII case aside.
+    fn eq(&self, other: &Self) -> bool {
+        self.as_bytes().eq_ignore_ascii_case(other.as_bytes())
+    }
+}
+
+impl Eq for RevName<'_> {
+    ghost laws = { Prim.search (comparing, rules) depth 9 };
+}
+
+impl Ord for RevName<'_> {
+    ghost cmp = { on (λ v. key (reversed_labels_of v.slice.now)) key_cmp };
+
+    ghost total = { Prim.search (comparing, rules) depth 9 };
+
+    ghost matches_partial_cmp = { Prim.search (comparing, rules) depth 9 };
+
+    ghost matches_eq = { Prim.search (comparing, rules) depth 9 };
+
+    /// Label order: labels are compared from the root on, each by lowered octets, and a proper prefix
+    /// comes first.
+    fn cmp(&self, other: &Self) -> Ordering {
+        compare_rows(self.row(), other.row())
+    }
+}
+
+impl PartialOrd for RevName<'_> {
+    ghost partial_cmp = { as_partial_cmp (on (λ v. key (reversed_labels_of v.slice.now)) key_cmp) };
+
+    ghost laws = { partial_order_from_own_ties (Prim.search (comparing, rules) depth 9) (Prim.search (comparing, rules) depth 9) };
+
+    fn partial_cmp(&self, other: &Self) -> Option<Ordering> {
+        Some(self.cmp(other))
+    }
+}
+
+impl PartialEq for RevNameBuf {
+    ghost eq = { eq_by_cmp (on key key_cmp) };
+
+    ghost laws = { Prim.search (comparing, rules) depth 9 };
+
+    /// Whether the labels are the same, ASCII case aside.
+    fn eq(&self, other: &Self) -> bool {
+        self.as_revname() == other.as_revname()
+    }
+}
+
+impl Eq for RevNameBuf {
+    ghost laws = { Prim.search (comparing, rules) depth 9 };
+}
+
+impl Ord for RevNameBuf {
+    ghost cmp = { on key key_cmp };
+
+    ghost total = { Prim.search (comparing, rules) depth 9 };
+
+    ghost matches_partial_cmp = { Prim.search (comparing, rules) depth 9 };
+
+    ghost matches_eq = { Prim.search (comparing, rules) depth 9 };
+
+    /// Label order, as of the names as views.
+    fn cmp(&self, other: &Self) -> Ordering {
+        self.as_revname().cmp(&other.as_revname())
+    }
+}
+
+impl PartialOrd for RevNameBuf {
+    ghost partial_cmp = { as_partial_cmp (on key key_cmp) };
+
+    ghost laws = { partial_order_from_own_ties (Prim.search (comparing, rules) depth 9) (Prim.search (comparing, rules) depth 9) };
+
+    fn partial_cmp(&self, other: &Self) -> Option<Ordering> {
+        Some(self.cmp(other))
+    }
+}
