@@ -1,11 +1,8 @@
 -- Octets that are written one behind another.
 use Rattle.std.proofs.Common.{◌≡◌, ℕ, ◌≤◌, List, [], ◌++◌, length, take, drop, sym, ap, ◌∙◌, append_assoc, arith, Result, Ok, Err}
 use Rattle.std.specs.Prelude.{⊤}
-use Rattle.std.proofs.lemmas.List.{take_at, drop_at, length-append, length-take, length-drop, take-append-drop, drop-drop, take-append-le, take-take}
+use Rattle.std.proofs.lemmas.List.{take_at, drop_at, length-append, length-take, length-drop, drop-drop, take-append-le, take-take}
 use Rattle.dns_wire.specs.Building.{Stands, Builds}
-
-pub stands_nothing : (old : List ℕ) (start : ℕ) → start ≤ length old → Stands [] old start old start
-stands_nothing old start within = record { end_is = omega arith; within = within; new_is = sym (take-append-drop start old) }
 
 -- what is written before a place, and behind it
 module _ {a old new : List ℕ} {start end : ℕ} (s : Stands a old start new end) where
