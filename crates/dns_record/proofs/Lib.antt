@@ -1,1 +1,3 @@
 -- The crate's own lemmas.
+pub mod Places
+pub mod Worded

@@ -2,6 +2,7 @@
 pub mod Canonical
 pub mod Data
 pub mod Fields
+pub mod InPlace
 pub mod Kinds
 pub mod Questions
 pub mod Records

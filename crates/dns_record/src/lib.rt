@@ -2,6 +2,7 @@
 #![tactic(auto)]
 
 mod canonical;
+mod laws;
 mod qclass;
 mod qtype;
 mod question;
@@ -14,6 +15,7 @@ mod ttl;
 mod unparsed;
 
 pub use canonical::CanonicalRecordData;
+pub use laws::items_in_words;
 pub use qclass::QClass;
 pub use qtype::QType;
 pub use question::Question;
