@@ -26,3 +26,6 @@ pub use rtype::RType;
 pub use serial::Serial;
 pub use ttl::TTL;
 pub use unparsed::UnparsedRecordData;
+
+#[cfg(test)]
+mod tests;
