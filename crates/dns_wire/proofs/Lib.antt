@@ -1,5 +1,6 @@
 -- The crate's own lemmas.
 pub mod Alike
+pub mod Backward
 pub mod Cutting
 pub mod Digits
 pub mod Following
@@ -16,4 +17,5 @@ pub mod Spelled
 pub mod Standing
 pub mod Suffixes
 pub mod Told
+pub mod Turning
 pub mod Walk

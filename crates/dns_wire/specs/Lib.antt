@@ -9,5 +9,6 @@ pub mod Outside
 pub mod Pieces
 pub mod Pointers
 pub mod Reading
+pub mod Reversed
 pub mod Searching
 pub mod Told

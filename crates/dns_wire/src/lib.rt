@@ -15,6 +15,7 @@ mod outside;
 mod parse;
 mod press;
 mod suffix;
+mod turn;
 
 pub use adapters::{ReadSource, WriteSink};
 pub use build::{BuildBytes, put};
