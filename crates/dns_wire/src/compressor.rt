@@ -100,8 +100,8 @@ impl NameCompressor {
     }
 
     /// Keeps the places of the labels that were written from `start` to `end`, as far as a pointer reaches
-    /// them and while there are fewer than 128. From `start` on stand labels, and then the root or a
-    /// pointer to a kept place.
+    /// them and while there are fewer than 128. The labels end in the root, or in a pointer that leads to a
+    /// kept place.
     pub fn note(&mut self, contents: &[u8], start: usize, end: usize)
         requires within { end ≤ length contents.now }
         requires fits { FitsIn self.old (take start contents.now) }
