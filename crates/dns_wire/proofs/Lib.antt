@@ -20,5 +20,6 @@ pub mod Spelled
 pub mod Standing
 pub mod Suffixes
 pub mod Told
+pub mod Turning
 pub mod Utf8
 pub mod Walk

@@ -20,6 +20,7 @@ mod parse;
 mod press;
 mod suffix;
 mod text;
+mod turn;
 
 pub use adapters::{ReadSource, WriteSink};
 pub use as_bytes::AsBytes;
