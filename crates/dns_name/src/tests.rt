@@ -7,6 +7,7 @@ use std::hash::{DefaultHasher, Hash, Hasher};
 use std::test::Fail;
 
 mod canonical_name;
+mod reversed;
 
 #[test]
 fn reads_and_writes_names(rt: HostRuntime) -> Result<(), Fail> {
