@@ -13,6 +13,8 @@ fn octets_at_hand<T: AsBytes>(value: &T) -> &[u8] {
     value.as_bytes()
 }
 
+mod reversed;
+
 #[test]
 fn reads_and_writes_names(rt: HostRuntime) -> Result<(), Fail> {
     let (name, rest) = Name::split_bytes(b"\x03www\x07Example\x00rest")?;
