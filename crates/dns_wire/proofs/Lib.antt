@@ -18,6 +18,7 @@ pub mod Runs
 pub mod Several
 pub mod Spelled
 pub mod Standing
+pub mod Successive
 pub mod Suffixes
 pub mod Told
 pub mod Turning

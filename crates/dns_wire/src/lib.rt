@@ -13,6 +13,7 @@ mod follow;
 mod in_message;
 mod laws;
 mod list;
+mod lists_in_message;
 mod lowercase;
 mod memory;
 mod outside;
