@@ -7,7 +7,8 @@ use Rattle.std.proofs.lemmas.Nat.{be_bytes_2}
 use Rattle.std.proofs.lemmas.Option.{some_pair_parts}
 use Rattle.dns_wire.specs.Reading.{AreOctets, number, octets, all_of}
 use Rattle.dns_wire.proofs.Spelled.{chosen}
-use Rattle.dns_num.specs.Prefixed.{◌>>=◌, sized, prefixed}
+use Rattle.dns_wire.specs.Steps.{◌>>=◌}
+use Rattle.dns_num.specs.Prefixed.{sized, prefixed}
 
 -- one octet, or two
 abbrev Narrow : Width → Type 0

@@ -1,1 +1,3 @@
 -- The crate's own lemmas.
+pub mod CharStrCells
+pub mod CharStrStored
