@@ -2,6 +2,7 @@
 
 mod messages;
 mod pointers;
+mod records;
 mod rows;
 
 use crate::{

@@ -1,4 +1,5 @@
 -- The crate's own lemmas.
+pub mod Aligned
 pub mod Followed
 pub mod Gathered
 pub mod Labelled

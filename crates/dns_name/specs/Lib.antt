@@ -1,4 +1,5 @@
 -- What the contracts of names cite.
+pub mod Cased
 pub mod Composed
 pub mod Hashing
 pub mod Order

@@ -1,11 +1,17 @@
 //! The definitions of this crate in other words.
 
-ghost use Rattle.std.specs.Prelude.{◌≡◌, ◌<◌, ℕ, List};
+ghost use Rattle.std.specs.Prelude.{◌≡◌, ◌<◌, ℕ, List, length, Some};
 ghost use Rattle.std.specs.Str.{str_to_ascii_lowercase};
 ghost use Rattle.std.specs.declared.cmp.Ordering.TheVariants.{Less, Equal};
-ghost use Rattle.dns_wire.specs.Names.{IsName, wire, lowered};
+ghost use Rattle.dns_wire.specs.Names.{IsName, wire, lowered, labels_of};
+ghost use Rattle.dns_wire.specs.Reversed.{reversed_wire, reversed_name, reversed_labels_of};
 ghost use Rattle.dns_name.specs.Composed.{octets_cmp, composed_cmp, lowercase_composed_cmp, Precedes};
 ghost use Rattle.dns_name.specs.Order.{key, key_cmp};
+
+use crate::name::Name;
+use crate::name_buf::NameBuf;
+use crate::rev_name::RevName;
+use crate::rev_name_buf::RevNameBuf;
 
 /// Octets come before others exactly where they have the smaller octet at the first place at which the two
 /// differ, or end there (RFC 4034 section 6.3). In the orders by octets two names tie exactly where they are
@@ -36,4 +42,27 @@ pub fn label_order()
         key_cmp (key a) (key b) ≡ Equal → lowered a ≡ lowered b }
     ensures tied { (a b : List (List ℕ)) →
         lowered a ≡ lowered b → key_cmp (key a) (key b) ≡ Equal }
+{}
+
+/// Names stand in one order, whichever way their octets go: views of the same labels compare alike, and so
+/// do the buffers, and both as label order.
+pub fn one_order(a: &Name<'_>, b: &Name<'_>, c: &RevName<'_>, d: &RevName<'_>)
+    requires first { labels_of a.now.slice.now ≡ reversed_labels_of c.now.slice.now }
+    requires second { labels_of b.now.slice.now ≡ reversed_labels_of d.now.slice.now }
+    ensures views { ⟦<Name<'static> as Ord>⟧.cmp a.now b.now ≡ ⟦<RevName<'static> as Ord>⟧.cmp c.now d.now }
+    ensures buffers { (labels others : List (List ℕ)) →
+        ⟦<NameBuf as Ord>⟧.cmp labels others ≡ ⟦<RevNameBuf as Ord>⟧.cmp labels others }
+    ensures label_order { (labels others : List (List ℕ)) →
+        ⟦<NameBuf as Ord>⟧.cmp labels others ≡ key_cmp (key labels) (key others) }
+{}
+
+/// Labels are read from the root on exactly where they are a name whose octets are these: the root's, and
+/// the labels' from the last to the first.
+pub fn reversed_names()
+    ensures spelled { (bytes : List ℕ) (labels : List (List ℕ)) →
+        reversed_name bytes ≡ Some labels → IsName labels × (bytes ≡ reversed_wire labels) }
+    ensures read { (labels : List (List ℕ)) →
+        IsName labels → reversed_name (reversed_wire labels) ≡ Some labels }
+    ensures as_long { (labels : List (List ℕ)) →
+        length (reversed_wire labels) ≡ length (wire labels) }
 {}

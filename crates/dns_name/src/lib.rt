@@ -9,12 +9,13 @@ mod laws;
 mod name;
 mod name_buf;
 mod order;
+mod rev_canonical;
 mod rev_name;
 mod rev_name_buf;
 mod rev_order;
 
 pub use canonical_name::CanonicalName;
-pub use laws::{label_order, orders_by_octets};
+pub use laws::{label_order, one_order, orders_by_octets, reversed_names};
 pub use name::Name;
 pub use name_buf::NameBuf;
 pub use rev_name::RevName;

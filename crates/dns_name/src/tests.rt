@@ -1,13 +1,15 @@
 //! Each public call once, the order of names that RFC 4034 shows, and pointers in the contents of messages.
 
+mod canonical_name;
+mod in_message;
+mod reversed;
+
 use crate::{Name, NameBuf};
 use dns_wire::{AsBytes, BuildBytes, ParseBytes, ParseMessageBytes, SplitBytes, SplitMessageBytes};
 use std::cmp::Ordering;
 use std::hash::{DefaultHasher, Hash, Hasher};
 use std::test::Fail;
 
-mod canonical_name;
-mod in_message;
 
 fn octets_at_hand<T: AsBytes>(value: &T) -> &[u8] {
     value.as_bytes()

@@ -7,6 +7,7 @@ pub mod CharStrTexts
 pub mod CharStrs
 pub mod Data
 pub mod Fields
+pub mod InPlace
 pub mod Kinds
 pub mod Questions
 pub mod Records

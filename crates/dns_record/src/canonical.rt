@@ -7,6 +7,7 @@ ghost use Rattle.dns_record.specs.Canonical.{ranked_cmp};
 
 use dns_wire::{BuildBytes, TruncationError};
 use std::cmp::Ordering;
+use std::rc::Rc;
 
 /// Record data that have a canonical form (RFC 4034 section 6.2, RFC 6840 section 5.1) and the order of
 /// RFC 4034 section 6.3.
@@ -50,5 +51,68 @@ pub trait CanonicalRecordData: BuildBytes {
             Ok(end) => Ok(&mut bytes[end..]),
             Err(error) => Err(error),
         }
+    }
+}
+
+/// What the reference leads to.
+impl<T: CanonicalRecordData> CanonicalRecordData for &T {
+    ghost canonical = { λ v. T.canonical v.now };
+
+    ghost rank = { λ v. T.rank v.now };
+
+    ghost is_proper = { λ v. T.is_proper v.now };
+
+    fn build_canonical_at(
+        &self,
+        bytes: &mut [u8],
+        start: usize,
+    ) -> Result<usize, TruncationError> {
+        (**self).build_canonical_at(bytes, start)
+    }
+
+    fn cmp_canonical(&self, other: &Self) -> Ordering {
+        (**self).cmp_canonical(&**other)
+    }
+}
+
+/// What the box holds.
+impl<T: CanonicalRecordData> CanonicalRecordData for Box<T> {
+    ghost canonical = { λ v. T.canonical v.value };
+
+    ghost rank = { λ v. T.rank v.value };
+
+    ghost is_proper = { λ v. T.is_proper v.value };
+
+    fn build_canonical_at(
+        &self,
+        bytes: &mut [u8],
+        start: usize,
+    ) -> Result<usize, TruncationError> {
+        (**self).build_canonical_at(bytes, start)
+    }
+
+    fn cmp_canonical(&self, other: &Self) -> Ordering {
+        (**self).cmp_canonical(&**other)
+    }
+}
+
+/// What the pointer leads to.
+impl<T: CanonicalRecordData> CanonicalRecordData for Rc<T> {
+    ghost canonical = { λ v. T.canonical v.value };
+
+    ghost rank = { λ v. T.rank v.value };
+
+    ghost is_proper = { λ v. T.is_proper v.value };
+
+    fn build_canonical_at(
+        &self,
+        bytes: &mut [u8],
+        start: usize,
+    ) -> Result<usize, TruncationError> {
+        (**self).build_canonical_at(bytes, start)
+    }
+
+    fn cmp_canonical(&self, other: &Self) -> Ordering {
+        (**self).cmp_canonical(&**other)
     }
 }

@@ -7,6 +7,7 @@ mod charstr_buf;
 mod charstr_error;
 mod charstr_laws;
 mod charstr_storage;
+mod laws;
 mod qclass;
 mod qtype;
 mod question;
@@ -23,6 +24,7 @@ pub use charstr::CharStr;
 pub use charstr_buf::CharStrBuf;
 pub use charstr_error::CharStrParseError;
 pub use charstr_laws::character_strings;
+pub use laws::items_in_words;
 pub use qclass::QClass;
 pub use qtype::QType;
 pub use question::Question;
@@ -33,3 +35,6 @@ pub use rtype::RType;
 pub use serial::Serial;
 pub use ttl::TTL;
 pub use unparsed::UnparsedRecordData;
+
+#[cfg(test)]
+mod tests;

@@ -1,6 +1,6 @@
 -- What names from the root on are, in words.
 use Rattle.std.proofs.Common.{◌≡◌, ℕ, ◌+◌, ◌≤◌, ◌<◌, inl, inr, List, [], ◌∷◌, ◌++◌, length, get_or, take, drop, Option, Some, None, refl, sym, ap, subst, ◌∙◌, append_assoc, arith}
-use Rattle.std.specs.Prelude.{reverse, option_map, unwrap_or, ◌==◌}
+use Rattle.std.specs.Prelude.{map, reverse, option_map, unwrap_or, ◌==◌}
 use Rattle.std.specs.List.{AllByRecursion}
 use Rattle.std.proofs.lemmas.Bool.Decides.{nat_tests}
 use Rattle.std.proofs.lemmas.List.{take_at, drop_at, length-append, append-nil, map-append, reverse-append, reverse-reverse}
@@ -161,11 +161,14 @@ row_few bytes labels e = let t = row_is bytes labels e in omega (arith, t.0.size
 -- ---- small letters
 
 -- they change no order of labels
+pub map-reverse : (f : List ℕ → List ℕ) (labels : List (List ℕ)) → map f (reverse labels) ≡ reverse (map f labels)
+map-reverse f [] = refl
+map-reverse f (label ∷ labels) =
+    ap (map f) (reverse-cons label labels) ∙ map-append f (reverse labels) (label ∷ [])
+    ∙ ap (λ (l : List (List ℕ)). l ++ f label ∷ []) (map-reverse f labels) ∙ sym (reverse-cons (f label) (map f labels))
+
 pub lowered-reverse : (labels : List (List ℕ)) → lowered (reverse labels) ≡ reverse (lowered labels)
-lowered-reverse [] = refl
-lowered-reverse (label ∷ labels) =
-    ap lowered (reverse-cons label labels) ∙ map-append str_to_ascii_lowercase (reverse labels) (label ∷ [])
-    ∙ ap (λ (l : List (List ℕ)). l ++ str_to_ascii_lowercase label ∷ []) (lowered-reverse labels) ∙ sym (reverse-cons (str_to_ascii_lowercase label) (lowered labels))
+lowered-reverse = map-reverse str_to_ascii_lowercase
 
 lower_heads : (labels : List (List ℕ)) → AllByRecursion IsLabel labels → str_to_ascii_lowercase (heads labels) ≡ heads (lowered labels)
 lower_heads labels is =

@@ -18,7 +18,9 @@ pub mod Runs
 pub mod Several
 pub mod Spelled
 pub mod Standing
+pub mod Successive
 pub mod Suffixes
 pub mod Told
+pub mod Turning
 pub mod Utf8
 pub mod Walk

@@ -1,15 +1,19 @@
 -- The octets of a list of values, value by value.
-use Rattle.std.proofs.Common.{◌≡◌, ℕ, ◌+◌, ◌<◌, ◌≤◌, List, [], ◌∷◌, ◌++◌, length, take, get_or, Result, Ok, Err, refl, sym, ap, ◌∙◌, arith}
+use Rattle.std.proofs.Common.{◌≡◌, ℕ, ◌+◌, ◌<◌, ◌≤◌, List, [], ◌∷◌, ◌++◌, length, take, drop, get_or, Result, Ok, Err, refl, sym, ap, ◌∙◌, arith}
 use Rattle.std.specs.List.{flat_map}
-use Rattle.std.proofs.lemmas.List.{take_more, flat_map_more}
+use Rattle.std.proofs.lemmas.List.{take_more, take-append-drop, flat_map_more}
 use Rattle.std.proofs.lemmas.List.Folds.{length-flat_map-take}
 use Rattle.dns_wire.specs.Building.{Stands, Builds}
 use Rattle.dns_wire.proofs.Standing.{stands_long, kept_front}
 
 -- the values up to one of them, and that one
 module _ {X : Type 0} (values : List X) (i : ℕ) (x : X) (within : i < length values) (is : x ≡ get_or values i x) where
-  taken : take (i + 1) values ≡ take i values ++ x ∷ []
+  pub taken : take (i + 1) values ≡ take i values ++ x ∷ []
   taken = take_more values i x within ∙ ap (λ (y : X). take i values ++ y ∷ []) (sym is)
+
+  -- with those behind it
+  pub parted : (take i values ++ x ∷ []) ++ drop (i + 1) values ≡ values
+  parted = ap (λ (front : List X). front ++ drop (i + 1) values) (sym taken) ∙ take-append-drop (i + 1) values
 
   pub one_more : (f : X → List ℕ) → flat_map f (take i values) ++ f x ≡ flat_map f (take (i + 1) values)
   one_more f = flat_map_more f [] (take i values) x ∙ ap (flat_map f) (sym taken)

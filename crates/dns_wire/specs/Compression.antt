@@ -109,13 +109,13 @@ name_presses labels contents places = (
 
 -- ---- places that lead to names
 
--- labels, and then the root or a pointer to a kept place before first
+-- from here on stand labels, up to the root or up to a pointer that leads to a kept place before first
 pub data Run (contents places : List ℕ) (first : ℕ) : ℕ → Type 0 where
   run_root : {at : ℕ} → at < length contents → slice_index contents at ≡ 0 → Run contents places first at
   run_label : {at : ℕ} → 0 < slice_index contents at → slice_index contents at < 64 → at + 1 + slice_index contents at ≤ length contents → Run contents places first (at + 1 + slice_index contents at) → Run contents places first at
   run_pointer : {at : ℕ} (target : ℕ) → 192 ≤ slice_index contents at → at + 2 ≤ length contents → offset_at contents at ≡ target + 12 → Contains places target → target < first → Run contents places first at
 
--- at least one label, and then the root or a pointer to a kept place before this one
+-- a label stands here, others behind it, and at their end the root or a pointer to an earlier kept place
 pub record RunAt (contents places : List ℕ) (at : ℕ) : Type 0 where
   pub labelled : (0 < slice_index contents at) × (slice_index contents at < 64)
   pub run : Run contents places at at

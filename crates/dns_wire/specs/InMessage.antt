@@ -1,6 +1,6 @@
 -- What it means that a value is written in a message, whatever the type. Contents are the octets behind the header, and
 -- end where writing begins. Places are those of names that are known.
-use Rattle.std.specs.Prelude.{◌≡◌, ℕ, ◌+◌, ◌<◌, List, ◌++◌, length, take, Result, IfOk, OnOk, OnErr}
+use Rattle.std.specs.Prelude.{◌≡◌, ℕ, ◌+◌, ◌<◌, List, [], ◌∷◌, ◌++◌, length, take, Result, IfOk, OnOk, OnErr, ⊤}
 use Rattle.dns_wire.specs.Building.{Stands}
 use Rattle.dns_wire.specs.Compression.{FitsIn, Grows, Pressing}
 
@@ -23,3 +23,9 @@ pub record BuildsIn {E : Type 0} (fits : Type 0) (pressed : List ℕ × List ℕ
 abbrev pub then_fits : (List ℕ → List ℕ → Type 0) → Pressing → (List ℕ → List ℕ → Type 0) → List ℕ → List ℕ → Type 0
 then_fits first presses second contents places =
     first contents places × second (contents ++ (presses contents places).0) (presses contents places).1
+
+-- the values of a list fit, one behind another
+unfoldable pub list_fits : {A : Type 0} → (A → List ℕ → List ℕ → Type 0) → (A → Pressing) → List A → List ℕ → List ℕ → Type 0
+list_fits fits presses [] contents places = ⊤
+list_fits fits presses (value ∷ values) contents places =
+    then_fits (fits value) (presses value) (list_fits fits presses values) contents places

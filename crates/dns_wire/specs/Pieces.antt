@@ -22,10 +22,14 @@ then_presses first second contents places = (
   (second (contents ++ (first contents places).0) (first contents places).1).1,
 )
 
+-- what the values of a list write, one behind another: each sees the octets and the places of those before it
+unfoldable pub list_presses : {A : Type 0} → (A → Pressing) → List A → Pressing
+list_presses presses [] = whole_presses []
+list_presses presses (value ∷ values) = then_presses (presses value) (list_presses presses values)
+
 -- what pieces write, one behind another
-unfoldable pub laid : List Piece → Pressing
-laid [] contents places = ([], places)
-laid (piece ∷ pieces) contents places = then_presses (piece_presses piece) (laid pieces) contents places
+abbrev pub laid : List Piece → Pressing
+laid pieces = list_presses piece_presses pieces
 
 -- what is written is what the pieces write, where they are told
 abbrev pub IsTold : Option (List Piece) → Pressing → Type 0

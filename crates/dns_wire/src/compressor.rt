@@ -4,9 +4,11 @@ ghost use Rattle.std.specs.Prelude.{◌≡◌, ◌≤◌, ◌<◌, ℕ, List, So
 ghost use Rattle.std.specs.List.{AllByRecursion};
 ghost use Rattle.dns_wire.specs.Reading.{all_of};
 ghost use Rattle.dns_wire.specs.Names.{plain_name, labels_of};
+ghost use Rattle.dns_wire.specs.Reversed.{reversed_name, reversed_labels_of};
 ghost use Rattle.dns_wire.specs.Compression.{longest_kept, KeptSuffix, LongestKept, with_more, noted, Run, ArePlaces, FitsIn, Grows};
 
 use crate::suffix::{count_labels, suffix_before};
+use crate::turn::turn_name;
 use arrayvec::ArrayVec;
 use std::marker::Model;
 
@@ -83,9 +85,23 @@ impl NameCompressor {
         best
     }
 
+    /// As `compress_name` of the name whose octets from the root on these are: the octets before the suffix
+    /// are counted from the front of the name.
+    pub fn compress_revname(&self, contents: &[u8], name: &[u8]) -> Option<(usize, u16)>
+        requires { reversed_name name.now ≡ Some (reversed_labels_of name.now) }
+        ensures exact { result ≡ longest_kept contents.now self.now 0 (reversed_labels_of name.now) }
+        ensures longest { IfSome result (λ k. LongestKept contents.now self.now (reversed_labels_of name.now) k.0 k.1) }
+        ensures none { IfNone result ((front place : ℕ) → ¬ KeptSuffix contents.now self.now (reversed_labels_of name.now) front place) }
+    {
+        let mut buffer = [0; 255];
+        let forward = &mut buffer[..name.len()];
+        turn_name(name, forward);
+        self.compress_name(contents, forward)
+    }
+
     /// Keeps the places of the labels that were written from `start` to `end`, as far as a pointer reaches
-    /// them and while there are fewer than 128. From `start` on stand labels, and then the root or a
-    /// pointer to a kept place.
+    /// them and while there are fewer than 128. The labels end in the root, or in a pointer that leads to a
+    /// kept place.
     pub fn note(&mut self, contents: &[u8], start: usize, end: usize)
         requires within { end ≤ length contents.now }
         requires fits { FitsIn self.old (take start contents.now) }

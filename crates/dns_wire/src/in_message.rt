@@ -2,13 +2,14 @@
 
 ghost use Rattle.std.specs.Prelude.{◌≤◌, List, ℕ, [], ◌∷◌, length, take, Option, None, ⊤};
 ghost use Rattle.dns_wire.specs.Compression.{Pressing, FitsIn};
-ghost use Rattle.dns_wire.specs.InMessage.{BuildsIn, then_fits};
-ghost use Rattle.dns_wire.specs.Pieces.{Piece, IsTold, whole_presses, then_presses, both_told};
+ghost use Rattle.dns_wire.specs.InMessage.{BuildsIn, then_fits, list_fits};
+ghost use Rattle.dns_wire.specs.Pieces.{Piece, IsTold, whole_presses, then_presses, list_presses, both_told};
 ghost use Rattle.dns_wire.specs.Told.{told_then};
 
 use crate::build::{BuildBytes, put};
 use crate::compressor::NameCompressor;
 use crate::error::TruncationError;
+use std::rc::Rc;
 
 /// A type whose values are written in a message, where names that were written before can be pointed to.
 pub trait BuildInMessage {
@@ -38,6 +39,37 @@ pub trait BuildInMessage {
         ensures { BuildsIn (fits_in self.now (take start contents.old) compressor.old)
             (presses self.now (take start contents.old) compressor.old)
             contents.old start compressor.old contents.new compressor.new result };
+
+    /// Writes the values one after another at a place of the contents, and gives the place where they end.
+    /// Each can point to names of those before it. After `TruncationError` the octets before `start` and
+    /// the compressor are as before.
+    fn build_all_in_message(
+        values: &[Self],
+        contents: &mut [u8],
+        start: usize,
+        compressor: &mut NameCompressor,
+    ) -> Result<usize, TruncationError>
+    where
+        Self: Sized,
+        requires room { start ≤ length contents.old }
+        requires known { FitsIn compressor.old (take start contents.old) }
+        ensures { BuildsIn (list_fits fits_in presses values.now (take start contents.old) compressor.old)
+            (list_presses presses values.now (take start contents.old) compressor.old)
+            contents.old start compressor.old contents.new compressor.new result }
+    {
+        let count = compressor.places().len();
+        let mut end = start;
+        for value in values {
+            match value.build_in_message(contents, end, compressor) {
+                Ok(next) => end = next,
+                Err(error) => {
+                    compressor.truncate(count);
+                    return Err(error);
+                }
+            }
+        }
+        Ok(end)
+    }
 
     /// Where pieces are told, what is written is what they write one behind another.
     ghost told: { (v : Self) → IsTold (pieces v) (presses v) };
@@ -79,11 +111,21 @@ impl BuildInMessage for u8 {
     ) -> Result<usize, TruncationError> {
         put(&[*self], contents, start)
     }
+
+    /// Writes all the octets by one copy.
+    fn build_all_in_message(
+        values: &[u8],
+        contents: &mut [u8],
+        start: usize,
+        _compressor: &mut NameCompressor,
+    ) -> Result<usize, TruncationError> {
+        put(values, contents, start)
+    }
 }
 
-/// The octets, as they stand.
-impl BuildInMessage for &[u8] {
-    ghost presses = { λ v. whole_presses v.now };
+/// No octets.
+impl BuildInMessage for () {
+    ghost presses = { λ _. whole_presses [] };
 
     ghost fits_in = { λ _ _ _. ⊤ };
 
@@ -95,9 +137,9 @@ impl BuildInMessage for &[u8] {
         &self,
         contents: &mut [u8],
         start: usize,
-        _compressor: &mut NameCompressor,
+        compressor: &mut NameCompressor,
     ) -> Result<usize, TruncationError> {
-        put(self, contents, start)
+        build_whole(self, contents, start, compressor)
     }
 }
 
@@ -110,6 +152,46 @@ impl<T: BuildInMessage> BuildInMessage for &T {
     ghost pieces = { λ v. T.pieces v.now };
 
     ghost told = { λ v. T.told v.now };
+
+    fn build_in_message(
+        &self,
+        contents: &mut [u8],
+        start: usize,
+        compressor: &mut NameCompressor,
+    ) -> Result<usize, TruncationError> {
+        (**self).build_in_message(contents, start, compressor)
+    }
+}
+
+/// What the box holds.
+impl<T: BuildInMessage> BuildInMessage for Box<T> {
+    ghost presses = { λ v. T.presses v.value };
+
+    ghost fits_in = { λ v. T.fits_in v.value };
+
+    ghost pieces = { λ v. T.pieces v.value };
+
+    ghost told = { λ v. T.told v.value };
+
+    fn build_in_message(
+        &self,
+        contents: &mut [u8],
+        start: usize,
+        compressor: &mut NameCompressor,
+    ) -> Result<usize, TruncationError> {
+        (**self).build_in_message(contents, start, compressor)
+    }
+}
+
+/// What the pointer leads to.
+impl<T: BuildInMessage> BuildInMessage for Rc<T> {
+    ghost presses = { λ v. T.presses v.value };
+
+    ghost fits_in = { λ v. T.fits_in v.value };
+
+    ghost pieces = { λ v. T.pieces v.value };
+
+    ghost told = { λ v. T.told v.value };
 
     fn build_in_message(
         &self,

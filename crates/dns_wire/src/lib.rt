@@ -13,6 +13,7 @@ mod follow;
 mod in_message;
 mod laws;
 mod list;
+mod lists_in_message;
 mod lowercase;
 mod memory;
 mod outside;
@@ -20,6 +21,7 @@ mod parse;
 mod press;
 mod suffix;
 mod text;
+mod turn;
 
 pub use adapters::{ReadSource, WriteSink};
 pub use as_bytes::AsBytes;

@@ -1,12 +1,15 @@
 //! Reading and writing text.
 
-ghost use Rattle.std.specs.Prelude.{◌↔◌, ℕ, List, [], IsOk, ⊤};
+ghost use Rattle.std.specs.Prelude.{◌↔◌, ℕ, List, [], None, IsOk, ⊤};
 ghost use Rattle.std.specs.Str.{IsUtf8};
+ghost use Rattle.dns_wire.specs.Pieces.{whole_presses};
 ghost use Rattle.dns_wire.specs.Reading.{Gives, all_of, plain_at};
 ghost use Rattle.dns_wire.specs.Texts.{text};
 
 use crate::build::{BuildBytes, put};
+use crate::compressor::NameCompressor;
 use crate::error::{ParseError, TruncationError};
+use crate::in_message::{BuildInMessage, build_whole};
 use crate::parse::{ParseBytes, ParseMessageBytes, parse_without_compression};
 
 /// All the octets, where they are UTF-8.
@@ -52,5 +55,25 @@ impl BuildBytes for &str {
 
     fn built_bytes_size(&self) -> usize {
         self.len()
+    }
+}
+
+/// Whole, with no name in it.
+impl BuildInMessage for &str {
+    ghost presses = { λ v. whole_presses v.now };
+
+    ghost fits_in = { λ _ _ _. ⊤ };
+
+    ghost pieces = { λ _. None };
+
+    ghost told = { λ _. tt };
+
+    fn build_in_message(
+        &self,
+        contents: &mut [u8],
+        start: usize,
+        compressor: &mut NameCompressor,
+    ) -> Result<usize, TruncationError> {
+        build_whole(self, contents, start, compressor)
     }
 }

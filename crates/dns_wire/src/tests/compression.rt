@@ -39,6 +39,10 @@ fn finds_names_by_their_places(rt: HostRuntime) -> Result<(), Fail> {
         compressor.compress_name(contents, b"\x01c\x01b\x01a\0"),
         Some((2, 6))
     );
+    assert_eq!(rt;
+        compressor.compress_revname(contents, b"\0\x01a\x01b\x01c"),
+        Some((2, 6))
+    );
     assert_eq!(rt; compressor.compress_name(contents, b"\x01b\0"), None);
     assert_eq!(rt; compressor.compress_name(contents, b"\0"), None);
     compressor.truncate(2);

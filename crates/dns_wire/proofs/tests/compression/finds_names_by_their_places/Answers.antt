@@ -1,6 +1,7 @@
 use Rattle.std.proofs.Common.{arith, refl}
 use Rattle.dns_wire.specs.Compression.Run.{run_root, run_label}
 use Rattle.dns_wire.specs.Names.{plain_name, labels_of, labels_within}
+use Rattle.dns_wire.specs.Reversed.{reversed_name}
 use Rattle.dns_wire.proofs.tests.compression.finds_names_by_their_places.Goals as goal
 
 pub note-requires-clause-run : goal.note-requires-clause-run
@@ -31,3 +32,7 @@ compress_name-requires-4 g c = refl
 pub compress_name-requires-5 : goal.compress_name-requires-5
 unfolding plain_name labels_of labels_within
 compress_name-requires-5 g c = refl
+
+pub compress_revname-requires : goal.compress_revname-requires
+unfolding reversed_name plain_name labels_of labels_within
+compress_revname-requires g c = refl

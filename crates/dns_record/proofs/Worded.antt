@@ -1,0 +1,260 @@
+-- Questions, records and their fields as functions and as relations are the same.
+use Rattle.std.proofs.Common.{◌≡◌, ℕ, ◌+◌, ◌-◌, ◌≤◌, Bool, true, false, cond, ltb, take_all, List, [], ◌∷◌, ◌++◌, length, take, drop, Option, Some, None, refl, sym, ap, subst, ◌∙◌, arith}
+use Rattle.std.specs.Prelude.{◌==◌}
+use Rattle.std.specs.Int.{Width, w16, w32}
+use Rattle.std.proofs.lemmas.Bool.{le-ltb, ltb-false}
+use Rattle.std.proofs.lemmas.Bool.Decides.{nat_tests}
+use Rattle.std.proofs.lemmas.List.{length-append, length-drop, append-nil}
+use Rattle.std.proofs.lemmas.Option.{some_pair_parts}
+use Rattle.dns_wire.specs.Names.{wire, plain_name}
+use Rattle.dns_wire.specs.Pointers.{NameAt, name_at}
+use Rattle.dns_wire.specs.Reading.{octet, octets, number, plain_at, all_at}
+use Rattle.dns_wire.specs.Steps.{◌>>=◌, first_to}
+use Rattle.dns_wire.proofs.Following.{name_at_is, name_at_finds}
+use Rattle.dns_wire.proofs.Spelled.{plain_name_takes, plain_name_again}
+use Rattle.dns_record.specs.Data.{data_in}
+use Rattle.dns_record.specs.Fields.{Field}
+use Rattle.dns_record.specs.Fields.Field.{Named, Raw, Sized, Byte, Number}
+use Rattle.dns_record.specs.InPlace.{OctetsAt, NumberAt, PlainNameAt, FieldAt, FieldsAt, DataAt, QuestionAt, RecordAt}
+use Rattle.dns_record.specs.Kinds.{Kind, text, field_in, fields_in, named_in}
+use Rattle.dns_record.specs.Kinds.Kind.{OneByte, OneNumber, SoMany, Pointed, Plain, Text, Rest}
+use Rattle.dns_record.specs.Questions.{QuestionOf, question_in}
+use Rattle.dns_record.specs.Records.{RecordOf, record_in, end_of}
+use Rattle.dns_record.specs.Rows.{row}
+use Rattle.dns_record.proofs.Places.{placed, stands_at, read_at, octet_spelled, octets_spelled, octets_read, text_spelled, text_read, number_at, read_number}
+
+-- ---- steps
+
+record Stepped {A B : Type 0} (read : Option A) (more : A → Option B) (y : B) : Type 0 where
+  value : A
+  first : read ≡ Some value
+  later : more value ≡ Some y
+
+stepped : {A B : Type 0} (read : Option A) (more : A → Option B) (y : B) → ◌>>=◌ {A = A} {B = B} read more ≡ Some y → Stepped read more y
+stepped None more y e = absurd cc
+stepped (Some x) more y e = record { value = x; first = refl; later = e }
+
+-- what is put into something
+record Put {A B : Type 0} (f : A → B) (read : Option (A × ℕ)) (y : B) (end : ℕ) : Type 0 where
+  value : A
+  first : read ≡ Some (value, end)
+  is : f value ≡ y
+
+put_in : {A B : Type 0} (f : A → B) (read : Option (A × ℕ)) (y : B) (end : ℕ) → first_to f read ≡ Some (y, end) → Put f read y end
+put_in f None y end e = absurd cc
+put_in {A} f (Some (x, rest)) y end e =
+    let same = some_pair_parts (f x) y rest end e in
+    record { value = x; first = ap (λ (n : ℕ). Some (x, n)) same.1; is = same.0 }
+
+-- ---- fields
+
+-- names with pointers
+abbrev pub pointed : List ℕ → ℕ → Option (Field × ℕ)
+pointed = named_in (λ labels. labels) name_at
+
+rest_spelled : (contents : List ℕ) (at : ℕ) (found : List ℕ) (end : ℕ) → plain_at (λ bytes. Some (bytes, [])) contents at ≡ Some (found, end) → (end ≡ length contents) × OctetsAt contents at found end
+rest_spelled contents at found end e =
+    let p = placed (λ bytes. Some (bytes, [])) contents at found end e in
+    let same = some_pair_parts (drop at contents) found [] p.rest p.read in
+    (omega (arith, p.end_is, ap length same.1),
+     stands_at (λ bytes. Some (bytes, [])) (λ o. o) contents at found end (λ rest read. let both = some_pair_parts (drop at contents) found [] rest read in both.0 ∙ sym (append-nil found) ∙ ap (λ (l : List ℕ). found ++ l) both.1) e)
+
+field_is : (kind : Kind) (contents : List ℕ) (at : ℕ) (field : Field) (end : ℕ) → field_in pointed kind contents at ≡ Some (field, end) → FieldAt kind contents at field end
+field_is OneByte contents at field end e =
+    let p = put_in Byte (plain_at octet contents at) field end e in
+    subst (λ (f : Field). FieldAt OneByte contents at f end) p.is (stands_at octet (λ b. b ∷ []) contents at p.value end (λ rest read. octet_spelled (drop at contents) p.value rest read) p.first)
+field_is (OneNumber w) contents at field end e =
+    let p = put_in (Number w) (plain_at (number w) contents at) field end e in
+    subst (λ (f : Field). FieldAt (OneNumber w) contents at f end) p.is (refl, number_at w contents at p.value end p.first)
+field_is (SoMany n) contents at field end e =
+    let p = put_in Raw (plain_at (octets n) contents at) field end e in
+    let q = placed (octets n) contents at p.value end p.first in
+    subst (λ (f : Field). FieldAt (SoMany n) contents at f end) p.is
+    ((octets_spelled n (drop at contents) p.value q.rest q.read).0, stands_at (octets n) (λ o. o) contents at p.value end (λ rest read. (octets_spelled n (drop at contents) p.value rest read).1) p.first)
+field_is Pointed contents at field end e =
+    let p = put_in (λ labels. Named labels) (name_at contents at) field end e in
+    subst (λ (f : Field). FieldAt Pointed contents at f end) p.is (name_at_is contents at p.value end p.first)
+field_is Plain contents at field end e =
+    let p = put_in Named (plain_at plain_name contents at) field end e in
+    let q = placed plain_name contents at p.value end p.first in
+    subst (λ (f : Field). FieldAt Plain contents at f end) p.is
+    (record {
+      name = (plain_name_takes (drop at contents) p.value q.rest q.read).0;
+      stands = stands_at plain_name wire contents at p.value end (λ rest read. (plain_name_takes (drop at contents) p.value rest read).1) p.first;
+    })
+field_is Text contents at field end e =
+    let p = put_in Sized (plain_at text contents at) field end e in
+    subst (λ (f : Field). FieldAt Text contents at f end) p.is (stands_at text (λ o. length o ∷ o) contents at p.value end (λ rest read. text_spelled (drop at contents) p.value rest read) p.first)
+field_is Rest contents at field end e =
+    let p = put_in Raw (plain_at (λ bytes. Some (bytes, [])) contents at) field end e in
+    subst (λ (f : Field). FieldAt Rest contents at f end) p.is (rest_spelled contents at p.value end p.first)
+
+rest_read : (contents : List ℕ) (at : ℕ) (found : List ℕ) (end : ℕ) → end ≡ length contents → OctetsAt contents at found end → plain_at (λ bytes. Some (bytes, [])) contents at ≡ Some (found, end)
+rest_read contents at found end whole o =
+    let fits : ltb (length contents) at ≡ false = le-ltb _ _ (omega (arith, o.end_is, o.within)) in
+    let all : drop at contents ≡ found = sym (take_all (length found) (drop at contents) (omega (arith, o.end_is, whole, length-drop at contents))) ∙ sym o.stand in
+    let last : length contents - 0 ≡ end = omega (arith, whole) in
+    rw fits (ap (λ (l : List ℕ). Some (l, length contents - 0)) all ∙ ap (λ (n : ℕ). Some (found, n)) last)
+
+field_found : (kind : Kind) (contents : List ℕ) (at : ℕ) (field : Field) (end : ℕ) → FieldAt kind contents at field end → field_in pointed kind contents at ≡ Some (field, end)
+field_found OneByte contents at (Byte b) end h = ap (first_to Byte) (read_at octet (λ b. b ∷ []) contents at b end (λ rest. refl) h)
+field_found (OneNumber w) contents at (Number v n) end h =
+    let read : first_to (Number w) (plain_at (number w) contents at) ≡ Some (Number w n, end) = ap (first_to (Number w)) (read_number w contents at n end h.1) in
+    read ∙ ap (λ (u : Width). Some (Number u n, end)) (sym h.0)
+field_found (SoMany n) contents at (Raw found) end h = ap (first_to Raw) (read_at (octets n) (λ o. o) contents at found end (λ rest. octets_read n found rest h.0) h.1)
+field_found Pointed contents at (Named labels) end h = ap (first_to (λ l. Named l)) (name_at_finds contents at labels end h)
+field_found Plain contents at (Named labels) end h = ap (first_to Named) (read_at plain_name wire contents at labels end (λ rest. plain_name_again (wire labels ++ rest) labels rest h.name refl) h.stands)
+field_found Text contents at (Sized found) end h = ap (first_to Sized) (read_at text (λ o. length o ∷ o) contents at found end (λ rest. text_read found rest) h)
+field_found Rest contents at (Raw found) end h = ap (first_to Raw) (rest_read contents at found end h.0 h.1)
+field_found kind contents at field end h = absurd h
+
+-- ---- fields one after another
+
+pub fields_are : (kinds : List Kind) (contents : List ℕ) (at : ℕ) (fields : List Field) (end : ℕ) → fields_in pointed kinds contents at ≡ Some (fields, end) → FieldsAt kinds contents at fields end
+fields_are [] contents at fields end e = let same = some_pair_parts [] fields at end e in (sym same.0, sym same.1)
+fields_are (kind ∷ kinds) contents at fields end e =
+    let s = stepped (field_in pointed kind contents at) (λ field. ◌>>=◌ {A = List Field × ℕ} {B = List Field × ℕ} (fields_in pointed kinds contents field.1) (λ others. Some (field.0 ∷ others.0, others.1))) (fields, end) e in
+    let t = stepped (fields_in pointed kinds contents s.value.1) (λ others. Some (s.value.0 ∷ others.0, others.1)) (fields, end) s.later in
+    let same = some_pair_parts (s.value.0 ∷ t.value.0) fields t.value.1 end t.later in
+    (s.value.0, s.value.1, t.value.0, field_is kind contents at s.value.0 s.value.1 s.first, sym same.0,
+     subst (λ (n : ℕ). FieldsAt kinds contents s.value.1 t.value.0 n) same.1 (fields_are kinds contents s.value.1 t.value.0 t.value.1 t.first))
+
+pub fields_found : (kinds : List Kind) (contents : List ℕ) (at : ℕ) (fields : List Field) (end : ℕ) → FieldsAt kinds contents at fields end → fields_in pointed kinds contents at ≡ Some (fields, end)
+fields_found [] contents at fields end (none, here) = rw (none, here) refl
+fields_found (kind ∷ kinds) contents at fields end (field, next, others, here, is, later) =
+    let first : field_in pointed kind contents at ≡ Some (field, next) = field_found kind contents at field next here in
+    let rest : fields_in pointed kinds contents next ≡ Some (others, end) = fields_found kinds contents next others end later in
+    rw (first, rest, is) refl
+
+-- ---- data
+
+pub data_is : (rtype : ℕ) (contents : List ℕ) (at : ℕ) (fields : List Field) → data_in pointed rtype contents at ≡ Some fields → DataAt rtype contents at fields
+unfolding data_in
+data_is rtype contents at fields e = by (fields_in pointed (row rtype) contents at) refl e where
+  whole : (found : List Field) (end : ℕ) → fields_in pointed (row rtype) contents at ≡ Some (found, end) → (b : Bool) → (end == length contents) ≡ b → cond b (Some found) None ≡ Some fields → DataAt rtype contents at fields
+  whole found end is false ends h = absurd cc
+  whole found end is true ends h =
+      let same : found ≡ fields = cc in
+      let last : end ≡ length contents = grind (arith, nat_tests, ends) in
+      subst (λ (l : List Field). FieldsAt (row rtype) contents at l (length contents)) same (subst (λ (n : ℕ). FieldsAt (row rtype) contents at found n) last (fields_are (row rtype) contents at found end is))
+
+  by : (read : Option (List Field × ℕ)) → fields_in pointed (row rtype) contents at ≡ read → all_at contents read ≡ Some fields → DataAt rtype contents at fields
+  by None is h = absurd cc
+  by (Some (found, end)) is h = whole found end is (end == length contents) refl h
+
+pub data_found : (rtype : ℕ) (contents : List ℕ) (at : ℕ) (fields : List Field) → DataAt rtype contents at fields → data_in pointed rtype contents at ≡ Some fields
+unfolding data_in
+data_found rtype contents at fields h =
+    let ends : (length contents == length contents) ≡ true = grind (arith, nat_tests) in
+    let read : all_at contents (fields_in pointed (row rtype) contents at) ≡ all_at contents (Some (fields, length contents)) = ap (all_at contents) (fields_found (row rtype) contents at fields (length contents) h) in
+    read ∙ rw ends refl
+
+-- ---- questions
+
+abbrev Asked : Type 0
+Asked = QuestionOf (List (List ℕ)) × ℕ
+
+pub question_is : (contents : List ℕ) (at : ℕ) (question : QuestionOf (List (List ℕ))) (end : ℕ) → question_in name_at contents at ≡ Some (question, end) → QuestionAt contents at question end
+unfolding question_in
+question_is contents at question end e =
+    let s = stepped {B = Asked} (name_at contents at) (λ asked. plain_at (number w16) contents asked.1 >>= (λ qtype. plain_at (number w16) contents qtype.1 >>= (λ class. Some (record { name = asked.0; qtype = qtype.0; class = class.0 }, class.1)))) (question, end) e in
+    let t = stepped {B = Asked} (plain_at (number w16) contents s.value.1) (λ qtype. plain_at (number w16) contents qtype.1 >>= (λ class. Some (record { name = s.value.0; qtype = qtype.0; class = class.0 }, class.1))) (question, end) s.later in
+    let u = stepped {B = Asked} (plain_at (number w16) contents t.value.1) (λ class. Some (record { name = s.value.0; qtype = t.value.0; class = class.0 }, class.1)) (question, end) t.later in
+    let same = some_pair_parts (record { name = s.value.0; qtype = t.value.0; class = u.value.0 }) question u.value.1 end u.later in
+    subst (λ (q : QuestionOf (List (List ℕ))). QuestionAt contents at q end) same.0
+    (record {
+      name_end = s.value.1;
+      type_end = t.value.1;
+      name = name_at_is contents at s.value.0 s.value.1 s.first;
+      qtype = number_at w16 contents s.value.1 t.value.0 t.value.1 t.first;
+      class = number_at w16 contents t.value.1 u.value.0 end (u.first ∙ ap (λ (n : ℕ). Some (u.value.0, n)) same.1);
+    })
+
+pub question_found : (contents : List ℕ) (at : ℕ) (question : QuestionOf (List (List ℕ))) (end : ℕ) → QuestionAt contents at question end → question_in name_at contents at ≡ Some (question, end)
+unfolding question_in
+question_found contents at question end q =
+    let name = name_at_finds contents at question.name q.name_end q.name in
+    let qtype = read_number w16 contents q.name_end question.qtype q.type_end q.qtype in
+    let class = read_number w16 contents q.type_end question.class end q.class in
+    rw (name, qtype, class) refl
+
+-- ---- records
+
+abbrev Rec : Type 0
+Rec = RecordOf (List (List ℕ)) (List Field)
+
+-- what is read behind the owner, the type, the class, the time to live, the size, and up to the end
+abbrev to_content : List ℕ → List (List ℕ) → ℕ → ℕ → ℕ → ℕ → ℕ → Option (Rec × ℕ)
+to_content contents owner rtype class ttl body end =
+    ◌>>=◌ {A = List Field} {B = Rec × ℕ} (data_in pointed rtype (take end contents) body) (λ content. Some (record { owner = owner; rtype = rtype; class = class; ttl = ttl; content = content }, end))
+
+abbrev to_end : List ℕ → List (List ℕ) → ℕ → ℕ → ℕ → ℕ × ℕ → Option (Rec × ℕ)
+to_end contents owner rtype class ttl size = ◌>>=◌ {A = ℕ} {B = Rec × ℕ} (end_of contents size.1 size.0) (λ end. to_content contents owner rtype class ttl size.1 end)
+
+abbrev to_size : List ℕ → List (List ℕ) → ℕ → ℕ → ℕ × ℕ → Option (Rec × ℕ)
+to_size contents owner rtype class ttl = ◌>>=◌ {A = ℕ × ℕ} {B = Rec × ℕ} (plain_at (number w16) contents ttl.1) (λ size. to_end contents owner rtype class ttl.0 size)
+
+abbrev to_ttl : List ℕ → List (List ℕ) → ℕ → ℕ × ℕ → Option (Rec × ℕ)
+to_ttl contents owner rtype class = ◌>>=◌ {A = ℕ × ℕ} {B = Rec × ℕ} (plain_at (number w32) contents class.1) (λ ttl. to_size contents owner rtype class.0 ttl)
+
+abbrev to_class : List ℕ → List (List ℕ) → ℕ × ℕ → Option (Rec × ℕ)
+to_class contents owner rtype = ◌>>=◌ {A = ℕ × ℕ} {B = Rec × ℕ} (plain_at (number w16) contents rtype.1) (λ class. to_ttl contents owner rtype.0 class)
+
+abbrev to_type : List ℕ → List (List ℕ) × ℕ → Option (Rec × ℕ)
+to_type contents owner = ◌>>=◌ {A = ℕ × ℕ} {B = Rec × ℕ} (plain_at (number w16) contents owner.1) (λ rtype. to_class contents owner.0 rtype)
+
+record Ends (contents : List ℕ) (at size end : ℕ) : Type 0 where
+  is : end ≡ at + size
+  within : end ≤ length contents
+
+ends : (contents : List ℕ) (at size end : ℕ) → end_of contents at size ≡ Some end → Ends contents at size end
+ends contents at size end e = by (ltb (length contents) (at + size)) refl e where
+  by : (b : Bool) → ltb (length contents) (at + size) ≡ b → cond b None (Some (at + size)) ≡ Some end → Ends contents at size end
+  by true le h = absurd cc
+  by false le h =
+      let same : at + size ≡ end = cc in
+      record { is = sym same; within = subst (λ (n : ℕ). n ≤ length contents) same (ltb-false (length contents) (at + size) le) }
+
+pub record_is : (contents : List ℕ) (at : ℕ) (r : Rec) (end : ℕ) → record_in name_at (data_in pointed) contents at ≡ Some (r, end) → RecordAt contents at r end
+unfolding record_in
+record_is contents at r end e =
+    let a = stepped {B = Rec × ℕ} (name_at contents at) (to_type contents) (r, end) e in
+    let b = stepped {B = Rec × ℕ} (plain_at (number w16) contents a.value.1) (to_class contents a.value.0) (r, end) a.later in
+    let c = stepped {B = Rec × ℕ} (plain_at (number w16) contents b.value.1) (to_ttl contents a.value.0 b.value.0) (r, end) b.later in
+    let d = stepped {B = Rec × ℕ} (plain_at (number w32) contents c.value.1) (to_size contents a.value.0 b.value.0 c.value.0) (r, end) c.later in
+    let f = stepped {B = Rec × ℕ} (plain_at (number w16) contents d.value.1) (to_end contents a.value.0 b.value.0 c.value.0 d.value.0) (r, end) d.later in
+    let g = stepped {B = Rec × ℕ} (end_of contents f.value.1 f.value.0) (to_content contents a.value.0 b.value.0 c.value.0 d.value.0 f.value.1) (r, end) f.later in
+    let h = stepped {A = List Field} {B = Rec × ℕ} (data_in pointed b.value.0 (take g.value contents) f.value.1) (λ content. Some (record { owner = a.value.0; rtype = b.value.0; class = c.value.0; ttl = d.value.0; content = content }, g.value)) (r, end) g.later in
+    let same = some_pair_parts (record { owner = a.value.0; rtype = b.value.0; class = c.value.0; ttl = d.value.0; content = h.value }) r g.value end h.later in
+    let last = ends contents f.value.1 f.value.0 g.value g.first in
+    subst (λ (found : Rec). RecordAt contents at found end) same.0
+    (subst (λ (n : ℕ). RecordAt contents at (record { owner = a.value.0; rtype = b.value.0; class = c.value.0; ttl = d.value.0; content = h.value }) n) same.1
+      (record {
+        owner_end = a.value.1;
+        type_end = b.value.1;
+        class_end = c.value.1;
+        ttl_end = d.value.1;
+        size = f.value.0;
+        size_end = f.value.1;
+        owner = name_at_is contents at a.value.0 a.value.1 a.first;
+        rtype = number_at w16 contents a.value.1 b.value.0 b.value.1 b.first;
+        class = number_at w16 contents b.value.1 c.value.0 c.value.1 c.first;
+        ttl = number_at w32 contents c.value.1 d.value.0 d.value.1 d.first;
+        size_is = number_at w16 contents d.value.1 f.value.0 f.value.1 f.first;
+        end_is = last.is;
+        within = last.within;
+        content = data_is b.value.0 (take g.value contents) f.value.1 h.value h.first;
+      }))
+
+pub record_found : (contents : List ℕ) (at : ℕ) (r : Rec) (end : ℕ) → RecordAt contents at r end → record_in name_at (data_in pointed) contents at ≡ Some (r, end)
+unfolding record_in
+record_found contents at r end q =
+    let owner = name_at_finds contents at r.owner q.owner_end q.owner in
+    let rtype = read_number w16 contents q.owner_end r.rtype q.type_end q.rtype in
+    let class = read_number w16 contents q.type_end r.class q.class_end q.class in
+    let ttl = read_number w32 contents q.class_end r.ttl q.ttl_end q.ttl in
+    let size = read_number w16 contents q.ttl_end q.size q.size_end q.size_is in
+    let fits : ltb (length contents) (q.size_end + q.size) ≡ false = le-ltb _ _ (omega (arith, q.within, q.end_is)) in
+    let last : end_of contents q.size_end q.size ≡ Some end = rw fits (ap (λ (n : ℕ). Some n) (sym q.end_is)) in
+    let content = data_found r.rtype (take end contents) q.size_end r.content q.content in
+    rw (owner, rtype, class, ttl, size, last, content) refl

@@ -1,0 +1,83 @@
+-- Questions, records and their data in place, in the words of the standard (RFC 1035 sections 3.2.1, 3.3 and 4.1). Contents
+-- are a message's octets behind its header. Each relation says what stands from a place up to an end.
+use Rattle.std.specs.Prelude.{◌≡◌, ℕ, ◌+◌, ◌≤◌, ◌<◌, List, [], ◌∷◌, ◌++◌, length, take, drop, slice_index}
+use Rattle.std.specs.Int.{Width, w16, w32, byte_len, from_be_bytes}
+use Rattle.dns_wire.specs.Names.{IsName, wire}
+use Rattle.dns_wire.specs.Pointers.{NameAt}
+use Rattle.dns_record.specs.Fields.{Field}
+use Rattle.dns_record.specs.Fields.Field.{Named, Raw, Sized, Byte, Number}
+use Rattle.dns_record.specs.Kinds.{Kind}
+use Rattle.dns_record.specs.Kinds.Kind.{OneByte, OneNumber, SoMany, Pointed, Plain, Text, Rest}
+use Rattle.dns_record.specs.Questions.{QuestionOf}
+use Rattle.dns_record.specs.Records.{RecordOf}
+use Rattle.dns_record.specs.Rows.{row}
+
+-- ---- octets, numbers and names
+
+-- these octets
+pub record OctetsAt (contents : List ℕ) (at : ℕ) (octets : List ℕ) (end : ℕ) : Type 0 where
+  pub end_is : end ≡ at + length octets
+  pub within : end ≤ length contents
+  pub stand : octets ≡ take (length octets) (drop at contents)
+
+-- a number of so many bits, the most significant octet first
+pub record NumberAt (contents : List ℕ) (at : ℕ) (w : Width) (n : ℕ) (end : ℕ) : Type 0 where
+  pub end_is : end ≡ at + byte_len w
+  pub within : end ≤ length contents
+  pub is : n ≡ from_be_bytes w (take (byte_len w) (drop at contents))
+
+-- a name without pointers
+pub record PlainNameAt (contents : List ℕ) (at : ℕ) (labels : List (List ℕ)) (end : ℕ) : Type 0 where
+  pub name : IsName labels
+  pub stands : OctetsAt contents at (wire labels) end
+
+-- ---- fields
+
+-- a field of a kind
+abbrev pub FieldAt : Kind → List ℕ → ℕ → Field → ℕ → Type 0
+FieldAt OneByte contents at (Byte b) end = OctetsAt contents at (b ∷ []) end
+FieldAt (OneNumber w) contents at (Number v n) end = (v ≡ w) × NumberAt contents at w n end
+FieldAt (SoMany n) contents at (Raw octets) end = (length octets ≡ n) × OctetsAt contents at octets end
+FieldAt Pointed contents at (Named labels) end = NameAt contents at labels end
+FieldAt Plain contents at (Named labels) end = PlainNameAt contents at labels end
+FieldAt Text contents at (Sized octets) end = OctetsAt contents at (length octets ∷ octets) end
+FieldAt Rest contents at (Raw octets) end = (end ≡ length contents) × OctetsAt contents at octets end
+FieldAt kind contents at field end = ⊥
+
+-- fields of these kinds, one after another
+abbrev pub FieldsAt : List Kind → List ℕ → ℕ → List Field → ℕ → Type 0
+FieldsAt [] contents at fields end = (fields ≡ []) × (end ≡ at)
+FieldsAt (kind ∷ kinds) contents at fields end =
+    (field : Field) × (next : ℕ) × (others : List Field) × FieldAt kind contents at field next × (fields ≡ field ∷ others) × FieldsAt kinds contents next others end
+
+-- the data of a type: the fields of its row, of which the last ends with the contents
+abbrev pub DataAt : ℕ → List ℕ → ℕ → List Field → Type 0
+DataAt rtype contents at fields = FieldsAt (row rtype) contents at fields (length contents)
+
+-- ---- questions and records
+
+-- a name, a type and a class
+pub record QuestionAt (contents : List ℕ) (at : ℕ) (question : QuestionOf (List (List ℕ))) (end : ℕ) : Type 0 where
+  pub name_end : ℕ
+  pub type_end : ℕ
+  pub name : NameAt contents at question.name name_end
+  pub qtype : NumberAt contents name_end w16 question.qtype type_end
+  pub class : NumberAt contents type_end w16 question.class end
+
+-- An owner, a type, a class, a time to live and a size, and then data of exactly that size: they see nothing behind the
+-- record's end.
+pub record RecordAt (contents : List ℕ) (at : ℕ) (r : RecordOf (List (List ℕ)) (List Field)) (end : ℕ) : Type 0 where
+  pub owner_end : ℕ
+  pub type_end : ℕ
+  pub class_end : ℕ
+  pub ttl_end : ℕ
+  pub size : ℕ
+  pub size_end : ℕ
+  pub owner : NameAt contents at r.owner owner_end
+  pub rtype : NumberAt contents owner_end w16 r.rtype type_end
+  pub class : NumberAt contents type_end w16 r.class class_end
+  pub ttl : NumberAt contents class_end w32 r.ttl ttl_end
+  pub size_is : NumberAt contents ttl_end w16 size size_end
+  pub end_is : end ≡ size_end + size
+  pub within : end ≤ length contents
+  pub content : DataAt r.rtype (take end contents) size_end r.content

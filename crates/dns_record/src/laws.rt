@@ -1,0 +1,24 @@
+//! The definitions of this crate in other words.
+
+ghost use Rattle.std.specs.Prelude.{◌≡◌, ◌↔◌, ℕ, List, Some};
+ghost use Rattle.dns_wire.specs.Pointers.{name_at};
+ghost use Rattle.dns_record.specs.Fields.{Field};
+ghost use Rattle.dns_record.specs.InPlace.{FieldsAt, DataAt, QuestionAt, RecordAt};
+ghost use Rattle.dns_record.specs.Kinds.{Kind, fields_in, named_in};
+ghost use Rattle.dns_record.specs.Data.{data_in};
+ghost use Rattle.dns_record.specs.Questions.{QuestionOf, question_in};
+ghost use Rattle.dns_record.specs.Records.{RecordOf, record_in};
+
+/// What is read in a message, its names with their pointers followed, is what stands there: fields of the
+/// kinds of a row, one after another; the data of a type, which end where the record does; a question, and a
+/// record (RFC 1035 sections 3.3, 4.1.2 and 4.1.3).
+pub fn items_in_words()
+    ensures fields { (kinds : List Kind) (contents : List ℕ) (at : ℕ) (fields : List Field) (end : ℕ) →
+        (fields_in (named_in (λ labels. labels) name_at) kinds contents at ≡ Some (fields, end)) ↔ FieldsAt kinds contents at fields end }
+    ensures content { (rtype : ℕ) (contents : List ℕ) (at : ℕ) (fields : List Field) →
+        (data_in (named_in (λ labels. labels) name_at) rtype contents at ≡ Some fields) ↔ DataAt rtype contents at fields }
+    ensures question { (contents : List ℕ) (at : ℕ) (question : QuestionOf (List (List ℕ))) (end : ℕ) →
+        (question_in name_at contents at ≡ Some (question, end)) ↔ QuestionAt contents at question end }
+    ensures whole { (contents : List ℕ) (at : ℕ) (found : RecordOf (List (List ℕ)) (List Field)) (end : ℕ) →
+        (record_in name_at (data_in (named_in (λ labels. labels) name_at)) contents at ≡ Some (found, end)) ↔ RecordAt contents at found end }
+{}
