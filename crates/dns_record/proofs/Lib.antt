@@ -1,3 +1,5 @@
 -- The crate's own lemmas.
+pub mod CharStrCells
+pub mod CharStrStored
 pub mod Places
 pub mod Worded

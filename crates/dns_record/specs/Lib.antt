@@ -1,5 +1,10 @@
 -- What the contracts of questions and of records cite.
 pub mod Canonical
+pub mod CharStrHashing
+pub mod CharStrLends
+pub mod CharStrStorage
+pub mod CharStrTexts
+pub mod CharStrs
 pub mod Data
 pub mod Fields
 pub mod InPlace

@@ -2,6 +2,11 @@
 #![tactic(auto)]
 
 mod canonical;
+mod charstr;
+mod charstr_buf;
+mod charstr_error;
+mod charstr_laws;
+mod charstr_storage;
 mod laws;
 mod qclass;
 mod qtype;
@@ -15,6 +20,10 @@ mod ttl;
 mod unparsed;
 
 pub use canonical::CanonicalRecordData;
+pub use charstr::CharStr;
+pub use charstr_buf::CharStrBuf;
+pub use charstr_error::CharStrParseError;
+pub use charstr_laws::character_strings;
 pub use laws::items_in_words;
 pub use qclass::QClass;
 pub use qtype::QType;

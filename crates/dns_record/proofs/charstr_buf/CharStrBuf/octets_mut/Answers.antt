@@ -1,0 +1,10 @@
+use Rattle.std.proofs.Common.{refl, rules}
+use Rattle.dns_record.proofs.CharStrStored.{stored_over}
+use Rattle.dns_record.proofs.charstr_buf.CharStrBuf.octets_mut.Goals as goal
+
+pub returns : goal.returns
+returns c =
+    let inside = c.self.inside in (
+      (refl, λ w. rw (← c.self.view_is) (stored_over inside.storage.octets w c.self.invariant.0 c.self.invariant.1)),
+      record { writes_back = tt; value = search rules },
+    )

@@ -1,0 +1,12 @@
+-- Character strings from text in which no escapes are read.
+use Rattle.std.specs.Prelude.{ℕ, List, length, Result, Ok, Err, nat_lt, ◌==◌, if◌then◌else◌}
+use Rattle.std.specs.List.{list_any}
+use Rattle.dns_record.specs.declared.charstr_error.CharStrParseError.{CharStrParseError}
+use Rattle.dns_record.specs.declared.charstr_error.CharStrParseError.TheVariants.{Overlong, InvalidChar}
+
+-- the text's octets, where no backslash stands among them (92), and then where they are at most 255
+abbrev pub charstr_of : List ℕ → Result (List ℕ) CharStrParseError
+charstr_of text =
+    if list_any (λ b. b == 92) text then Err InvalidChar
+    else if nat_lt 255 (length text) then Err Overlong
+    else Ok text

@@ -1,0 +1,179 @@
+//! A character string as a view over its octets.
+
+ghost use Rattle.std.specs.Prelude.{◌≡◌, ◌≤◌, ◌↔◌, ℕ, List, [], length, Some, None, IsTrue, ⊤};
+ghost use Rattle.std.proofs.Props.{props};
+ghost use Rattle.std.specs.Cmp.{on_equiv, partial_equiv_from_equiv};
+ghost use Rattle.std.specs.Cmp.Lexicographic.{on_texts_equal};
+ghost use Rattle.std.specs.Ordering.{on};
+ghost use Rattle.std.specs.Str.{str_to_ascii_lowercase};
+ghost use Rattle.dns_wire.specs.Pieces.{whole_presses};
+ghost use Rattle.dns_wire.specs.Reading.{all_of, plain_at};
+ghost use Rattle.dns_record.specs.CharStrs.{charstr_wire, octets_of, same_charstr};
+ghost use Rattle.dns_record.specs.CharStrHashing.{charstr_writes, same_charstrs_alike};
+ghost use Rattle.dns_record.specs.Kinds.{text};
+
+use crate::charstr_buf::CharStrBuf;
+use dns_wire::{
+    BuildBytes, BuildInMessage, NameCompressor, ParseBytes, ParseError, ParseMessageBytes,
+    SplitBytes, SplitMessageBytes, TruncationError, build_whole, parse_without_compression, put,
+    split_without_compression,
+};
+use std::hash::{Hash, Hasher};
+
+/// A character string: an octet with the number of the others, and so many octets (RFC 1035 section 3.3).
+/// What contracts see of it are the octets behind that number.
+#[derive(Clone, Copy, Debug)]
+pub struct CharStr<'a> {
+    /// The length octet and the octets.
+    pub slice: &'a [u8],
+    ghost is_charstr: { all_of (text slice.now) ≡ Some (octets_of slice.now) } by { Prim.hlevel props },
+}
+
+impl<'a> CharStr<'a> {
+    /// The octets without the length octet, from 0 to 255.
+    pub fn octets(&self) -> &'a [u8]
+        ensures octets { result.now ≡ octets_of self.now.slice.now }
+        ensures short { length result.now ≤ 255 }
+    {
+        let size = self.slice[0] as usize;
+        &self.slice[1..1 + size]
+    }
+
+    /// The length octet and the octets.
+    pub(crate) fn wire(&self) -> &'a [u8]
+        ensures octets { result.now ≡ self.now.slice.now }
+        ensures wire { result.now ≡ charstr_wire (octets_of self.now.slice.now) }
+    {
+        self.slice
+    }
+
+    /// The number of octets, from 0 to 255, the length octet not counted.
+    pub fn len(&self) -> usize
+        ensures size { result ≡ length (octets_of self.now.slice.now) }
+        ensures short { result ≤ 255 }
+    {
+        self.octets().len()
+    }
+
+    /// Whether there are no octets but the length octet.
+    pub fn is_empty(&self) -> bool
+        ensures { IsTrue result ↔ (octets_of self.now.slice.now ≡ []) }
+    {
+        self.octets().is_empty()
+    }
+}
+
+impl<'a> ParseBytes<'a> for CharStr<'a> {
+    ghost Seen = { List ℕ };
+
+    ghost seen = { λ v. octets_of v.slice.now };
+
+    ghost reads = { text };
+
+    ghost reads_at = { plain_at text };
+
+    ghost labels = { λ _. [] };
+
+    fn parse_bytes(bytes: &'a [u8]) -> Result<CharStr<'a>, ParseError> {
+        let (charstr, rest) = CharStr::split_bytes(bytes)?;
+        if rest.is_empty() {
+            Ok(charstr)
+        } else {
+            Err(ParseError)
+        }
+    }
+}
+
+impl<'a> SplitBytes<'a> for CharStr<'a> {
+    fn split_bytes(bytes: &'a [u8]) -> Result<(CharStr<'a>, &'a [u8]), ParseError> {
+        let [size, behind @ ..] = bytes else {
+            return Err(ParseError);
+        };
+        let size = *size as usize;
+        if behind.len() < size {
+            return Err(ParseError);
+        }
+        let (slice, rest) = bytes.split_at(1 + size);
+        Ok((CharStr { slice }, rest))
+    }
+}
+
+impl<'a> ParseMessageBytes<'a> for CharStr<'a> {
+    fn parse_message_bytes(contents: &'a [u8], start: usize) -> Result<CharStr<'a>, ParseError> {
+        parse_without_compression(contents, start)
+    }
+}
+
+impl<'a> SplitMessageBytes<'a> for CharStr<'a> {
+    fn split_message_bytes(
+        contents: &'a [u8],
+        start: usize,
+    ) -> Result<(CharStr<'a>, usize), ParseError> {
+        split_without_compression(contents, start)
+    }
+}
+
+impl BuildBytes for CharStr<'_> {
+    ghost octets = { λ v. charstr_wire (octets_of v.slice.now) };
+
+    ghost fits = { λ _. ⊤ };
+
+    fn build_at(&self, bytes: &mut [u8], start: usize) -> Result<usize, TruncationError> {
+        put(self.wire(), bytes, start)
+    }
+
+    fn built_bytes_size(&self) -> usize {
+        self.wire().len()
+    }
+}
+
+/// Whole, with no name in it.
+impl BuildInMessage for CharStr<'_> {
+    ghost presses = { λ v. whole_presses (charstr_wire (octets_of v.slice.now)) };
+
+    ghost fits_in = { λ _ _ _. ⊤ };
+
+    ghost pieces = { λ _. None };
+
+    ghost told = { λ _. tt };
+
+    fn build_in_message(
+        &self,
+        contents: &mut [u8],
+        start: usize,
+        compressor: &mut NameCompressor,
+    ) -> Result<usize, TruncationError> {
+        build_whole(self, contents, start, compressor)
+    }
+}
+
+impl PartialEq for CharStr<'_> {
+    ghost eq = { on (λ v. octets_of v.slice.now) same_charstr };
+
+    ghost laws = { partial_equiv_from_equiv (on_equiv (λ v. octets_of v.slice.now) (on_texts_equal str_to_ascii_lowercase)) };
+
+    /// Whether the octets are the same, ASCII case aside (RFC 1035 section 2.3.3).
+    fn eq(&self, other: &Self) -> bool {
+        self.octets().eq_ignore_ascii_case(other.octets())
+    }
+}
+
+impl Eq for CharStr<'_> {
+    ghost laws = { on_equiv (λ v. octets_of v.slice.now) (on_texts_equal str_to_ascii_lowercase) };
+}
+
+impl Hash for CharStr<'_> {
+    ghost hash_input = { λ v. charstr_writes (octets_of v.slice.now) };
+
+    ghost respects_eq = { λ a b same. same_charstrs_alike (octets_of a.slice.now) (octets_of b.slice.now) same };
+
+    /// Feeds the length octet and the octets in small letters, in one write.
+    fn hash<H: Hasher>(&self, state: &mut H) {
+        let mut lowered = CharStrBuf::copy_from(*self);
+        lowered.octets_mut().make_ascii_lowercase();
+        state.write(lowered.wire_bytes());
+    }
+}
+
+#[cfg(test)]
+mod tests;
