@@ -8,10 +8,7 @@ use Rattle.std.proofs.lemmas.Option.{some_pair_parts}
 use Rattle.dns_wire.specs.Reading.{AreOctets, number, octets, all_of}
 use Rattle.dns_wire.specs.Steps.{◌>>=◌}
 use Rattle.dns_wire.proofs.Spelled.{chosen}
-<<<<<<< HEAD
 use Rattle.dns_wire.specs.Steps.{◌>>=◌}
-=======
->>>>>>> 8dd2dfdd16a66b0403424c3a9cfad129eb16b024
 use Rattle.dns_num.specs.Prefixed.{sized, prefixed}
 
 -- one octet, or two
