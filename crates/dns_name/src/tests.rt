@@ -10,7 +10,6 @@ use std::cmp::Ordering;
 use std::hash::{DefaultHasher, Hash, Hasher};
 use std::test::Fail;
 
-
 fn octets_at_hand<T: AsBytes>(value: &T) -> &[u8] {
     value.as_bytes()
 }
