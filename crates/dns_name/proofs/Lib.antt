@@ -5,4 +5,5 @@ pub mod Gathered
 pub mod Ordered
 pub mod Preceding
 pub mod Sameness
+pub mod Standing
 pub mod Turned
