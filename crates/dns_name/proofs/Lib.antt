@@ -6,4 +6,5 @@ pub mod Ordered
 pub mod Preceding
 pub mod Sameness
 pub mod Standing
+pub mod StandingAt
 pub mod Turned

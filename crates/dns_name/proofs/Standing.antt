@@ -236,13 +236,14 @@ first_of (label ∷ labels, end) size is at_front some low =
     let again = unparsed_again (labels, end) rest in
     let whole = unparsed_again (label ∷ labels, end) is in
     let body : (label ++ heads labels) ++ last_octets end ≡ label ++ unparsed_wire (labels, end) = append_assoc label (heads labels) (last_octets end) in
+    let room : size + 1 < length (unparsed_wire (label ∷ labels, end)) = omega (arith, at_front, ap length body, length-append label (unparsed_wire (labels, end)), length-append (heads labels) (last_octets end), last_long end) in
     let behind : drop size ((label ++ heads labels) ++ last_octets end) ≡ unparsed_wire (labels, end) = rw (body, ← at_front) (drop_at label (unparsed_wire (labels, end)) (length label) refl) in
     let front : take size ((label ++ heads labels) ++ last_octets end) ≡ label = rw (body, ← at_front) (take_at label (unparsed_wire (labels, end)) (length label) refl) in
     let others : (take size ((label ++ heads labels) ++ last_octets end) ∷ (unparsed_of (drop size ((label ++ heads labels) ++ last_octets end))).0, (unparsed_of (drop size ((label ++ heads labels) ++ last_octets end))).1) ≡ (label ∷ labels, end) =
     ap (λ (l : List ℕ). (l ∷ (unparsed_of (drop size ((label ++ heads labels) ++ last_octets end))).0, (unparsed_of (drop size ((label ++ heads labels) ++ last_octets end))).1)) front
     ∙ ap (λ (n : Unparsed). (label ∷ n.0, n.1)) (ap unparsed_of behind ∙ again.1) in
     record {
-      room = omega (arith, at_front, ap length body, length-append label (unparsed_wire (labels, end)), length-append (heads labels) (last_octets end), last_long end);
+      room = room;
       name = whole.1 ∙ sym others;
       whole = rw behind (again.0 ∙ ap Some (sym again.1));
     }

@@ -1,5 +1,5 @@
 -- Names as they stand, whatever their pointers lead to (RFC 1035 section 4.1.4).
-use Rattle.std.specs.Prelude.{ℕ, zero, suc, ◌+◌, ◌-◌, ◌*◌, ◌≤◌, List, [], ◌∷◌, ◌++◌, length, take, drop, Bool, true, Option, Some, None, option_map, unwrap_or, IfSome, nat_lt, nat_le, ◌==◌, ◌||◌, ◌&&◌, if◌then◌else◌}
+use Rattle.std.specs.Prelude.{ℕ, zero, suc, ◌+◌, ◌-◌, ◌*◌, ◌<◌, ◌≤◌, List, [], ◌∷◌, ◌++◌, length, take, drop, Bool, true, Option, Some, None, option_map, unwrap_or, IfSome, nat_lt, nat_le, ◌==◌, ◌||◌, ◌&&◌, if◌then◌else◌}
 use Rattle.std.specs.List.{AllByRecursion}
 use Rattle.dns_wire.specs.Names.{IsLabel, heads}
 use Rattle.dns_wire.specs.Reading.{all_of, plain_at}
@@ -80,6 +80,10 @@ unparsed_of bytes = unwrap_or (all_of (unparsed_name bytes)) ([], None)
 abbrev pub leads_back : ℕ → Option ℕ → Bool
 leads_back start None = true
 leads_back start (Some offset) = nat_le 12 offset && nat_lt (offset - 12) start
+
+-- the same in words, where there is a pointer
+abbrev pub LeadsBack : ℕ → Option ℕ → Type 0
+LeadsBack start offset = IfSome offset (λ o. (12 ≤ o) × (o < start + 12))
 
 -- a reading of a name whose pointer leads back
 abbrev pub if_it_leads_back : ℕ → Option (Unparsed × ℕ) → Option (Unparsed × ℕ)

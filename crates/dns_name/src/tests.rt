@@ -8,6 +8,7 @@ use std::test::Fail;
 
 mod canonical_name;
 mod reversed;
+mod unparsed_name;
 
 #[test]
 fn reads_and_writes_names(rt: HostRuntime) -> Result<(), Fail> {
