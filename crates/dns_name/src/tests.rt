@@ -3,6 +3,7 @@
 mod canonical_name;
 mod in_message;
 mod reversed;
+mod unparsed;
 
 use crate::{Name, NameBuf};
 use dns_wire::{AsBytes, BuildBytes, ParseBytes, ParseMessageBytes, SplitBytes, SplitMessageBytes};
