@@ -3,7 +3,7 @@
 mod canonical_name;
 mod in_message;
 mod reversed;
-mod unparsed;
+mod unparsed_name;
 
 use crate::{Name, NameBuf};
 use dns_wire::{AsBytes, BuildBytes, ParseBytes, ParseMessageBytes, SplitBytes, SplitMessageBytes};
