@@ -4,12 +4,15 @@ use Rattle.std.specs.Prelude.{option_map, unwrap_or, IfSome, ◌==◌, ◌||◌}
 use Rattle.std.specs.List.{AllByRecursion}
 use Rattle.std.proofs.lemmas.Bool.Decides.{nat_tests}
 use Rattle.std.proofs.lemmas.Bool.{lt-ltb, le-ltb, ltb-false}
-use Rattle.std.proofs.lemmas.List.{take_at, drop_at, drop_all, take-append-drop, length-append, length-take, length-drop, append-nil}
+use Rattle.std.proofs.lemmas.List.{take_at, drop_at, drop_all, take-append-drop, length-append, length-take, length-drop, drop-drop, drop-take, append-nil}
 use Rattle.std.proofs.lemmas.Option.{some_pair_parts}
 use Rattle.dns_wire.specs.Names.{IsLabel, heads}
 use Rattle.dns_wire.specs.Reading.{all_of}
 use Rattle.dns_wire.proofs.Spelled.{chosen}
 use Rattle.dns_wire.proofs.Walk.{Walked, next_head, heads-append, heads_long}
+use Rattle.dns_label.specs.Labels.{contents_of, label_wire, plain_label}
+use Rattle.dns_label.proofs.Filled.{label_alone}
+use Rattle.dns_name.proofs.Labelled.{front_octets}
 use Rattle.dns_name.specs.Unparsed.{Unparsed, last_octets, unparsed_wire, IsUnparsed, offset_of, end_offset, alone_offset, behind_labels, pointer_from, unparsed_within, up_to_254, unparsed_name, unparsed_of}
 
 abbrev pub ReadName : Type 0
@@ -252,6 +255,30 @@ pub first_of_unparsed : (bytes : List ℕ) (size : ℕ) → all_of (unparsed_nam
 first_of_unparsed bytes size e at_front some low =
     let t = unparsed_octets bytes (unparsed_of bytes) e in
     subst (λ (b : List ℕ). get_or b 0 0 ≡ size → FirstOfUnparsed b size) (sym t.1) (λ h. first_of (unparsed_of bytes) size t.0 h some low) at_front
+
+-- the same label with its length octet, and the name behind it
+pub record FirstStanding (bytes : List ℕ) (size : ℕ) : Type 0 where
+  pub room : 1 + size ≤ length bytes
+  pub is_label : all_of (plain_label (take (1 + size) bytes)) ≡ Some (contents_of (take (1 + size) bytes))
+  pub whole : all_of (unparsed_name (drop (1 + size) bytes)) ≡ Some (unparsed_of (drop (1 + size) bytes))
+  pub name : unparsed_of bytes ≡ (contents_of (take (1 + size) bytes) ∷ (unparsed_of (drop (1 + size) bytes)).0, (unparsed_of (drop (1 + size) bytes)).1)
+
+pub first_standing : (bytes : List ℕ) (size : ℕ) → all_of (unparsed_name bytes) ≡ Some (unparsed_of bytes) → get_or bytes 0 0 ≡ size → 0 < size → size < 192 → FirstStanding bytes size
+first_standing bytes size e at_front some low =
+    let first = first_of_unparsed bytes size e at_front some low in
+    let contents : List ℕ = take size (drop 1 bytes) in
+    let behind : drop size (drop 1 bytes) ≡ drop (1 + size) bytes = drop-drop size 1 bytes in
+    let front : contents_of (take (1 + size) bytes) ≡ contents = drop-take 1 size bytes in
+    let long : length contents ≡ size = omega (arith, first.room, length-take size (drop 1 bytes), length-drop 1 bytes) in
+    let sizes : AllByRecursion IsLabel (contents ∷ (unparsed_of (drop size (drop 1 bytes))).0) = subst (AllByRecursion IsLabel) (ap (λ (n : Unparsed). n.0) first.name) (unparsed_octets bytes (unparsed_of bytes) e).0.sizes in
+    let octets : take (1 + size) bytes ≡ label_wire contents = front_octets bytes (omega (arith, first.room)) size ∙ ap (λ (n : ℕ). n ∷ contents) (at_front ∙ sym long) in
+    record {
+      room = omega (arith, first.room);
+      is_label = label_alone (take (1 + size) bytes) contents sizes.0.1 octets ∙ ap Some (sym front);
+      whole = subst (λ (rest : List ℕ). all_of (unparsed_name rest) ≡ Some (unparsed_of rest)) behind first.whole;
+      name = first.name ∙ ap (λ (l : List ℕ). (l ∷ (unparsed_of (drop size (drop 1 bytes))).0, (unparsed_of (drop size (drop 1 bytes))).1)) (sym front)
+          ∙ ap (λ (rest : List ℕ). (contents_of (take (1 + size) bytes) ∷ (unparsed_of rest).0, (unparsed_of rest).1)) behind;
+    }
 
 -- ---- where an unparsed name ends
 

@@ -3,10 +3,12 @@
 ghost use Rattle.std.specs.Prelude.{◌≡◌, ◌≤◌, ◌<◌, ◌^◌, ◌↔◌, List, [], ◌∷◌, length, take, drop, Option, Some, None, IfOk, OnErr, IsTrue, MatchOption};
 ghost use Rattle.std.proofs.Props.{props};
 ghost use Rattle.dns_wire.specs.Reading.{Gives, all_of, all_at, plain_at};
+ghost use Rattle.dns_label.specs.Labels.{contents_of};
 ghost use Rattle.dns_name.specs.Unparsed.{Unparsed, unparsed_wire, end_offset, alone_offset, unparsed_name, unparsed_of, unparsed_at};
 
+use dns_label::Label;
 use dns_wire::{
-    BuildBytes, ParseBytes, ParseError, ParseMessageBytes, SplitBytes, SplitMessageBytes,
+    AsBytes, BuildBytes, ParseBytes, ParseError, ParseMessageBytes, SplitBytes, SplitMessageBytes,
     TruncationError, put,
 };
 
@@ -69,19 +71,25 @@ impl<'a> UnparsedName<'a> {
         Some((high - 192) * 256 + self.slice[1] as u16)
     }
 
-    /// The octets of the first label, and the name behind it; none where the root or one pointer is all that
-    /// stands here.
-    pub fn split_first(&self) -> Option<(&'a [u8], UnparsedName<'a>)>
+    /// The first label, and the name behind it; none where the root or one pointer is all that stands here.
+    pub fn split_first(&self) -> Option<(Label<'a>, UnparsedName<'a>)>
         ensures { MatchOption result ((unparsed_of self.now.slice.now).0 ≡ [])
-            (λ x. unparsed_of self.now.slice.now ≡ (x.0.now ∷ (unparsed_of x.1.slice.now).0, (unparsed_of x.1.slice.now).1)) }
+            (λ x. unparsed_of self.now.slice.now ≡ (contents_of x.0.slice.now ∷ (unparsed_of x.1.slice.now).0, (unparsed_of x.1.slice.now).1)) }
     {
         let size = self.slice[0] as usize;
         if size == 0 || size >= 192 {
             return None;
         }
-        let (_head, behind) = self.slice.split_at(1);
-        let (label, rest) = behind.split_at(size);
-        Some((label, UnparsedName { slice: rest }))
+        let (label, rest) = self.slice.split_at(1 + size);
+        Some((Label { slice: label }, UnparsedName { slice: rest }))
+    }
+}
+
+impl AsBytes for UnparsedName<'_> {
+    ghost bytes = { λ v. unparsed_wire (unparsed_of v.slice.now) };
+
+    fn as_bytes(&self) -> &[u8] {
+        UnparsedName::as_bytes(self)
     }
 }
 

@@ -1,5 +1,6 @@
 //! Unparsed names, alone and in the contents of messages.
 
+use super::octets_at_hand;
 use crate::{UnparsedName, unparsed_names};
 use dns_wire::{BuildBytes, ParseBytes, ParseMessageBytes, SplitBytes, SplitMessageBytes};
 use std::test::Fail;
@@ -13,7 +14,8 @@ fn keeps_what_stands(rt: HostRuntime) -> Result<(), Fail> {
     assert!(rt; !name.is_root());
     assert_eq!(rt; name.pointer_value(), None);
     let (label, pointer) = name.split_first().ok_or("no label")?;
-    assert_eq!(rt; label, b"www".as_slice());
+    assert_eq!(rt; label.contents(), b"www".as_slice());
+    assert_eq!(rt; octets_at_hand(&name), name.as_bytes());
     assert_eq!(rt; pointer.pointer_value(), Some(12));
     assert!(rt; pointer.split_first().is_none());
     assert!(rt; !pointer.is_root());
