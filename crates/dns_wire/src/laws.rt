@@ -2,7 +2,7 @@
 
 ghost use Rattle.std.specs.Prelude.{◌≡◌, ◌≤◌, ◌<◌, ◌↔◌, ◌+◌, ◌++◌, ℕ, List, [], ◌∷◌, Some, length, flat_map};
 ghost use Rattle.dns_wire.specs.Hexadecimal.{spelled, shown};
-ghost use Rattle.dns_wire.specs.InMessage.{list_fits};
+ghost use Rattle.dns_wire.specs.InMessage.{list_fits, EachFits};
 ghost use Rattle.dns_wire.specs.Names.{IsName, wire, plain_name};
 ghost use Rattle.dns_wire.specs.Pieces.{whole_presses, then_presses, list_presses};
 ghost use Rattle.dns_wire.specs.Pointers.{Segment, NameAt, head_count, name_at};
@@ -83,6 +83,5 @@ pub fn lists_in_messages<T: BuildInMessage>()
         list_presses T.presses (front ++ back) contents places
         ≡ then_presses (list_presses T.presses front) (list_presses T.presses back) contents places }
     ensures fits { (values : List T) (contents places : List ℕ) →
-        list_fits T.fits_in T.presses values contents places ↔ ((front back : List T) (value : T) → values ≡ front ++ value ∷ back →
-        let before = list_presses T.presses front contents places in T.fits_in value (contents ++ before.0) before.1) }
+        list_fits T.fits_in T.presses values contents places ↔ EachFits T.fits_in T.presses values contents places }
 {}

@@ -9,7 +9,7 @@ pub returns-clause-cut : goal.returns-clause-cut
 returns-clause-cut g c = list_presses-append g.T.BuildInMessage.presses
 
 pub returns-clause-fits : goal.returns-clause-fits
-returns-clause-fits g c = λ values contents places. (
-  λ h front back value parts. each_fits g.T.BuildInMessage.fits_in g.T.BuildInMessage.presses values front back value contents places h parts,
-  fits_each g.T.BuildInMessage.fits_in g.T.BuildInMessage.presses values contents places,
-)
+returns-clause-fits g c =
+    let fits = g.T.BuildInMessage.fits_in in
+    let presses = g.T.BuildInMessage.presses in
+    λ values contents places. (each_fits fits presses values contents places, fits_each fits presses values contents places)
