@@ -17,6 +17,13 @@ fn turns_octets(rt: HostRuntime) -> Result<(), Fail> {
     assert_eq!(rt; view.len(), 13);
     assert!(rt; !view.is_root());
     assert_eq!(rt; view.to_name().as_name().as_bytes(), name.as_bytes());
+    let mut labels = view.labels();
+    for wanted in [b"".as_slice(), b"com", b"example"] {
+        let label = labels.next().ok_or("no label")?;
+        assert_eq!(rt; label.contents(), wanted);
+    }
+    assert!(rt; labels.next().is_none());
+    assert!(rt; labels.is_empty());
     assert!(rt; RevName::root().is_root());
     assert_eq!(rt; RevName::root().as_bytes(), b"\0".as_slice());
     assert_eq!(rt;
