@@ -189,19 +189,19 @@ fn records_of_any_owner_and_data(rt: HostRuntime) -> Result<(), Fail> {
 #[test]
 fn data_of_65536_octets_are_refused(rt: HostRuntime) -> Result<(), Fail> {
     let octets = vec![in rt.alloc(); 7u8; 65_537]?;
-    for (size, few) in [(0, true), (65_535, true), (65_536, false)] {
-        let data = UnparsedRecordData::parse_record_data_bytes(&octets[..size], RType::A);
-        assert_eq!(rt; data.is_ok(), few, "{size}");
-        let data = UnparsedRecordData::parse_record_data(&octets[..size + 1], 1, RType::A);
-        assert_eq!(rt; data.is_ok(), few, "{size}");
-    }
+    let (most, more) = (&octets[..65_535], &octets[..65_536]);
+    assert!(rt; UnparsedRecordData::parse_record_data_bytes(b"", RType::A).is_ok());
+    assert!(rt; UnparsedRecordData::parse_record_data_bytes(most, RType::A).is_ok());
+    assert!(rt; UnparsedRecordData::parse_record_data_bytes(more, RType::A).is_err());
+    assert!(rt; UnparsedRecordData::parse_record_data(more, 1, RType::A).is_ok());
+    assert!(rt; UnparsedRecordData::parse_record_data(&octets, 1, RType::A).is_err());
     assert!(rt; UnparsedRecordData::parse_record_data(b"", 1, RType::A).is_err());
 
     // A size of two octets cannot say so many.
-    let long = Record::new(0u8, RType::A, RClass::IN, TTL::from(0), &octets[..65_536]);
+    let long = Record::new(0u8, RType::A, RClass::IN, TTL::from(0), more);
     let mut buffer = vec![in rt.alloc(); 0u8; 70_000]?;
     assert!(rt; long.build_at(&mut buffer, 0).is_err());
-    let most = Record::new(0u8, RType::A, RClass::IN, TTL::from(0), &octets[..65_535]);
+    let most = Record::new(0u8, RType::A, RClass::IN, TTL::from(0), most);
     assert_eq!(rt; most.build_at(&mut buffer, 0)?, 65_546);
     assert_eq!(rt; &buffer[9..12], b"\xff\xff\x07".as_slice());
     Ok(())
