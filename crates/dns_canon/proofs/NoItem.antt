@@ -74,6 +74,6 @@ no_item section contents at e =
     let parts = and_right (not (section == 0)) (waits (type_behind_owner contents at)) e in
     let later : (section == 0) ≡ false = not_true (section == 0) parts.0 in
     rw later (ap (first_to Told) (no_record contents at parts.1)) where
-  not_true : (b : Bool) → not b ≡ true → b ≡ false
-  not_true true e = absurd cc
-  not_true false e = refl
+      not_true : (b : Bool) → not b ≡ true → b ≡ false
+      not_true true e = absurd cc
+      not_true false e = refl

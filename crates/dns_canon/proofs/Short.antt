@@ -44,11 +44,11 @@ address_short : (c : List ℕ) (at : ℕ) (found : List ℕ) (end : ℕ) → pla
 address_short c at found end e =
     let read = at_place (octets 4) c at found end e in
     by (ltb (length (drop at c)) 4) read.0 read.1 where
-  by : (b : Bool) (rest : List ℕ) → cond {A = Option (List ℕ × List ℕ)} b None (Some (take 4 (drop at c), drop 4 (drop at c))) ≡ Some (found, rest) → length found < 2 ^ 16
-  by true rest h = absurd cc
-  by false rest h =
-      let same = some_pair_parts (take 4 (drop at c)) found (drop 4 (drop at c)) rest h in
-      subst (λ (l : List ℕ). length l < 2 ^ 16) same.0 (omega (arith, length-take 4 (drop at c)))
+      by : (b : Bool) (rest : List ℕ) → cond {A = Option (List ℕ × List ℕ)} b None (Some (take 4 (drop at c), drop 4 (drop at c))) ≡ Some (found, rest) → length found < 2 ^ 16
+      by true rest h = absurd cc
+      by false rest h =
+          let same = some_pair_parts (take 4 (drop at c)) found (drop 4 (drop at c)) rest h in
+          subst (λ (l : List ℕ). length l < 2 ^ 16) same.0 (omega (arith, length-take 4 (drop at c)))
 
 rest_short : (contents : List ℕ) (end at : ℕ) (found : List ℕ) (last : ℕ) → end < at + 2 ^ 16
     → plain_at (λ bytes. Some (bytes, [])) (take end contents) at ≡ Some (found, last) → length found < 2 ^ 16

@@ -50,11 +50,7 @@ impl<'a> ParseRecordDataBytes<'a> for RecordData<'a> {
 
     ghost reads_in = { read_in };
 
-    #[tactic(auto, unfolding(
-        crate::specs::Data::read_as,
-        dns_record::specs::Data::data_as,
-        dns_record::specs::Rows::row
-    ))]
+    #[tactic(auto, unfolding(crate::specs::Data::read_as, dns_record::specs::Data::data_as, dns_record::specs::Rows::row))]
     fn parse_record_data_bytes(
         bytes: &'a [u8],
         rtype: RType,
@@ -70,11 +66,7 @@ impl<'a> ParseRecordDataBytes<'a> for RecordData<'a> {
 }
 
 impl<'a> ParseRecordData<'a> for RecordData<'a> {
-    #[tactic(auto, unfolding(
-        crate::specs::Data::read_in,
-        dns_record::specs::Data::data_in,
-        dns_record::specs::Rows::row
-    ))]
+    #[tactic(auto, unfolding(crate::specs::Data::read_in, dns_record::specs::Data::data_in, dns_record::specs::Rows::row))]
     fn parse_record_data(
         contents: &'a [u8],
         start: usize,

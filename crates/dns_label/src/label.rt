@@ -7,8 +7,9 @@ ghost use Rattle.dns_label.specs.Labels.{plain_label, contents_of, label_wire};
 
 use crate::label_buf::LabelBuf;
 use dns_wire::{
-    BuildBytes, ParseBytes, ParseError, ParseMessageBytes, SplitBytes, SplitMessageBytes,
-    TruncationError, parse_without_compression, put, split_without_compression,
+    AsBytes, BuildBytes, BuildInMessage, NameCompressor, ParseBytes, ParseError, ParseMessageBytes,
+    SplitBytes, SplitMessageBytes, TruncationError, build_whole, parse_without_compression, put,
+    split_without_compression,
 };
 
 /// A label: a length of at most 63, and so many octets (RFC 1035 section 3.1). What contracts see of it
@@ -77,6 +78,15 @@ impl<'a> Label<'a> {
     }
 }
 
+/// The length octet and the contents.
+impl AsBytes for Label<'_> {
+    ghost bytes = { λ v. label_wire (contents_of v.slice.now) };
+
+    fn as_bytes(&self) -> &[u8] {
+        self.as_wire()
+    }
+}
+
 impl<'a> ParseBytes<'a> for Label<'a> {
     ghost Seen = { List ℕ };
 
@@ -142,5 +152,28 @@ impl<'a> BuildBytes for Label<'a> {
 
     fn built_bytes_size(&self) -> usize {
         self.as_wire().len()
+    }
+}
+
+/// Whole: a label by itself is not shared.
+impl<'a> BuildInMessage for Label<'a> {
+    ghost use Rattle.std.specs.Prelude.{None, ⊤};
+    ghost use Rattle.dns_wire.specs.Pieces.{whole_presses};
+
+    ghost presses = { λ v. whole_presses (label_wire (contents_of v.slice.now)) };
+
+    ghost fits_in = { λ _ _ _. ⊤ };
+
+    ghost pieces = { λ _. None };
+
+    ghost told = { λ _. tt };
+
+    fn build_in_message(
+        &self,
+        contents: &mut [u8],
+        start: usize,
+        compressor: &mut NameCompressor,
+    ) -> Result<usize, TruncationError> {
+        build_whole(self, contents, start, compressor)
     }
 }

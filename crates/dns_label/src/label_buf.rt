@@ -10,8 +10,9 @@ ghost use Rattle.dns_label.specs.Storage.{stored};
 use crate::label::Label;
 use crate::storage::Storage;
 use dns_wire::{
-    BuildBytes, ParseBytes, ParseError, ParseMessageBytes, SplitBytes, SplitMessageBytes,
-    TruncationError, parse_without_compression, split_without_compression,
+    BuildBytes, BuildInMessage, NameCompressor, ParseBytes, ParseError, ParseMessageBytes,
+    SplitBytes, SplitMessageBytes, TruncationError, build_whole, parse_without_compression,
+    split_without_compression,
 };
 use std::alloc::AllocError;
 use std::marker::Model;
@@ -214,5 +215,29 @@ impl BuildBytes for LabelBuf {
 
     fn built_bytes_size(&self) -> usize {
         self.as_label().built_bytes_size()
+    }
+}
+
+/// Whole: a label by itself is not shared.
+impl BuildInMessage for LabelBuf {
+    ghost use Rattle.std.specs.Prelude.{None, ⊤};
+    ghost use Rattle.dns_wire.specs.Pieces.{whole_presses};
+    ghost use Rattle.dns_label.specs.Labels.{label_wire};
+
+    ghost presses = { λ v. whole_presses (label_wire v) };
+
+    ghost fits_in = { λ _ _ _. ⊤ };
+
+    ghost pieces = { λ _. None };
+
+    ghost told = { λ _. tt };
+
+    fn build_in_message(
+        &self,
+        contents: &mut [u8],
+        start: usize,
+        compressor: &mut NameCompressor,
+    ) -> Result<usize, TruncationError> {
+        build_whole(self, contents, start, compressor)
     }
 }

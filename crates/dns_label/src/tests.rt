@@ -2,7 +2,8 @@
 
 use crate::{Label, LabelBuf, LabelIter, label_of, labels_fill, one_label};
 use dns_wire::{
-    BuildBytes, ParseBytes, ParseMessageBytes, SplitBytes, SplitMessageBytes, TruncationError,
+    AsBytes, BuildBytes, BuildInMessage, NameCompressor, ParseBytes, ParseMessageBytes, SplitBytes,
+    SplitMessageBytes, TruncationError,
 };
 use std::cmp::Ordering;
 use std::hash::{DefaultHasher, Hash, Hasher};
@@ -33,6 +34,32 @@ fn reads_and_writes_labels(rt: HostRuntime) -> Result<(), Fail> {
     assert!(rt; label.build_at(&mut buffer, 4).is_err());
     one_label();
     labels_fill();
+    Ok(())
+}
+
+fn octets_at_hand<T: AsBytes>(value: &T) -> &[u8] {
+    value.as_bytes()
+}
+
+/// What is written of a label leads to no name: no place is kept.
+#[test]
+fn writes_labels_in_messages(rt: HostRuntime) -> Result<(), Fail> {
+    let label = Label::parse_bytes(b"\x03www")?;
+    assert_eq!(rt; octets_at_hand(&label), b"\x03www".as_slice());
+    let mut contents = *b"..........";
+    let mut compressor = NameCompressor::new();
+    let end = label.build_in_message(&mut contents, 1, &mut compressor)?;
+    let end = label
+        .to_buf()
+        .build_in_message(&mut contents, end, &mut compressor)?;
+    assert_eq!(rt; end, 9);
+    assert_eq!(rt; contents, *b".\x03www\x03www.");
+    assert!(rt; compressor.places().is_empty());
+    assert!(rt;
+        label
+            .build_in_message(&mut contents, 7, &mut compressor)
+            .is_err()
+    );
     Ok(())
 }
 

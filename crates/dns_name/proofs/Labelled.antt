@@ -1,9 +1,12 @@
 -- The labels of a name, one after another.
 use Rattle.std.proofs.Common.{◌≡◌, ℕ, suc, ◌+◌, ◌*◌, ◌<◌, ◌≤◌, List, [], ◌∷◌, ◌++◌, length, get_or, take, drop, Some, sym, ap, subst, ◌∙◌, arith}
+use Rattle.std.specs.Prelude.{reverse}
 use Rattle.std.specs.List.{AllByRecursion}
 use Rattle.std.proofs.lemmas.List.{length-append, length-take, length-drop, drop-drop, drop-take}
 use Rattle.dns_wire.specs.Names.{IsLabel, heads, plain_name, labels_of}
 use Rattle.dns_wire.specs.Reading.{all_of}
+use Rattle.dns_wire.specs.Reversed.{reversed_name, reversed_labels_of}
+use Rattle.dns_wire.proofs.Backward.{name_reversed, reversed_is}
 use Rattle.dns_wire.proofs.Spelled.{FirstLabel, name_octets, first_label}
 use Rattle.dns_wire.proofs.Walk.{heads-append, wire_long}
 use Rattle.dns_label.specs.Labels.{IsShort, AreLabels, contents_of, label_wire, labels_in, plain_label}
@@ -35,6 +38,29 @@ name_labels bytes is =
       few = omega (arith, twice (labels_of bytes) t.0.sizes, wire_long (labels_of bytes), t.0.size);
     }
 
+-- ---- from the root on
+
+all_short : (labels : List (List ℕ)) → AllByRecursion IsLabel labels → AllByRecursion IsShort labels
+all_short [] sizes = tt
+all_short (label ∷ labels) sizes = (sizes.0.1, all_short labels sizes.1)
+
+-- the octets of a name from the root on are the root's label, and then its labels from the last to the first
+pub record ReversedLabelsOf (bytes : List ℕ) : Type 0 where
+  pub are : AreLabels bytes
+  pub labels : labels_in bytes ≡ [] ∷ reverse (reversed_labels_of bytes)
+  pub few : length (reverse (reversed_labels_of bytes)) < 128
+
+pub reversed_name_labels : (bytes : List ℕ) → reversed_name bytes ≡ Some (reversed_labels_of bytes) → ReversedLabelsOf bytes
+reversed_name_labels bytes is =
+    let t = reversed_is bytes (reversed_labels_of bytes) is in
+    let turned = name_reversed (reversed_labels_of bytes) t.0 in
+    let sizes : AllByRecursion IsShort ([] ∷ reverse (reversed_labels_of bytes)) = (omega arith, all_short (reverse (reversed_labels_of bytes)) turned.sizes) in
+    record {
+      are = are_labels bytes ([] ∷ reverse (reversed_labels_of bytes)) sizes t.1;
+      labels = (labels_in_heads bytes ([] ∷ reverse (reversed_labels_of bytes)) sizes t.1).1;
+      few = omega (arith, twice (reverse (reversed_labels_of bytes)) turned.sizes, wire_long (reverse (reversed_labels_of bytes)), turned.size);
+    }
+
 -- ---- the first label, with its length octet
 
 pub record FirstOf (bytes : List ℕ) (size : ℕ) : Type 0 where
@@ -43,7 +69,7 @@ pub record FirstOf (bytes : List ℕ) (size : ℕ) : Type 0 where
   pub whole : all_of (plain_name (drop (1 + size) bytes)) ≡ Some (labels_of (drop (1 + size) bytes))
   pub labels : labels_of bytes ≡ contents_of (take (1 + size) bytes) ∷ labels_of (drop (1 + size) bytes)
 
-front_octets : (bytes : List ℕ) → 0 < length bytes → (size : ℕ) → take (1 + size) bytes ≡ get_or bytes 0 0 ∷ take size (drop 1 bytes)
+pub front_octets : (bytes : List ℕ) → 0 < length bytes → (size : ℕ) → take (1 + size) bytes ≡ get_or bytes 0 0 ∷ take size (drop 1 bytes)
 front_octets [] some size = absurd (omega arith)
 front_octets (x ∷ rest) some size = let after : 1 + size ≡ suc size = omega arith in ap (λ (n : ℕ). take n (x ∷ rest)) after
 

@@ -6,4 +6,6 @@ pub mod Labelled
 pub mod Ordered
 pub mod Preceding
 pub mod Sameness
+pub mod Standing
+pub mod StandingAt
 pub mod Turned

@@ -3,3 +3,4 @@ pub mod Cased
 pub mod Composed
 pub mod Hashing
 pub mod Order
+pub mod Unparsed

@@ -1,12 +1,13 @@
 //! The definitions of this crate in other words.
 
-ghost use Rattle.std.specs.Prelude.{◌≡◌, ◌<◌, ℕ, List, length, Some};
+ghost use Rattle.std.specs.Prelude.{◌≡◌, ◌<◌, ◌≤◌, ◌+◌, ◌++◌, ℕ, List, length, take, Some};
 ghost use Rattle.std.specs.Str.{str_to_ascii_lowercase};
 ghost use Rattle.std.specs.declared.cmp.Ordering.TheVariants.{Less, Equal};
 ghost use Rattle.dns_wire.specs.Names.{IsName, wire, lowered, labels_of};
 ghost use Rattle.dns_wire.specs.Reversed.{reversed_wire, reversed_name, reversed_labels_of};
 ghost use Rattle.dns_name.specs.Composed.{octets_cmp, composed_cmp, lowercase_composed_cmp, Precedes};
 ghost use Rattle.dns_name.specs.Order.{key, key_cmp};
+ghost use Rattle.dns_name.specs.Unparsed.{Unparsed, IsUnparsed, unparsed_wire, unparsed_name, unparsed_at, end_offset, LeadsBack};
 
 use crate::name::Name;
 use crate::name_buf::NameBuf;
@@ -65,4 +66,20 @@ pub fn reversed_names()
         IsName labels → reversed_name (reversed_wire labels) ≡ Some labels }
     ensures as_long { (labels : List (List ℕ)) →
         length (reversed_wire labels) ≡ length (wire labels) }
+{}
+
+/// An unparsed name is read exactly where its octets stand at the front. In a message it is read exactly
+/// where they stand at the place, and its pointer, if it has one, leads behind the header and before that
+/// place.
+pub fn unparsed_names()
+    ensures spelled { (bytes : List ℕ) (name : Unparsed) (rest : List ℕ) →
+        unparsed_name bytes ≡ Some (name, rest) → IsUnparsed name × (bytes ≡ unparsed_wire name ++ rest) }
+    ensures read { (name : Unparsed) (rest : List ℕ) →
+        IsUnparsed name → unparsed_name (unparsed_wire name ++ rest) ≡ Some (name, rest) }
+    ensures stands { (contents : List ℕ) (start : ℕ) (name : Unparsed) (end : ℕ) →
+        unparsed_at contents start ≡ Some (name, end) →
+        IsUnparsed name × (start ≤ end) × (take end contents ≡ take start contents ++ unparsed_wire name) × LeadsBack start (end_offset name) }
+    ensures found { (before rest : List ℕ) (name : Unparsed) →
+        IsUnparsed name → LeadsBack (length before) (end_offset name) →
+        unparsed_at (before ++ (unparsed_wire name ++ rest)) (length before) ≡ Some (name, length before + length (unparsed_wire name)) }
 {}

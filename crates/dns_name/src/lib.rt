@@ -13,13 +13,15 @@ mod rev_canonical;
 mod rev_name;
 mod rev_name_buf;
 mod rev_order;
+mod unparsed_name;
 
 pub use canonical_name::CanonicalName;
-pub use laws::{label_order, one_order, orders_by_octets, reversed_names};
+pub use laws::{label_order, one_order, orders_by_octets, reversed_names, unparsed_names};
 pub use name::Name;
 pub use name_buf::NameBuf;
 pub use rev_name::RevName;
 pub use rev_name_buf::RevNameBuf;
+pub use unparsed_name::UnparsedName;
 
 #[cfg(test)]
 mod tests;

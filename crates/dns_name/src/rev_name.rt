@@ -1,6 +1,6 @@
 //! A name from the root on, as a view over its octets.
 
-ghost use Rattle.std.specs.Prelude.{◌≡◌, ◌+◌, ◌≤◌, ◌<◌, ◌^◌, ◌↔◌, [], length, reverse, Some, IsTrue, ⊤};
+ghost use Rattle.std.specs.Prelude.{◌≡◌, ◌+◌, ◌≤◌, ◌<◌, ◌^◌, ◌↔◌, [], ◌∷◌, length, reverse, Some, IsTrue, ⊤};
 ghost use Rattle.std.proofs.Props.{props};
 ghost use Rattle.dns_wire.specs.Building.{Builds, Stands};
 ghost use Rattle.dns_wire.specs.Names.{wire};
@@ -9,6 +9,7 @@ ghost use Rattle.dns_wire.specs.Reversed.{row_labels, reversed_wire, reversed_na
 use crate::label_row::{LabelRow, copy_before};
 use crate::name::Name;
 use crate::name_buf::NameBuf;
+use dns_label::LabelIter;
 use dns_wire::{BuildBytes, TruncationError};
 
 /// A name without pointers in reverse: the root's length 0, and then labels of 1 to 63 octets from the last
@@ -56,6 +57,14 @@ impl<'a> RevName<'a> {
         ensures short { length result.now ≤ 255 }
     {
         self.slice
+    }
+
+    /// The labels, the root's first, and then from the last to the first.
+    pub fn labels(&self) -> LabelIter<'a>
+        ensures labels { result ≡ [] ∷ reverse (reversed_labels_of self.now.slice.now) }
+        ensures few { length result ≤ 128 }
+    {
+        LabelIter::new(self.as_bytes())
     }
 
     /// The name with its first label in front.

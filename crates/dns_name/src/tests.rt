@@ -3,13 +3,13 @@
 mod canonical_name;
 mod in_message;
 mod reversed;
+mod unparsed_name;
 
 use crate::{Name, NameBuf};
 use dns_wire::{AsBytes, BuildBytes, ParseBytes, ParseMessageBytes, SplitBytes, SplitMessageBytes};
 use std::cmp::Ordering;
 use std::hash::{DefaultHasher, Hash, Hasher};
 use std::test::Fail;
-
 
 fn octets_at_hand<T: AsBytes>(value: &T) -> &[u8] {
     value.as_bytes()

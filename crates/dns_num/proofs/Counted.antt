@@ -6,6 +6,7 @@ use Rattle.std.proofs.lemmas.List.{length-append, length-take, take_at, drop_at,
 use Rattle.std.proofs.lemmas.Nat.{be_bytes_2}
 use Rattle.std.proofs.lemmas.Option.{some_pair_parts}
 use Rattle.dns_wire.specs.Reading.{AreOctets, number, octets, all_of}
+use Rattle.dns_wire.specs.Steps.{◌>>=◌}
 use Rattle.dns_wire.proofs.Spelled.{chosen}
 use Rattle.dns_wire.specs.Steps.{◌>>=◌}
 use Rattle.dns_num.specs.Prefixed.{sized, prefixed}

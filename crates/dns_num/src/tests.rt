@@ -4,7 +4,8 @@ mod prefixed;
 
 use crate::{U16, U32, U64, wire_numbers};
 use dns_wire::{
-    BuildBytes, ListError, ParseBytes, ParseMessageBytes, SplitBytes, SplitMessageBytes, split_list,
+    BuildBytes, BuildInMessage, ListError, NameCompressor, ParseBytes, ParseMessageBytes,
+    SplitBytes, SplitMessageBytes, split_list,
 };
 use std::cmp::Ordering;
 use std::fmt::Debug;
@@ -12,8 +13,8 @@ use std::hash::{DefaultHasher, Hash, Hasher};
 use std::process::Abort;
 use std::test::Fail;
 
-/// The number is read from the octets, and written as them.
-fn stands_as<'a, T: SplitBytes<'a> + BuildBytes + PartialEq + Debug>(
+/// The number is read from the octets, and written as them, in a message too.
+fn stands_as<'a, T: SplitBytes<'a> + BuildBytes + BuildInMessage + PartialEq + Debug>(
     rt: &impl Abort,
     number: T,
     octets: &'a [u8],
@@ -25,6 +26,12 @@ fn stands_as<'a, T: SplitBytes<'a> + BuildBytes + PartialEq + Debug>(
     let end = number.build_at(&mut buffer, 1)?;
     assert_eq!(rt; &buffer[1..end], octets);
     assert_eq!(rt; buffer[0], 0xee);
+
+    let mut contents = [0xee; 10];
+    let mut compressor = NameCompressor::new();
+    let end = number.build_in_message(&mut contents, 1, &mut compressor)?;
+    assert_eq!(rt; &contents[1..end], octets);
+    assert_eq!(rt; contents[0], 0xee);
     Ok(())
 }
 

@@ -83,9 +83,10 @@ octets_spelled n bytes found rest e = by (ltb (length bytes) n) refl e where
   by : (b : Bool) → ltb (length bytes) n ≡ b → cond {A = Option (List ℕ × List ℕ)} b None (Some (take n bytes, drop n bytes)) ≡ Some (found, rest) → (length found ≡ n) × (bytes ≡ found ++ rest)
   by true le h = absurd cc
   by false le h =
-      let same = some_pair_parts (take n bytes) found (drop n bytes) rest h in
-      (ap length (sym same.0) ∙ omega (arith, length-take n bytes, ltb-false (length bytes) n le),
-       sym (take-append-drop n bytes) ∙ ap (λ (l : List ℕ). l ++ drop n bytes) same.0 ∙ ap (λ (l : List ℕ). found ++ l) same.1)
+      let same = some_pair_parts (take n bytes) found (drop n bytes) rest h in (
+        ap length (sym same.0) ∙ omega (arith, length-take n bytes, ltb-false (length bytes) n le),
+        sym (take-append-drop n bytes) ∙ ap (λ (l : List ℕ). l ++ drop n bytes) same.0 ∙ ap (λ (l : List ℕ). found ++ l) same.1,
+      )
 
 pub octets_read : (n : ℕ) (found rest : List ℕ) → length found ≡ n → octets n (found ++ rest) ≡ Some (found, rest)
 octets_read n found rest long =

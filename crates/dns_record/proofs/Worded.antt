@@ -55,9 +55,10 @@ pointed = named_in (λ labels. labels) name_at
 rest_spelled : (contents : List ℕ) (at : ℕ) (found : List ℕ) (end : ℕ) → plain_at (λ bytes. Some (bytes, [])) contents at ≡ Some (found, end) → (end ≡ length contents) × OctetsAt contents at found end
 rest_spelled contents at found end e =
     let p = placed (λ bytes. Some (bytes, [])) contents at found end e in
-    let same = some_pair_parts (drop at contents) found [] p.rest p.read in
-    (omega (arith, p.end_is, ap length same.1),
-     stands_at (λ bytes. Some (bytes, [])) (λ o. o) contents at found end (λ rest read. let both = some_pair_parts (drop at contents) found [] rest read in both.0 ∙ sym (append-nil found) ∙ ap (λ (l : List ℕ). found ++ l) both.1) e)
+    let same = some_pair_parts (drop at contents) found [] p.rest p.read in (
+      omega (arith, p.end_is, ap length same.1),
+      stands_at (λ bytes. Some (bytes, [])) (λ o. o) contents at found end (λ rest read. let both = some_pair_parts (drop at contents) found [] rest read in both.0 ∙ sym (append-nil found) ∙ ap (λ (l : List ℕ). found ++ l) both.1) e,
+    )
 
 field_is : (kind : Kind) (contents : List ℕ) (at : ℕ) (field : Field) (end : ℕ) → field_in pointed kind contents at ≡ Some (field, end) → FieldAt kind contents at field end
 field_is OneByte contents at field end e =
@@ -115,9 +116,14 @@ fields_are [] contents at fields end e = let same = some_pair_parts [] fields at
 fields_are (kind ∷ kinds) contents at fields end e =
     let s = stepped (field_in pointed kind contents at) (λ field. ◌>>=◌ {A = List Field × ℕ} {B = List Field × ℕ} (fields_in pointed kinds contents field.1) (λ others. Some (field.0 ∷ others.0, others.1))) (fields, end) e in
     let t = stepped (fields_in pointed kinds contents s.value.1) (λ others. Some (s.value.0 ∷ others.0, others.1)) (fields, end) s.later in
-    let same = some_pair_parts (s.value.0 ∷ t.value.0) fields t.value.1 end t.later in
-    (s.value.0, s.value.1, t.value.0, field_is kind contents at s.value.0 s.value.1 s.first, sym same.0,
-     subst (λ (n : ℕ). FieldsAt kinds contents s.value.1 t.value.0 n) same.1 (fields_are kinds contents s.value.1 t.value.0 t.value.1 t.first))
+    let same = some_pair_parts (s.value.0 ∷ t.value.0) fields t.value.1 end t.later in (
+      s.value.0,
+      s.value.1,
+      t.value.0,
+      field_is kind contents at s.value.0 s.value.1 s.first,
+      sym same.0,
+      subst (λ (n : ℕ). FieldsAt kinds contents s.value.1 t.value.0 n) same.1 (fields_are kinds contents s.value.1 t.value.0 t.value.1 t.first),
+    )
 
 pub fields_found : (kinds : List Kind) (contents : List ℕ) (at : ℕ) (fields : List Field) (end : ℕ) → FieldsAt kinds contents at fields end → fields_in pointed kinds contents at ≡ Some (fields, end)
 fields_found [] contents at fields end (none, here) = rw (none, here) refl
@@ -229,22 +235,22 @@ record_is contents at r end e =
     let last = ends contents f.value.1 f.value.0 g.value g.first in
     subst (λ (found : Rec). RecordAt contents at found end) same.0
     (subst (λ (n : ℕ). RecordAt contents at (record { owner = a.value.0; rtype = b.value.0; class = c.value.0; ttl = d.value.0; content = h.value }) n) same.1
-      (record {
-        owner_end = a.value.1;
-        type_end = b.value.1;
-        class_end = c.value.1;
-        ttl_end = d.value.1;
-        size = f.value.0;
-        size_end = f.value.1;
-        owner = name_at_is contents at a.value.0 a.value.1 a.first;
-        rtype = number_at w16 contents a.value.1 b.value.0 b.value.1 b.first;
-        class = number_at w16 contents b.value.1 c.value.0 c.value.1 c.first;
-        ttl = number_at w32 contents c.value.1 d.value.0 d.value.1 d.first;
-        size_is = number_at w16 contents d.value.1 f.value.0 f.value.1 f.first;
-        end_is = last.is;
-        within = last.within;
-        content = data_is b.value.0 (take g.value contents) f.value.1 h.value h.first;
-      }))
+    (record {
+      owner_end = a.value.1;
+      type_end = b.value.1;
+      class_end = c.value.1;
+      ttl_end = d.value.1;
+      size = f.value.0;
+      size_end = f.value.1;
+      owner = name_at_is contents at a.value.0 a.value.1 a.first;
+      rtype = number_at w16 contents a.value.1 b.value.0 b.value.1 b.first;
+      class = number_at w16 contents b.value.1 c.value.0 c.value.1 c.first;
+      ttl = number_at w32 contents c.value.1 d.value.0 d.value.1 d.first;
+      size_is = number_at w16 contents d.value.1 f.value.0 f.value.1 f.first;
+      end_is = last.is;
+      within = last.within;
+      content = data_is b.value.0 (take g.value contents) f.value.1 h.value h.first;
+    }))
 
 pub record_found : (contents : List ℕ) (at : ℕ) (r : Rec) (end : ℕ) → RecordAt contents at r end → record_in name_at (data_in pointed) contents at ≡ Some (r, end)
 unfolding record_in

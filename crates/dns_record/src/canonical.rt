@@ -62,11 +62,7 @@ impl<T: CanonicalRecordData> CanonicalRecordData for &T {
 
     ghost is_proper = { λ v. T.is_proper v.now };
 
-    fn build_canonical_at(
-        &self,
-        bytes: &mut [u8],
-        start: usize,
-    ) -> Result<usize, TruncationError> {
+    fn build_canonical_at(&self, bytes: &mut [u8], start: usize) -> Result<usize, TruncationError> {
         (**self).build_canonical_at(bytes, start)
     }
 
@@ -83,11 +79,7 @@ impl<T: CanonicalRecordData> CanonicalRecordData for Box<T> {
 
     ghost is_proper = { λ v. T.is_proper v.value };
 
-    fn build_canonical_at(
-        &self,
-        bytes: &mut [u8],
-        start: usize,
-    ) -> Result<usize, TruncationError> {
+    fn build_canonical_at(&self, bytes: &mut [u8], start: usize) -> Result<usize, TruncationError> {
         (**self).build_canonical_at(bytes, start)
     }
 
@@ -104,11 +96,7 @@ impl<T: CanonicalRecordData> CanonicalRecordData for Rc<T> {
 
     ghost is_proper = { λ v. T.is_proper v.value };
 
-    fn build_canonical_at(
-        &self,
-        bytes: &mut [u8],
-        start: usize,
-    ) -> Result<usize, TruncationError> {
+    fn build_canonical_at(&self, bytes: &mut [u8], start: usize) -> Result<usize, TruncationError> {
         (**self).build_canonical_at(bytes, start)
     }
 

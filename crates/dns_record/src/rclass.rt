@@ -8,7 +8,7 @@ ghost use Rattle.dns_wire.specs.Reading.{number, plain_at};
 use dns_num::U16;
 use dns_wire::{
     BuildBytes, BuildInMessage, NameCompressor, ParseBytes, ParseError, ParseMessageBytes,
-    SplitBytes, SplitMessageBytes, TruncationError, parse_without_compression,
+    SplitBytes, SplitMessageBytes, TruncationError, build_whole, parse_without_compression,
     split_without_compression,
 };
 
@@ -80,7 +80,10 @@ impl<'a> ParseMessageBytes<'a> for RClass {
 }
 
 impl<'a> SplitMessageBytes<'a> for RClass {
-    fn split_message_bytes(contents: &'a [u8], start: usize) -> Result<(RClass, usize), ParseError> {
+    fn split_message_bytes(
+        contents: &'a [u8],
+        start: usize,
+    ) -> Result<(RClass, usize), ParseError> {
         split_without_compression(contents, start)
     }
 }
@@ -113,8 +116,8 @@ impl BuildInMessage for RClass {
         &self,
         contents: &mut [u8],
         start: usize,
-        _compressor: &mut NameCompressor,
+        compressor: &mut NameCompressor,
     ) -> Result<usize, TruncationError> {
-        self.build_at(contents, start)
+        build_whole(self, contents, start, compressor)
     }
 }

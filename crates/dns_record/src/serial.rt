@@ -10,7 +10,7 @@ ghost use Rattle.dns_record.specs.Serials.{serial_cmp};
 use dns_num::U32;
 use dns_wire::{
     BuildBytes, BuildInMessage, NameCompressor, ParseBytes, ParseError, ParseMessageBytes,
-    SplitBytes, SplitMessageBytes, TruncationError, parse_without_compression,
+    SplitBytes, SplitMessageBytes, TruncationError, build_whole, parse_without_compression,
     split_without_compression,
 };
 use std::cmp::Ordering;
@@ -105,7 +105,10 @@ impl<'a> ParseMessageBytes<'a> for Serial {
 }
 
 impl<'a> SplitMessageBytes<'a> for Serial {
-    fn split_message_bytes(contents: &'a [u8], start: usize) -> Result<(Serial, usize), ParseError> {
+    fn split_message_bytes(
+        contents: &'a [u8],
+        start: usize,
+    ) -> Result<(Serial, usize), ParseError> {
         split_without_compression(contents, start)
     }
 }
@@ -138,9 +141,9 @@ impl BuildInMessage for Serial {
         &self,
         contents: &mut [u8],
         start: usize,
-        _compressor: &mut NameCompressor,
+        compressor: &mut NameCompressor,
     ) -> Result<usize, TruncationError> {
-        self.build_at(contents, start)
+        build_whole(self, contents, start, compressor)
     }
 }
 

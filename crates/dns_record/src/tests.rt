@@ -42,7 +42,10 @@ fn codes_are_numbers_of_two_octets(rt: HostRuntime) -> Result<(), Fail> {
     assert_eq!(rt; RType::ZONEMD.build_at(&mut buffer, 1)?, 3);
     assert_eq!(rt; QType::IXFR.build_at(&mut buffer, 3)?, 5);
     assert_eq!(rt; buffer, *b".\0\x3f\0\xfb.");
-    assert_eq!(rt; RClass::IN.built_bytes_size() + QClass::CH.built_bytes_size(), 4);
+    assert_eq!(rt;
+        RClass::IN.built_bytes_size() + QClass::CH.built_bytes_size(),
+        4
+    );
     assert!(rt; QClass::CH.build_at(&mut buffer, 5).is_err());
     Ok(())
 }
@@ -68,7 +71,10 @@ fn times_to_live_are_seconds(rt: HostRuntime) -> Result<(), Fail> {
     assert_eq!(rt; rest, b".".as_slice());
     assert_eq!(rt; ttl, TTL::from(86_400));
     assert_eq!(rt; u32::from(ttl), 86_400);
-    assert_eq!(rt; TTL::parse_message_bytes(b".\xff\xff\xff\xff", 1)?.as_secs(), u32::MAX);
+    assert_eq!(rt;
+        TTL::parse_message_bytes(b".\xff\xff\xff\xff", 1)?.as_secs(),
+        u32::MAX
+    );
     let mut buffer = [0; 4];
     assert_eq!(rt; ttl.build_at(&mut buffer, 0)?, 4);
     assert_eq!(rt; buffer, *b"\0\x01\x51\x80");
@@ -88,10 +94,17 @@ fn serial_cases(rt: HostRuntime) -> Result<(), Fail> {
         (7, 7, Some(Ordering::Equal)),
     ];
     for (a, b, order) in cases {
-        assert_eq!(rt; Serial::new(a).partial_cmp(&Serial::new(b)), order, "{a} {b}");
+        assert_eq!(rt;
+            Serial::new(a).partial_cmp(&Serial::new(b)),
+            order,
+            "{a} {b}"
+        );
     }
     assert_eq!(rt; Serial::new(4_294_967_295).inc(1).get(), 0);
-    assert_eq!(rt; Serial::new(4_294_967_295).inc(i32::MAX).get(), 2_147_483_646);
+    assert_eq!(rt;
+        Serial::new(4_294_967_295).inc(i32::MAX).get(),
+        2_147_483_646
+    );
     assert_eq!(rt; Serial::new(5).inc(0), Serial(U32::new(5)));
     assert_eq!(rt; Serial::parse_bytes(b"\0\0\x01\0")?, Serial::from(256));
     assert_eq!(rt; u32::from(Serial::new(9)), 9);
@@ -111,7 +124,10 @@ fn questions_of_any_name(rt: HostRuntime) -> Result<(), Fail> {
     let (question, end) = Question::<u8>::split_message_bytes(b".n\0\x01\0\x03*", 1)?;
     assert_eq!(rt; end, 6);
     assert!(rt; Question::<u8>::parse_message_bytes(b".n\0\x01\0\x03*", 1).is_err());
-    assert_eq!(rt; Question::<u8>::parse_message_bytes(b".n\0\x01\0\x03", 1)?, question);
+    assert_eq!(rt;
+        Question::<u8>::parse_message_bytes(b".n\0\x01\0\x03", 1)?,
+        question
+    );
 
     let mut buffer = *b".......";
     assert_eq!(rt; question.build_at(&mut buffer, 1)?, 6);
@@ -120,7 +136,10 @@ fn questions_of_any_name(rt: HostRuntime) -> Result<(), Fail> {
     assert!(rt; question.build_at(&mut buffer, 3).is_err());
 
     let counted = question.transform_ref(|name| usize::from(*name) + 1);
-    assert_eq!(rt; (counted.qname, counted.qtype, counted.qclass), (111, QType::A, QClass::CH));
+    assert_eq!(rt;
+        (counted.qname, counted.qtype, counted.qclass),
+        (111, QType::A, QClass::CH)
+    );
     let named = question.transform(|name| (name, name));
     assert_eq!(rt; named, Question::new((b'n', b'n'), QType::A, QClass::CH));
     items_in_words();
@@ -134,7 +153,10 @@ fn records_of_any_owner_and_data(rt: HostRuntime) -> Result<(), Fail> {
     let octets = b".n\0\x02\0\x01\0\0\0\x2a\0\x03abc*";
     let (record, rest) = Raw::split_bytes(&octets[1..])?;
     assert_eq!(rt; record.rname, b'n');
-    assert_eq!(rt; (record.rtype, record.rclass, record.ttl), (RType::NS, RClass::IN, TTL::from(42)));
+    assert_eq!(rt;
+        (record.rtype, record.rclass, record.ttl),
+        (RType::NS, RClass::IN, TTL::from(42))
+    );
     assert_eq!(rt; record.rdata.octets(), b"abc".as_slice());
     assert_eq!(rt; record.rdata.as_bytes(), b"abc".as_slice());
     assert_eq!(rt; rest, b"*".as_slice());
@@ -196,8 +218,14 @@ fn parts_stand_whole_in_a_message(rt: HostRuntime) -> Result<(), Fail> {
     let end = QClass::CH.build_in_message(&mut contents, end, &mut compressor)?;
     let end = TTL::from(7).build_in_message(&mut contents, end, &mut compressor)?;
     let end = Serial::new(8).build_in_message(&mut contents, end, &mut compressor)?;
-    assert!(rt; data.build_in_message(&mut contents, end, &mut compressor).is_err());
-    assert_eq!(rt; data.build_in_message(&mut contents, end - 1, &mut compressor)?, 18);
+    assert!(rt;
+        data.build_in_message(&mut contents, end, &mut compressor)
+            .is_err()
+    );
+    assert_eq!(rt;
+        data.build_in_message(&mut contents, end - 1, &mut compressor)?,
+        18
+    );
     assert_eq!(rt; contents, *b"\0\x01\0\x01\0\xff\0\x03\0\0\0\x07\0\0\0xyz");
     assert!(rt; compressor.places().is_empty());
     Ok(())
@@ -235,11 +263,7 @@ impl CanonicalRecordData for Octets {
 
     ghost is_proper = { λ _. ⊤ };
 
-    fn build_canonical_at(
-        &self,
-        bytes: &mut [u8],
-        start: usize,
-    ) -> Result<usize, TruncationError> {
+    fn build_canonical_at(&self, bytes: &mut [u8], start: usize) -> Result<usize, TruncationError> {
         put(&self.octets, bytes, start)
     }
 

@@ -8,7 +8,7 @@ ghost use Rattle.dns_wire.specs.Reading.{number, plain_at};
 use dns_num::U32;
 use dns_wire::{
     BuildBytes, BuildInMessage, NameCompressor, ParseBytes, ParseError, ParseMessageBytes,
-    SplitBytes, SplitMessageBytes, TruncationError, parse_without_compression,
+    SplitBytes, SplitMessageBytes, TruncationError, build_whole, parse_without_compression,
     split_without_compression,
 };
 
@@ -110,8 +110,8 @@ impl BuildInMessage for TTL {
         &self,
         contents: &mut [u8],
         start: usize,
-        _compressor: &mut NameCompressor,
+        compressor: &mut NameCompressor,
     ) -> Result<usize, TruncationError> {
-        self.build_at(contents, start)
+        build_whole(self, contents, start, compressor)
     }
 }

@@ -9,7 +9,10 @@ ghost use Rattle.dns_record.specs.Unparsed.{few, few_in};
 
 use crate::record_data::{ParseRecordData, ParseRecordDataBytes};
 use crate::rtype::RType;
-use dns_wire::{AsBytes, BuildBytes, BuildInMessage, NameCompressor, ParseError, TruncationError, put};
+use dns_wire::{
+    AsBytes, BuildBytes, BuildInMessage, NameCompressor, ParseError, TruncationError, build_whole,
+    put,
+};
 
 /// The data of a record as they stand, whatever its type: at most 65,535 octets, which is what a record's
 /// size can say (RFC 1035 section 3.2.1). Pointers in them are octets like others.
@@ -101,8 +104,8 @@ impl BuildInMessage for UnparsedRecordData<'_> {
         &self,
         contents: &mut [u8],
         start: usize,
-        _compressor: &mut NameCompressor,
+        compressor: &mut NameCompressor,
     ) -> Result<usize, TruncationError> {
-        self.build_at(contents, start)
+        build_whole(self, contents, start, compressor)
     }
 }

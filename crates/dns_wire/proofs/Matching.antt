@@ -13,7 +13,7 @@ use Rattle.dns_wire.specs.Reading.{all_of}
 use Rattle.dns_wire.specs.declared.follow.Head.{Head}
 use Rattle.dns_wire.specs.declared.follow.Head.TheVariants.{Root, Label, Pointer}
 use Rattle.std.specs.List.{AllByRecursion}
-use Rattle.dns_wire.specs.Names.{heads, wire, IsLabel, plain_name, labels_of}
+use Rattle.dns_wire.specs.Names.{heads, IsLabel, plain_name, labels_of}
 use Rattle.dns_wire.specs.Pointers.{head_at, joined, after_head, segment_within, name_at}
 use Rattle.dns_wire.specs.Compression.{reads_as, stands_at}
 use Rattle.dns_wire.specs.Searching.{FirstOf, count_more, count_at}

@@ -6,9 +6,8 @@ use Rattle.std.proofs.lemmas.List.{length-append, take-append-drop, take-take}
 use Rattle.std.proofs.lemmas.List.Elements.{Contains-append_left, Contains-append_cases, All-contains, All-from_recursion}
 use Rattle.dns_wire.specs.Compression.{Run, RunAt, FitsIn}
 use Rattle.dns_wire.specs.Compression.Run.{run_root, run_label, run_pointer}
-use Rattle.dns_wire.specs.Pointers.{offset_at}
 use Rattle.dns_wire.proofs.Following.{octet_kept}
-use Rattle.dns_wire.proofs.Rising.{Rises, all_front, all_map, strict_rises, rises_apart, places_front}
+use Rattle.dns_wire.proofs.Rising.{all_front, all_map, strict_rises, rises_apart, places_front}
 
 -- ---- along a run
 

@@ -4,7 +4,7 @@ use Rattle.std.specs.Prelude.{⊤}
 use Rattle.std.proofs.lemmas.List.{length-append, append-nil, take-append-drop}
 use Rattle.dns_wire.specs.Building.{Builds}
 use Rattle.dns_wire.specs.Compression.{Pressing, FitsIn}
-use Rattle.dns_wire.specs.InMessage.{BuildsIn, then_fits, list_fits}
+use Rattle.dns_wire.specs.InMessage.{BuildsIn, then_fits, list_fits, EachFits}
 use Rattle.dns_wire.specs.Pieces.{whole_presses, then_presses, list_presses}
 use Rattle.dns_wire.specs.Told.{list_presses-one, list_presses-append}
 use Rattle.dns_wire.proofs.Parts.{builds_whole, both_built, both_refused}
@@ -31,6 +31,23 @@ module _ {A : Type 0} (fits : A → List ℕ → List ℕ → Type 0) (presses :
       let second = list_presses presses values (contents ++ first.0) first.1 in
       let more = list_fits-parts values others (contents ++ first.0) first.1 h.1 in
       ((h.0, more.0), subst (λ (c : List ℕ). list_fits fits presses others c second.1) (append_assoc contents first.0 second.0) more.1)
+
+  -- each value fits behind those before it
+  pub each_fits : (values : List A) (contents places : List ℕ) → list_fits fits presses values contents places → EachFits fits presses values contents places
+  unfolding list_fits
+  each_fits values contents places h front back value parts = (list_fits-parts front (value ∷ back) contents places (subst (λ (l : List A). list_fits fits presses l contents places) parts h)).1.0
+
+  -- and where each does, the list fits
+  pub fits_each : (values : List A) (contents places : List ℕ) → EachFits fits presses values contents places → list_fits fits presses values contents places
+  unfolding list_fits list_presses
+  fits_each [] contents places each = tt
+  fits_each (value ∷ values) contents places each =
+      let first = presses value contents places in (
+        subst (λ (c : List ℕ). fits value c places) (append-nil contents) (each [] values value refl),
+        fits_each values (contents ++ first.0) first.1 (λ front back other parts.
+            let second = list_presses presses front (contents ++ first.0) first.1 in
+            subst (λ (c : List ℕ). fits other c second.1) (sym (append_assoc contents first.0 second.0)) (each (value ∷ front) back other (ap (λ (l : List A). value ∷ l) parts))),
+      )
 
   -- ---- one more value
 

@@ -1,11 +1,10 @@
 -- A name from the root on, copied label by label.
-use Rattle.std.proofs.Common.{◌≡◌, ℕ, ◌+◌, ◌-◌, ◌<◌, ◌≤◌, List, [], ◌∷◌, ◌++◌, length, get_or, take, drop, refl, sym, ap, ◌∙◌, append_assoc, arith}
+use Rattle.std.proofs.Common.{◌≡◌, ℕ, ◌+◌, ◌-◌, ◌<◌, ◌≤◌, List, [], ◌∷◌, ◌++◌, length, take, drop, refl, sym, ap, ◌∙◌, append_assoc, arith}
 use Rattle.std.specs.Prelude.{reverse, slice_index}
 use Rattle.std.proofs.lemmas.List.{take_at, drop_at, drop_all, length-append, length-take, length-drop, append-nil, reverse-append, reverse-reverse}
 use Rattle.dns_wire.specs.Names.{heads, wire}
 use Rattle.dns_wire.specs.Reversed.{reversed_wire}
-use Rattle.dns_wire.proofs.Cutting.{octet_at, label_at}
-use Rattle.dns_wire.proofs.Walk.{heads-append}
+use Rattle.dns_wire.proofs.Cutting.{label_at}
 
 -- the labels before the place are copied, and the others wait
 pub record Turning (name forward : List ℕ) (labels : List (List ℕ)) (at end : ℕ) : Type 0 where

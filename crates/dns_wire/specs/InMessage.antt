@@ -3,6 +3,7 @@
 use Rattle.std.specs.Prelude.{◌≡◌, ℕ, ◌+◌, ◌<◌, List, [], ◌∷◌, ◌++◌, length, take, Result, IfOk, OnOk, OnErr, ⊤}
 use Rattle.dns_wire.specs.Building.{Stands}
 use Rattle.dns_wire.specs.Compression.{FitsIn, Grows, Pressing}
+use Rattle.dns_wire.specs.Pieces.{list_presses}
 
 -- What a building call in a message does, where these octets are to be written, and these are the places afterwards. It
 -- is accepted exactly where all prefixed data fit and the octets are at most the free ones. Then they stand from start
@@ -29,3 +30,8 @@ unfoldable pub list_fits : {A : Type 0} → (A → List ℕ → List ℕ → Typ
 list_fits fits presses [] contents places = ⊤
 list_fits fits presses (value ∷ values) contents places =
     then_fits (fits value) (presses value) (list_fits fits presses values) contents places
+
+-- each value of a list fits behind those before it
+abbrev pub EachFits : {A : Type 0} → (A → List ℕ → List ℕ → Type 0) → (A → Pressing) → List A → List ℕ → List ℕ → Type 0
+EachFits {A} fits presses values contents places =
+    (front back : List A) (value : A) → values ≡ front ++ value ∷ back → fits value (contents ++ (list_presses presses front contents places).0) (list_presses presses front contents places).1

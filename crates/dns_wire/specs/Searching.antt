@@ -1,5 +1,5 @@
 -- The steps by which the longest known suffix of a name is found.
-use Rattle.std.specs.Prelude.{◌≡◌, ℕ, ◌+◌, ◌<◌, List, [], ◌∷◌, ◌++◌, length, Bool, true, false, Option, Some, None, nat_le, nat_lt, if◌then◌else◌}
+use Rattle.std.specs.Prelude.{◌≡◌, ℕ, ◌+◌, List, [], ◌∷◌, ◌++◌, length, Bool, true, false, Option, Some, None, nat_le, nat_lt, if◌then◌else◌}
 use Rattle.dns_wire.specs.Compression.{stands_at}
 use Rattle.dns_wire.specs.Names.{plain_name, labels_of}
 use Rattle.dns_wire.specs.Pointers.{segment_within}

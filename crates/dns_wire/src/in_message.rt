@@ -179,7 +179,7 @@ impl<T: BuildInMessage> BuildInMessage for Box<T> {
         start: usize,
         compressor: &mut NameCompressor,
     ) -> Result<usize, TruncationError> {
-        (**self).build_in_message(contents, start, compressor)
+        self.as_ref().build_in_message(contents, start, compressor)
     }
 }
 

@@ -1,10 +1,14 @@
 //! The definitions of this crate in other words.
 
-ghost use Rattle.std.specs.Prelude.{◌≡◌, ◌≤◌, ◌<◌, ◌+◌, ◌++◌, ℕ, List, [], ◌∷◌, Some, length, flat_map};
+ghost use Rattle.std.specs.Prelude.{◌≡◌, ◌≤◌, ◌<◌, ◌↔◌, ◌+◌, ◌++◌, ℕ, List, [], ◌∷◌, Some, length, flat_map};
 ghost use Rattle.dns_wire.specs.Hexadecimal.{spelled, shown};
+ghost use Rattle.dns_wire.specs.InMessage.{list_fits, EachFits};
 ghost use Rattle.dns_wire.specs.Names.{IsName, wire, plain_name};
+ghost use Rattle.dns_wire.specs.Pieces.{whole_presses, then_presses, list_presses};
 ghost use Rattle.dns_wire.specs.Pointers.{Segment, NameAt, head_count, name_at};
 ghost use Rattle.dns_wire.specs.Reading.{AreOctets, plain_at};
+
+use crate::in_message::BuildInMessage;
 
 /// A name is read exactly where its octets stand at the front. It is one name, and has at most 255
 /// octets. What is written is read back whole (RFC 1035 sections 2.3.4 and 3.1).
@@ -62,7 +66,22 @@ pub fn hexadecimal_text()
     ensures { (octets : List ℕ) → AreOctets octets → spelled (flat_map shown octets) ≡ Some octets }
 {}
 
-/// A list of octets is written as these octets.
+/// A list of octets is written as these octets, in a message too.
 pub fn lists_of_octets()
-    ensures { (bytes : List ℕ) → flat_map (λ b. b ∷ []) bytes ≡ bytes }
+    ensures plain { (bytes : List ℕ) → flat_map (λ b. b ∷ []) bytes ≡ bytes }
+    ensures in_message { (bytes contents places : List ℕ) →
+        list_presses (λ b. whole_presses (b ∷ [])) bytes contents places ≡ (bytes, places) }
+{}
+
+/// What a list writes in a message: one value alone what it writes by itself, and a list that is cut in two
+/// anywhere what its front writes, and then its back. It fits exactly where each of its values fits behind
+/// those before it.
+pub fn lists_in_messages<T: BuildInMessage>()
+    ensures one { (value : T) (contents places : List ℕ) →
+        list_presses T.presses (value ∷ []) contents places ≡ T.presses value contents places }
+    ensures cut { (front back : List T) (contents places : List ℕ) →
+        list_presses T.presses (front ++ back) contents places
+        ≡ then_presses (list_presses T.presses front) (list_presses T.presses back) contents places }
+    ensures fits { (values : List T) (contents places : List ℕ) →
+        list_fits T.fits_in T.presses values contents places ↔ EachFits T.fits_in T.presses values contents places }
 {}

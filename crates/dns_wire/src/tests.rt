@@ -1,6 +1,7 @@
 //! Each public call once, and the devices where a call fails in mid-stream.
 
 mod builders;
+mod in_message;
 mod lists;
 
 use crate::{

@@ -20,7 +20,10 @@ fn record_without_data(rt: HostRuntime) -> Result<(), Fail> {
     let octets = b"\x03com\0\0\x01\0\x01\0\0\0\x2a\0\0T";
     let (record, rest) = Record::<Name<'_>, UnparsedRecordData<'_>>::split_bytes(octets)?;
     assert_eq!(rt; record.rname.as_bytes(), b"\x03com\0".as_slice());
-    assert_eq!(rt; (record.rtype, record.rclass, record.ttl), (RType::A, RClass::IN, TTL::from(42)));
+    assert_eq!(rt;
+        (record.rtype, record.rclass, record.ttl),
+        (RType::A, RClass::IN, TTL::from(42))
+    );
     assert!(rt; record.rdata.octets().is_empty());
     assert_eq!(rt; rest, b"T".as_slice());
     Ok(())

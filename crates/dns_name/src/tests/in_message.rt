@@ -2,6 +2,8 @@
 
 use crate::{Name, NameBuf};
 use dns_wire::{BuildInMessage, NameCompressor, ParseBytes, SplitMessageBytes};
+use std::process::Abort;
+use std::rc::Rc;
 use std::test::Fail;
 
 /// Names, each with the place where it ends in the contents of a message.
@@ -164,5 +166,74 @@ fn refuses_names_without_a_trace(rt: HostRuntime) -> Result<(), Fail> {
     assert!(rt; refused.is_err());
     assert_eq!(rt; &contents[..end], b"\x01x\x01y\0".as_slice());
     assert_eq!(rt; compressor.places(), [0, 2].as_slice());
+    Ok(())
+}
+
+/// The value is written as the octets behind one octet, where there is room for no more, and the places of
+/// its labels are kept.
+fn writes<T: BuildInMessage>(
+    rt: &impl Abort,
+    value: &T,
+    octets: &[u8],
+    places: &[u16],
+) -> Result<(), Fail> {
+    let mut buffer = [b'.'; 32];
+    let mut compressor = NameCompressor::new();
+    assert!(rt; octets.len() < 32);
+    let contents = &mut buffer[..1 + octets.len()];
+    let end = value.build_in_message(contents, 1, &mut compressor)?;
+    assert_eq!(rt; end, contents.len());
+    assert_eq!(rt; contents[0], b'.');
+    assert_eq!(rt; &contents[1..], octets);
+    assert_eq!(rt; compressor.places(), places);
+    Ok(())
+}
+
+/// The name stands at 1 behind the header, and so at 13 of the message.
+#[test]
+fn lists_share_names(rt: HostRuntime) -> Result<(), Fail> {
+    let isi = Name::parse_bytes(b"\x01F\x03ISI\x04ARPA\0")?;
+    let foo = Name::parse_bytes(b"\x03FOO\x01F\x03ISI\x04ARPA\0")?;
+    let two = b"\x01F\x03ISI\x04ARPA\0\xc0\x0d";
+    let names: &[Name] = &[isi, isi];
+    writes(&rt, &names, two, &[1, 3, 7])?;
+    writes(&rt, &[isi, isi], two, &[1, 3, 7])?;
+    writes(&rt, &vec![in rt.alloc(); isi, isi]?, two, &[1, 3, 7])?;
+    let none: &[Name] = &[];
+    writes(&rt, &none, b"", &[])?;
+
+    let three = b"\x01F\x03ISI\x04ARPA\0\x03FOO\xc0\x0d\xc0\x19";
+    writes(&rt, &[isi, foo, foo], three, &[1, 3, 7, 13])?;
+    writes(&rt, &((isi, foo), foo), three, &[1, 3, 7, 13])?;
+    Ok(())
+}
+
+#[test]
+fn what_is_held_shares_names(rt: HostRuntime) -> Result<(), Fail> {
+    let isi = Name::parse_bytes(b"\x01F\x03ISI\x04ARPA\0")?;
+    let two = b"\x01F\x03ISI\x04ARPA\0\xc0\x0d";
+    let boxed = Box::new(rt.alloc(), isi)?;
+    let shared = Rc::new(rt.alloc(), isi)?;
+    writes(&rt, &(&isi, &isi), two, &[1, 3, 7])?;
+    writes(&rt, &(isi, boxed), two, &[1, 3, 7])?;
+    writes(&rt, &(isi, shared), two, &[1, 3, 7])?;
+    Ok(())
+}
+
+/// The first name of the list has room, and the pointer behind it has not.
+#[test]
+fn refuses_lists_without_a_trace(rt: HostRuntime) -> Result<(), Fail> {
+    let isi = Name::parse_bytes(b"\x01F\x03ISI\x04ARPA\0")?;
+    let two = Name::parse_bytes(b"\x01x\x01y\0")?;
+    let mut contents = [b'.'; 18];
+    let mut compressor = NameCompressor::new();
+    let end = two.build_in_message(&mut contents, 0, &mut compressor)?;
+    assert_eq!(rt; end, 5);
+    let refused = [isi, isi].build_in_message(&mut contents, end, &mut compressor);
+    assert!(rt; refused.is_err());
+    assert_eq!(rt; &contents[..end], b"\x01x\x01y\0".as_slice());
+    assert_eq!(rt; compressor.places(), [0, 2].as_slice());
+    let end = [isi].build_in_message(&mut contents, end, &mut compressor)?;
+    assert_eq!(rt; end, 17);
     Ok(())
 }

@@ -17,6 +17,13 @@ fn turns_octets(rt: HostRuntime) -> Result<(), Fail> {
     assert_eq!(rt; view.len(), 13);
     assert!(rt; !view.is_root());
     assert_eq!(rt; view.to_name().as_name().as_bytes(), name.as_bytes());
+    let mut labels = view.labels();
+    for wanted in [b"".as_slice(), b"com", b"example"] {
+        let label = labels.next().ok_or("no label")?;
+        assert_eq!(rt; label.contents(), wanted);
+    }
+    assert!(rt; labels.next().is_none());
+    assert!(rt; labels.is_empty());
     assert!(rt; RevName::root().is_root());
     assert_eq!(rt; RevName::root().as_bytes(), b"\0".as_slice());
     assert_eq!(rt;
@@ -172,8 +179,10 @@ fn ordered_names() -> [&'static [u8]; 9] {
 }
 
 /// The names in another order, read as `N` and sorted.
-fn sorted<N: for<'a> ParseBytes<'a> + Ord + Drop>(alloc: Global) -> Result<Vec<N>, Fail> {
-    let names = ordered_names();
+fn sorted<'a, N: ParseBytes<'a> + Ord + Drop>(
+    alloc: Global,
+    names: &[&'a [u8]; 9],
+) -> Result<Vec<N>, Fail> {
     let mut read = Vec::new(alloc);
     for place in 0..9 {
         read.push(N::parse_bytes(names[place * 4 % 9])?)?;
@@ -185,14 +194,15 @@ fn sorted<N: for<'a> ParseBytes<'a> + Ord + Drop>(alloc: Global) -> Result<Vec<N
 #[test]
 fn sorts_both_layouts(rt: HostRuntime) -> Result<(), Fail> {
     let alloc = rt.alloc();
-    let names = sorted::<NameBuf>(alloc)?;
-    let reversed = sorted::<RevNameBuf>(alloc)?;
-    for (place, expected) in ordered_names().iter().enumerate() {
-        assert_eq!(rt; names[place].as_name().as_bytes(), *expected);
-        assert_eq!(rt;
-            reversed[place].as_revname().to_name().as_name().as_bytes(),
-            *expected
-        );
+    let expected = ordered_names();
+    let names = sorted::<NameBuf>(alloc, &expected)?;
+    for (name, octets) in names.iter().zip(expected) {
+        assert_eq!(rt; name.as_name().as_bytes(), octets);
     }
+    let names = sorted::<RevNameBuf>(alloc, &expected)?;
+    for (name, octets) in names.iter().zip(expected) {
+        assert_eq!(rt; name.as_revname().to_name().as_name().as_bytes(), octets);
+    }
+    assert_eq!(rt; names.len(), 9);
     Ok(())
 }

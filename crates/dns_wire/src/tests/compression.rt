@@ -1,8 +1,6 @@
-//! The compressor by itself, and octets in a message.
+//! The compressor by itself.
 
-use crate::{
-    BuildInMessage, NameCompressor, longest_suffixes, pressed_names, pressed_names_are_read,
-};
+use crate::{NameCompressor, longest_suffixes, pressed_names, pressed_names_are_read};
 use std::test::Fail;
 
 #[test]
@@ -47,26 +45,5 @@ fn finds_names_by_their_places(rt: HostRuntime) -> Result<(), Fail> {
     assert_eq!(rt; compressor.compress_name(contents, b"\0"), None);
     compressor.truncate(2);
     assert_eq!(rt; compressor.places(), [0, 3].as_slice());
-    Ok(())
-}
-
-#[test]
-fn writes_octets_in_messages(rt: HostRuntime) -> Result<(), Fail> {
-    let mut contents = *b".....";
-    let mut compressor = NameCompressor::new();
-    let octets: &[u8] = b"bc";
-    let end = (&b'a', octets).build_in_message(&mut contents, 1, &mut compressor)?;
-    assert_eq!(rt; end, 4);
-    assert_eq!(rt; contents, *b".abc.");
-    assert!(rt;
-        octets
-            .build_in_message(&mut contents, end, &mut compressor)
-            .is_err()
-    );
-    assert_eq!(rt;
-        b'd'.build_in_message(&mut contents, end, &mut compressor)?,
-        5
-    );
-    assert_eq!(rt; contents, *b".abcd");
     Ok(())
 }

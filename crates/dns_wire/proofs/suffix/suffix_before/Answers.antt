@@ -2,7 +2,7 @@ use Rattle.std.proofs.Common.{◌≡◌, arith, ap, sym, ◌∙◌, refl, length
 use Rattle.std.proofs.lemmas.List.{length-append}
 use Rattle.dns_wire.specs.Names.{labels_of}
 use Rattle.dns_wire.specs.Compression.{stands_at}
-use Rattle.dns_wire.specs.Searching.{suffix_at, else_later, before_limit}
+use Rattle.dns_wire.specs.Searching.{else_later, before_limit}
 use Rattle.dns_wire.proofs.Spelled.{name_short}
 use Rattle.dns_wire.proofs.Longest.{limit_before, limit_reached, counts_of, suffix_later, suffix_only, suffix_uncounted, suffix_empty}
 use Rattle.dns_wire.proofs.suffix.suffix_before.Goals as goal

@@ -1,6 +1,6 @@
-use Rattle.std.proofs.Common.{◌≡◌, ◌≤◌, ◌+◌, ◌∙◌, sym, ap, refl, arith, length, take, get_or, take_all, Some, None, Option, ℕ, List}
+use Rattle.std.proofs.Common.{◌≡◌, ◌+◌, ◌∙◌, sym, ap, refl, arith, length, take, get_or, take_all, Some, ℕ, List}
 use Rattle.dns_wire.specs.Compression.{longest_kept}
-use Rattle.dns_wire.specs.Names.{labels_of, heads}
+use Rattle.dns_wire.specs.Names.{labels_of}
 use Rattle.dns_wire.proofs.Longest.{longest_none, longest_whole, more_found, more_missed}
 use Rattle.dns_wire.proofs.Spelled.{name_octets}
 use Rattle.dns_wire.proofs.Suffixes.{answer_longest, answer_none}

@@ -1,6 +1,6 @@
-use Rattle.std.proofs.Common.{◌≡◌, ◌∙◌, sym, ap, refl, Some}
-use Rattle.dns_wire.specs.Compression.{longest_kept, KeptSuffix, LongestKept}
-use Rattle.dns_wire.specs.Names.{labels_of, IsName}
+use Rattle.std.proofs.Common.{◌≡◌, ◌∙◌, sym, ap, refl}
+use Rattle.dns_wire.specs.Compression.{longest_kept}
+use Rattle.dns_wire.specs.Names.{labels_of}
 use Rattle.dns_wire.specs.Reversed.{reversed_labels_of}
 use Rattle.dns_wire.proofs.Backward.{reversed_size}
 use Rattle.dns_wire.proofs.Spelled.{labels_of_wire}

@@ -1,6 +1,6 @@
 use Rattle.std.proofs.Common.{arith, ◌∙◌, ◌<◌, length, ◌∷◌, []}
 use Rattle.std.proofs.lemmas.Bool.Decides.{nat_tests}
-use Rattle.dns_wire.proofs.Noting.{more_low, more_high, more_full, keeps_places}
+use Rattle.dns_wire.proofs.Noting.{more_low, more_high, more_full}
 use Rattle.dns_wire.proofs.compressor.NameCompressor.keep.Goals as goal
 use Rattle.dns_wire.proofs.compressor.NameCompressor.keep.Goals.{else-not-is_full-via-then-not-is_full+else-place-le-LAST_PLACE, else-not-is_full-via-else-not-is_full}
 

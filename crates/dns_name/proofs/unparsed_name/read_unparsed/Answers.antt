@@ -1,0 +1,46 @@
+use Rattle.std.proofs.Common.{arith, ◌+◌, inl, inr, refl, Some, None, get_or}
+use Rattle.dns_wire.proofs.Walk.{walked_more}
+use Rattle.dns_name.specs.Unparsed.{offset_of}
+use Rattle.dns_name.proofs.Standing.{UnparsedEnds, walked_to_root, walked_to_pointer, walked_on, walked_to_bad, walked_to_half}
+use Rattle.dns_name.proofs.unparsed_name.read_unparsed.Goals as goal
+use Rattle.dns_name.proofs.unparsed_name.read_unparsed.Goals.{Then-head-eq0, Else-left-lt2, then-head-gt63-via-then-head-gt63, then-head-gt63-via-else-head-gt63+then-left-head}
+
+at_root : (c : Then-head-eq0) → UnparsedEnds c.args.bytes.now (c.loop-at.at + 1) None
+at_root c = walked_to_root _ _ c.loop-at.invariant c.loop-at-test.true c.if-at.true c.if-head-eq0.true
+
+pub returns-then-head-eq0-clause-read : goal.returns-then-head-eq0-clause-read
+returns-then-head-eq0-clause-read c = (at_root (goal.at.returns-then-head-eq0-clause-read c).Then-head-eq0).read
+
+pub returns-then-head-eq0-clause-whole : goal.returns-then-head-eq0-clause-whole
+returns-then-head-eq0-clause-whole c = (at_root (goal.at.returns-then-head-eq0-clause-whole c).Then-head-eq0).whole
+
+pub returns-then-head-eq0-clause-pointer : goal.returns-then-head-eq0-clause-pointer
+returns-then-head-eq0-clause-pointer c = (at_root (goal.at.returns-then-head-eq0-clause-pointer c).Then-head-eq0).pointer_is
+
+at_pointer : (c : Else-left-lt2) → UnparsedEnds c.args.bytes.now (c.loop-at.at + 2) (Some (offset_of (get_or c.args.bytes.now c.loop-at.at 0, get_or c.args.bytes.now (c.loop-at.at + 1) 0)))
+at_pointer c = walked_to_pointer _ _ c.loop-at.invariant _ c.loop-at-test.true c.if-at.true refl c.if-head-ge192.true c.if-left-lt2.false
+
+pub returns-then-left-lt2-clause-refused : goal.returns-then-left-lt2-clause-refused
+returns-then-left-lt2-clause-refused c = walked_to_half _ _ c.loop-at.invariant _ c.loop-at-test.true refl c.if-head-ge192.true c.if-left-lt2.true
+
+pub returns-then-head-ge192-clause-read : goal.returns-then-head-ge192-clause-read
+returns-then-head-ge192-clause-read c = (at_pointer (goal.at.returns-then-head-ge192-clause-read c).Else-left-lt2).read
+
+pub returns-then-head-ge192-clause-whole : goal.returns-then-head-ge192-clause-whole
+returns-then-head-ge192-clause-whole c = (at_pointer (goal.at.returns-then-head-ge192-clause-whole c).Else-left-lt2).whole
+
+pub returns-then-head-ge192-clause-pointer : goal.returns-then-head-ge192-clause-pointer
+returns-then-head-ge192-clause-pointer c = (at_pointer (goal.at.returns-then-head-ge192-clause-pointer c).Else-left-lt2).pointer_is
+
+pub returns-then-head-gt63-clause-refused : goal.returns-then-head-gt63-clause-refused
+returns-then-head-gt63-clause-refused c = walked_to_bad _ _ c.loop-at.invariant _ c.loop-at-test.true refl (omega arith) c.if-head-ge192.false
+    (elim c.then-head-gt63.branch [ then-head-gt63-via-then-head-gt63 w ↦ inl w.if-head-gt63.true | then-head-gt63-via-else-head-gt63+then-left-head w ↦ inr w.if-left-head.true ])
+
+pub loop-at-preserved : goal.loop-at-preserved
+loop-at-preserved c = walked_more _ _ _ c.loop-at.invariant c.loop-at-test.true refl (omega arith) (omega arith) (omega arith)
+
+pub returns-else-at-clause-refused : goal.returns-else-at-clause-refused
+returns-else-at-clause-refused c = walked_on _ _ c.loop-at.invariant (inr c.if-at.false)
+
+pub returns-after-loop-at-clause-refused : goal.returns-after-loop-at-clause-refused
+returns-after-loop-at-clause-refused c = walked_on _ _ c.loop-at.invariant (inl c.loop-at-test.false)

@@ -1,0 +1,95 @@
+-- Names as they stand, whatever their pointers lead to (RFC 1035 section 4.1.4).
+use Rattle.std.specs.Prelude.{ℕ, zero, suc, ◌+◌, ◌-◌, ◌*◌, ◌<◌, ◌≤◌, List, [], ◌∷◌, ◌++◌, length, take, drop, Bool, true, Option, Some, None, option_map, unwrap_or, IfSome, nat_lt, nat_le, ◌==◌, ◌||◌, ◌&&◌, if◌then◌else◌}
+use Rattle.std.specs.List.{AllByRecursion}
+use Rattle.dns_wire.specs.Names.{IsLabel, heads}
+use Rattle.dns_wire.specs.Reading.{all_of, plain_at}
+
+-- labels, and the two octets of the pointer behind them; where the root is behind them, there is none
+abbrev pub Unparsed : Type 0
+Unparsed = List (List ℕ) × Option (ℕ × ℕ)
+
+-- what stands behind the labels: the root's length 0, or a pointer
+abbrev pub last_octets : Option (ℕ × ℕ) → List ℕ
+last_octets None = 0 ∷ []
+last_octets (Some (high, low)) = high ∷ low ∷ []
+
+-- the octets: the labels, each behind its length, and the root or a pointer
+abbrev pub unparsed_wire : Unparsed → List ℕ
+unparsed_wire name = heads name.0 ++ last_octets name.1
+
+-- Labels and a pointer are an unparsed name where the octets of the labels are at most 254, so that the root or the pointer
+-- begins at octet 254, counted from 0, at the latest. A pointer's first octet is at least 192.
+pub record IsUnparsed (name : Unparsed) : Type 0 where
+  pub sizes : AllByRecursion IsLabel name.0
+  pub size : length (heads name.0) ≤ 254
+  pub pointer : IfSome name.1 (λ octets. 192 ≤ octets.0)
+
+-- where a pointer leads, counted from the front of the message: the 14 bits behind the two ones in front
+abbrev pub offset_of : ℕ × ℕ → ℕ
+offset_of (high, low) = (high - 192) * 256 + low
+
+-- where the pointer at the end leads
+abbrev pub end_offset : Unparsed → Option ℕ
+end_offset name = option_map offset_of name.1
+
+-- where a name leads that is one pointer and nothing else
+abbrev pub alone_offset : Unparsed → Option ℕ
+alone_offset ([], end) = option_map offset_of end
+alone_offset (label ∷ labels, end) = None
+
+-- ---- reading
+
+-- what is read behind these labels, with them in front
+abbrev pub behind_labels : List (List ℕ) → Option (Unparsed × List ℕ) → Option (Unparsed × List ℕ)
+behind_labels labels None = None
+behind_labels labels (Some (name, rest)) = Some ((labels ++ name.0, name.1), rest)
+
+-- a pointer with this first octet
+abbrev pub pointer_from : ℕ → List ℕ → Option (Unparsed × List ℕ)
+pointer_from high [] = None
+pointer_from high (low ∷ rest) = Some (([], Some (high, low)), rest)
+
+-- the labels up to the root or a pointer, and what follows, where no more than steps heads are read
+unfoldable pub unparsed_within : ℕ → List ℕ → Option (Unparsed × List ℕ)
+unparsed_within zero bytes = None
+unparsed_within (suc steps) [] = None
+unparsed_within (suc steps) (head ∷ rest) =
+    if head == 0 then Some (([], None), rest)
+    else if nat_le 192 head then pointer_from head rest
+    else if nat_lt 63 head || nat_lt (length rest) head then None
+    else behind_labels (take head rest ∷ []) (unparsed_within steps (drop head rest))
+
+-- a reading of labels whose octets are at most 254
+abbrev pub up_to_254 : Option (Unparsed × List ℕ) → Option (Unparsed × List ℕ)
+up_to_254 None = None
+up_to_254 (Some (name, rest)) = if nat_lt 254 (length (heads name.0)) then None else Some (name, rest)
+
+-- The unparsed name at the front, and what follows it. `unparsed_names` says it in other words: a name is read exactly where
+-- its octets stand at the front.
+unfoldable pub unparsed_name : List ℕ → Option (Unparsed × List ℕ)
+unparsed_name bytes = up_to_254 (unparsed_within (length bytes) bytes)
+
+-- the name that octets are
+abbrev pub unparsed_of : List ℕ → Unparsed
+unparsed_of bytes = unwrap_or (all_of (unparsed_name bytes)) ([], None)
+
+-- ---- in a message
+
+-- A pointer leads to a place behind the header and before the name that begins at start: it counts the header's 12 octets,
+-- and places do not.
+abbrev pub leads_back : ℕ → Option ℕ → Bool
+leads_back start None = true
+leads_back start (Some offset) = nat_le 12 offset && nat_lt (offset - 12) start
+
+-- the same in words, where there is a pointer
+abbrev pub LeadsBack : ℕ → Option ℕ → Type 0
+LeadsBack start offset = IfSome offset (λ o. (12 ≤ o) × (o < start + 12))
+
+-- a reading of a name whose pointer leads back
+abbrev pub if_it_leads_back : ℕ → Option (Unparsed × ℕ) → Option (Unparsed × ℕ)
+if_it_leads_back start None = None
+if_it_leads_back start (Some (name, end)) = if leads_back start (end_offset name) then Some (name, end) else None
+
+-- the unparsed name at a place of the contents, and where it ends
+abbrev pub unparsed_at : List ℕ → ℕ → Option (Unparsed × ℕ)
+unparsed_at contents start = if_it_leads_back start (plain_at unparsed_name contents start)
