@@ -4,7 +4,7 @@ use Rattle.std.specs.List.{list_any}
 use Rattle.dns_record.specs.declared.charstr_error.CharStrParseError.{CharStrParseError}
 use Rattle.dns_record.specs.declared.charstr_error.CharStrParseError.TheVariants.{Overlong, InvalidChar}
 
--- the text's octets, where no backslash stands among them (92), and then where they are at most 255
+-- the text's octets, unless a backslash (92) stands among them, or else they are more than 255
 abbrev pub charstr_of : List ℕ → Result (List ℕ) CharStrParseError
 charstr_of text =
     if list_any (λ b. b == 92) text then Err InvalidChar
