@@ -1,4 +1,4 @@
-//! Questions and records, whatever their names and their data are.
+//! Questions and records, whatever their names and their data are, and the codes, numbers and strings in them.
 #![tactic(auto)]
 
 mod canonical;
