@@ -6,6 +6,7 @@ mod hash;
 mod in_message;
 mod label_row;
 mod laws;
+mod lowercased;
 mod name;
 mod name_buf;
 mod order;
@@ -17,6 +18,7 @@ mod unparsed_name;
 
 pub use canonical_name::CanonicalName;
 pub use laws::{label_order, one_order, orders_by_octets, reversed_names, unparsed_names};
+pub use lowercased::Lowercased;
 pub use name::Name;
 pub use name_buf::NameBuf;
 pub use rev_name::RevName;

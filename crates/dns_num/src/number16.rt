@@ -59,6 +59,17 @@ impl U16 {
     {
         self.value.cmp(&other)
     }
+
+    /// How it compares with another, by number, and that both fit their width, which nothing else tells of numbers
+    /// behind references.
+    pub fn compare(&self, other: &U16) -> Ordering
+        ensures order { result ≡ nat_cmp self.now.value other.now.value }
+        ensures fits { (self.now.value < 2 ^ 16) × (other.now.value < 2 ^ 16) }
+    {
+        let left = self.value;
+        let right = other.value;
+        left.cmp(&right)
+    }
 }
 
 impl From<u16> for U16 {

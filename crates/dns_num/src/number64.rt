@@ -1,6 +1,6 @@
 //! Numbers of eight octets.
 
-ghost use Rattle.std.specs.Prelude.{◌≡◌, ◌↔◌, ℕ, [], Some, None, IsTrue, ⊤};
+ghost use Rattle.std.specs.Prelude.{◌≡◌, ◌^◌, ◌<◌, ◌↔◌, ℕ, [], Some, None, IsTrue, ⊤};
 ghost use Rattle.std.specs.Int.{w64, to_be_bytes};
 ghost use Rattle.std.specs.Fmt.{decimal};
 ghost use Rattle.std.specs.Ordering.{nat_cmp};
@@ -56,6 +56,17 @@ impl U64 {
         ensures { result ≡ nat_cmp self.now.value other }
     {
         self.value.cmp(&other)
+    }
+
+    /// How it compares with another, by number, and that both fit their width, which nothing else tells of numbers
+    /// behind references.
+    pub fn compare(&self, other: &U64) -> Ordering
+        ensures order { result ≡ nat_cmp self.now.value other.now.value }
+        ensures fits { (self.now.value < 2 ^ 64) × (other.now.value < 2 ^ 64) }
+    {
+        let left = self.value;
+        let right = other.value;
+        left.cmp(&right)
     }
 }
 

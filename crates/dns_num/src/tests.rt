@@ -144,6 +144,9 @@ fn numbers_are_made_and_compared(rt: HostRuntime) -> Result<(), Fail> {
     assert_eq!(rt; U16::default(), U16::new(0));
     assert_eq!(rt; U32::default(), U32::new(0));
     assert_eq!(rt; U64::default(), U64::new(0));
+    assert_eq!(rt; short.compare(&U16::new(300)), Ordering::Less);
+    assert_eq!(rt; long.compare(&U32::new(0x01000000)), Ordering::Equal);
+    assert_eq!(rt; longest.compare(&U64::new(7)), Ordering::Greater);
     // By number, where the octets in memory may stand the other way round.
     assert!(rt; U16::new(0x0102) < U16::new(0x0201));
     assert_eq!(rt; U32::new(256).cmp(&U32::new(255)), Ordering::Greater);

@@ -1,6 +1,6 @@
 //! Names in small letters, and their orders by octets.
 
-use crate::{CanonicalName, Name, NameBuf, label_order, orders_by_octets};
+use crate::{CanonicalName, Lowercased, Name, NameBuf, label_order, orders_by_octets};
 use dns_wire::{BuildBytes, ParseBytes, TruncationError};
 use std::cmp::Ordering;
 use std::rc::Rc;
@@ -29,6 +29,17 @@ fn writes_small_letters_where_there_is_room(rt: HostRuntime) -> Result<(), Fail>
     assert!(rt; name.build_lowercased_bytes(&mut short).is_err());
     let mut exact = [0u8; 7];
     assert_eq!(rt; name.build_lowercased_bytes(&mut exact)?.len(), 0);
+    Ok(())
+}
+
+#[test]
+fn writes_small_letters_among_parts(rt: HostRuntime) -> Result<(), Fail> {
+    let name = Name::parse_bytes(b"\x01E\x03com\0")?;
+    let lowercased = Lowercased { name: &name };
+    let mut buffer = *b".........";
+    assert_eq!(rt; (5u8, (lowercased, 6u8)).build_at(&mut buffer, 0)?, 9);
+    assert_eq!(rt; buffer, *b"\x05\x01e\x03com\0\x06");
+    assert!(rt; lowercased.build_at(&mut buffer, 3).is_err());
     Ok(())
 }
 

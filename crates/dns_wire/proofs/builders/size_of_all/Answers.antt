@@ -1,6 +1,5 @@
-use Rattle.std.proofs.Common.{arith, ap, length}
-use Rattle.std.proofs.lemmas.List.{length-append}
-use Rattle.dns_wire.proofs.Several.{one_more, no_longer}
+use Rattle.std.proofs.Common.{arith}
+use Rattle.dns_wire.proofs.Several.{no_longer}
 use Rattle.dns_wire.proofs.builders.size_of_all.Goals as goal
 
 pub built_bytes_size-size-requires : goal.built_bytes_size-size-requires

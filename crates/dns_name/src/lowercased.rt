@@ -1,0 +1,29 @@
+//! Names to be written in small letters.
+
+ghost use Rattle.std.specs.Prelude.{◌≡◌, ◌≤◌, ◌<◌, ◌^◌, length, ⊤};
+ghost use Rattle.dns_wire.specs.Building.{Builds};
+ghost use Rattle.dns_wire.specs.Names.{wire, lowered};
+
+use crate::canonical_name::CanonicalName;
+use dns_wire::{BuildBytes, TruncationError};
+
+/// A name that is written in small letters, among other parts (RFC 4034 section 6.2).
+#[derive(Clone, Copy, Debug)]
+pub struct Lowercased<'a, N> {
+    /// The name, in whatever case.
+    pub name: &'a N,
+}
+
+impl<N: CanonicalName> BuildBytes for Lowercased<'_, N> {
+    ghost octets = { λ v. wire (lowered (N.name v.name.now)) };
+
+    ghost fits = { λ _. ⊤ };
+
+    fn build_at(&self, bytes: &mut [u8], start: usize) -> Result<usize, TruncationError> {
+        self.name.build_lowercased_at(bytes, start)
+    }
+
+    fn built_bytes_size(&self) -> usize {
+        self.name.built_bytes_size()
+    }
+}
