@@ -1,5 +1,10 @@
 -- The crate's own lemmas.
+pub mod Bare
+pub mod Bitmaps
 pub mod CharStrCells
 pub mod CharStrStored
+pub mod Compared
 pub mod Places
+pub mod Sizes
+pub mod Strings
 pub mod Worded

@@ -4,10 +4,10 @@ use Rattle.std.specs.Prelude.{◌==◌}
 use Rattle.std.specs.Int.{Width, w16, w32}
 use Rattle.std.proofs.lemmas.Bool.{le-ltb, ltb-false}
 use Rattle.std.proofs.lemmas.Bool.Decides.{nat_tests}
-use Rattle.std.proofs.lemmas.List.{length-append, length-drop, append-nil}
+use Rattle.std.proofs.lemmas.List.{length-drop, append-nil}
 use Rattle.std.proofs.lemmas.Option.{some_pair_parts}
 use Rattle.dns_wire.specs.Names.{wire, plain_name}
-use Rattle.dns_wire.specs.Pointers.{NameAt, name_at}
+use Rattle.dns_wire.specs.Pointers.{name_at}
 use Rattle.dns_wire.specs.Reading.{octet, octets, number, plain_at, all_at}
 use Rattle.dns_wire.specs.Steps.{◌>>=◌, first_to}
 use Rattle.dns_wire.proofs.Following.{name_at_is, name_at_finds}
@@ -15,13 +15,17 @@ use Rattle.dns_wire.proofs.Spelled.{plain_name_takes, plain_name_again}
 use Rattle.dns_record.specs.Data.{data_in}
 use Rattle.dns_record.specs.Fields.{Field}
 use Rattle.dns_record.specs.Fields.Field.{Named, Raw, Sized, Byte, Number}
-use Rattle.dns_record.specs.InPlace.{OctetsAt, NumberAt, PlainNameAt, FieldAt, FieldsAt, DataAt, QuestionAt, RecordAt}
-use Rattle.dns_record.specs.Kinds.{Kind, text, field_in, fields_in, named_in}
-use Rattle.dns_record.specs.Kinds.Kind.{OneByte, OneNumber, SoMany, Pointed, Plain, Text, Rest}
+use Rattle.dns_record.specs.InPlace.{OctetsAt, AreTexts, AreWindows, FieldAt, FieldsAt, DataAt, QuestionAt, RecordAt}
+use Rattle.dns_record.specs.Kinds.{Kind, field_in, fields_in, named_in}
+use Rattle.dns_record.specs.Kinds.Kind.{OneByte, OneNumber, SoMany, Pointed, Plain, Text, Texts, Windows, SomeWindows, Rest}
 use Rattle.dns_record.specs.Questions.{QuestionOf, question_in}
 use Rattle.dns_record.specs.Records.{RecordOf, record_in, end_of}
 use Rattle.dns_record.specs.Rows.{row}
-use Rattle.dns_record.proofs.Places.{placed, stands_at, read_at, octet_spelled, octets_spelled, octets_read, text_spelled, text_read, number_at, read_number}
+use Rattle.dns_record.specs.Texts.{text, texts, is_text_data}
+use Rattle.dns_record.specs.Windows.{bitmap, some_bitmap, is_bitmap}
+use Rattle.dns_record.proofs.Bitmaps.{bitmap_is, is_this_bitmap}
+use Rattle.dns_record.proofs.Strings.{are_texts, texts_are}
+use Rattle.dns_record.proofs.Places.{placed, stands_at, read_at, read_placed, octet_spelled, octets_spelled, octets_read, text_spelled, text_read, number_at, read_number}
 
 -- ---- steps
 
@@ -60,6 +64,60 @@ rest_spelled contents at found end e =
       stands_at (λ bytes. Some (bytes, [])) (λ o. o) contents at found end (λ rest read. let both = some_pair_parts (drop at contents) found [] rest read in both.0 ∙ sym (append-nil found) ∙ ap (λ (l : List ℕ). found ++ l) both.1) e,
     )
 
+-- all the octets, where they pass a test
+abbrev tested : (List ℕ → Bool) → List ℕ → Option (List ℕ × List ℕ)
+tested good bytes = cond (good bytes) (Some (bytes, [])) None
+
+module _ (good : List ℕ → Bool) (Is : List ℕ → Type 0) where
+  tested_whole : (bytes found rest : List ℕ) → tested good bytes ≡ Some (found, rest) → bytes ≡ found ++ rest
+  tested_whole bytes found rest e = by (good bytes) e where
+    by : (b : Bool) → cond {A = Option (List ℕ × List ℕ)} b (Some (bytes, [])) None ≡ Some (found, rest) → bytes ≡ found ++ rest
+    by false h = absurd cc
+    by true h = let same = some_pair_parts bytes found [] rest h in same.0 ∙ sym (append-nil found) ∙ ap (λ (l : List ℕ). found ++ l) same.1
+
+  tested_spelled : ((bytes : List ℕ) → good bytes ≡ true → Is bytes) → (contents : List ℕ) (at : ℕ) (found : List ℕ) (end : ℕ) → plain_at (tested good) contents at ≡ Some (found, end) → (end ≡ length contents) × OctetsAt contents at found end × Is found
+  tested_spelled is_so contents at found end e =
+      let p = placed (tested good) contents at found end e in
+      by (good (drop at contents)) refl p.rest p.end_is p.read where
+        by : (b : Bool) → good (drop at contents) ≡ b → (rest : List ℕ) → end ≡ length contents - length rest → cond {A = Option (List ℕ × List ℕ)} b (Some (drop at contents, [])) None ≡ Some (found, rest)
+            → (end ≡ length contents) × OctetsAt contents at found end × Is found
+        by false is rest end_is h = absurd cc
+        by true is rest end_is h =
+            let same = some_pair_parts (drop at contents) found [] rest h in (
+              omega (arith, end_is, ap length same.1),
+              stands_at (tested good) (λ o. o) contents at found end (λ left read. tested_whole (drop at contents) found left read) e,
+              subst Is same.0 (is_so (drop at contents) is),
+            )
+
+  tested_read : (contents : List ℕ) (at : ℕ) (found : List ℕ) (end : ℕ) → end ≡ length contents → OctetsAt contents at found end → good found ≡ true → plain_at (tested good) contents at ≡ Some (found, end)
+  tested_read contents at found end whole o is =
+      let fits : ltb (length contents) at ≡ false = le-ltb _ _ (omega (arith, o.end_is, o.within)) in
+      let all : drop at contents ≡ found = sym (take_all (length found) (drop at contents) (omega (arith, o.end_is, whole, length-drop at contents))) ∙ sym o.stand in
+      let here : tested good (drop at contents) ≡ Some (found, []) = ap (tested good) all ∙ rw is refl in
+      let last : length contents - 0 ≡ end = omega (arith, whole) in
+      rw (fits, here) (ap (λ (n : ℕ). Some (found, n)) last)
+
+some_tested : (bytes found rest : List ℕ) → some_bitmap bytes ≡ Some (found, rest) → (bitmap bytes ≡ Some (found, rest)) × (1 ≤ length bytes)
+some_tested [] found rest e = absurd cc
+some_tested (number ∷ more) found rest e = (e, omega arith)
+
+some_spelled : (contents : List ℕ) (at : ℕ) (found : List ℕ) (end : ℕ) → plain_at some_bitmap contents at ≡ Some (found, end) → (end ≡ length contents) × OctetsAt contents at found end × AreWindows found × (1 ≤ length found)
+some_spelled contents at found end e =
+    let p = placed some_bitmap contents at found end e in
+    let b = some_tested (drop at contents) found p.rest p.read in
+    let t = tested_spelled is_bitmap AreWindows bitmap_is contents at found end (read_placed bitmap contents at found end (record { within = p.within; rest = p.rest; read = b.0; end_is = p.end_is })) in
+    (t.0, t.1, t.2, omega (arith, b.1, t.0, t.1.end_is, length-drop at contents, p.within))
+
+some_read : (found : List ℕ) → 1 ≤ length found → some_bitmap found ≡ bitmap found
+some_read [] some = absurd (omega arith)
+some_read (number ∷ rest) some = refl
+
+some_found : (contents : List ℕ) (at : ℕ) (found : List ℕ) (end : ℕ) → end ≡ length contents → OctetsAt contents at found end → AreWindows found → 1 ≤ length found → plain_at some_bitmap contents at ≡ Some (found, end)
+some_found contents at found end whole o is some =
+    let p = placed bitmap contents at found end (tested_read is_bitmap AreWindows contents at found end whole o (is_this_bitmap found is)) in
+    let long : 1 ≤ length (drop at contents) = omega (arith, some, whole, o.end_is, length-drop at contents) in
+    read_placed some_bitmap contents at found end (record { within = p.within; rest = p.rest; read = some_read (drop at contents) long ∙ p.read; end_is = p.end_is })
+
 field_is : (kind : Kind) (contents : List ℕ) (at : ℕ) (field : Field) (end : ℕ) → field_in pointed kind contents at ≡ Some (field, end) → FieldAt kind contents at field end
 field_is OneByte contents at field end e =
     let p = put_in Byte (plain_at octet contents at) field end e in
@@ -86,6 +144,15 @@ field_is Plain contents at field end e =
 field_is Text contents at field end e =
     let p = put_in Sized (plain_at text contents at) field end e in
     subst (λ (f : Field). FieldAt Text contents at f end) p.is (stands_at text (λ o. length o ∷ o) contents at p.value end (λ rest read. text_spelled (drop at contents) p.value rest read) p.first)
+field_is Texts contents at field end e =
+    let p = put_in Raw (plain_at texts contents at) field end e in
+    subst (λ (f : Field). FieldAt Texts contents at f end) p.is (tested_spelled is_text_data AreTexts texts_are contents at p.value end p.first)
+field_is Windows contents at field end e =
+    let p = put_in Raw (plain_at bitmap contents at) field end e in
+    subst (λ (f : Field). FieldAt Windows contents at f end) p.is (tested_spelled is_bitmap AreWindows bitmap_is contents at p.value end p.first)
+field_is SomeWindows contents at field end e =
+    let p = put_in Raw (plain_at some_bitmap contents at) field end e in
+    subst (λ (f : Field). FieldAt SomeWindows contents at f end) p.is (some_spelled contents at p.value end p.first)
 field_is Rest contents at field end e =
     let p = put_in Raw (plain_at (λ bytes. Some (bytes, [])) contents at) field end e in
     subst (λ (f : Field). FieldAt Rest contents at f end) p.is (rest_spelled contents at p.value end p.first)
@@ -106,6 +173,9 @@ field_found (SoMany n) contents at (Raw found) end h = ap (first_to Raw) (read_a
 field_found Pointed contents at (Named labels) end h = ap (first_to (λ l. Named l)) (name_at_finds contents at labels end h)
 field_found Plain contents at (Named labels) end h = ap (first_to Named) (read_at plain_name wire contents at labels end (λ rest. plain_name_again (wire labels ++ rest) labels rest h.name refl) h.stands)
 field_found Text contents at (Sized found) end h = ap (first_to Sized) (read_at text (λ o. length o ∷ o) contents at found end (λ rest. text_read found rest) h)
+field_found Texts contents at (Raw found) end h = ap (first_to Raw) (tested_read is_text_data AreTexts contents at found end h.0 h.1 (are_texts found h.2))
+field_found Windows contents at (Raw found) end h = ap (first_to Raw) (tested_read is_bitmap AreWindows contents at found end h.0 h.1 (is_this_bitmap found h.2))
+field_found SomeWindows contents at (Raw found) end h = ap (first_to Raw) (some_found contents at found end h.0 h.1 h.2 h.3)
 field_found Rest contents at (Raw found) end h = ap (first_to Raw) (rest_read contents at found end h.0 h.1)
 field_found kind contents at field end h = absurd h
 

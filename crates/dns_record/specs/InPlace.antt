@@ -1,16 +1,18 @@
 -- Questions, records and their data in place, in the words of the standard (RFC 1035 sections 3.2.1, 3.3 and 4.1). Contents
 -- are a message's octets behind its header. Each relation says what stands from a place up to an end.
-use Rattle.std.specs.Prelude.{◌≡◌, ℕ, ◌+◌, ◌≤◌, ◌<◌, List, [], ◌∷◌, ◌++◌, length, take, drop, slice_index}
+use Rattle.std.specs.Prelude.{◌≡◌, ℕ, suc, ◌+◌, ◌-◌, ◌≤◌, ◌<◌, ◌^◌, List, [], ◌∷◌, length, take, drop, slice_index, ⊤}
 use Rattle.std.specs.Int.{Width, w16, w32, byte_len, from_be_bytes}
 use Rattle.dns_wire.specs.Names.{IsName, wire}
 use Rattle.dns_wire.specs.Pointers.{NameAt}
 use Rattle.dns_record.specs.Fields.{Field}
 use Rattle.dns_record.specs.Fields.Field.{Named, Raw, Sized, Byte, Number}
 use Rattle.dns_record.specs.Kinds.{Kind}
-use Rattle.dns_record.specs.Kinds.Kind.{OneByte, OneNumber, SoMany, Pointed, Plain, Text, Rest}
+use Rattle.dns_record.specs.Kinds.Kind.{OneByte, OneNumber, SoMany, Pointed, Plain, Text, Texts, Windows, SomeWindows, Rest}
 use Rattle.dns_record.specs.Questions.{QuestionOf}
 use Rattle.dns_record.specs.Records.{RecordOf}
 use Rattle.dns_record.specs.Rows.{row}
+use Rattle.dns_record.specs.Texts.{texts_octets}
+use Rattle.dns_record.specs.Windows.{Window, windows_octets}
 
 -- ---- octets, numbers and names
 
@@ -31,6 +33,30 @@ pub record PlainNameAt (contents : List ℕ) (at : ℕ) (labels : List (List ℕ
   pub name : IsName labels
   pub stands : OctetsAt contents at (wire labels) end
 
+-- these octets are strings, at least one, each behind an octet with their number, and no more than a size can say
+pub record AreTexts (octets : List ℕ) : Type 0 where
+  pub first : List ℕ
+  pub others : List (List ℕ)
+  pub is : octets ≡ texts_octets (first ∷ others)
+  pub short : length octets < 2 ^ 16
+
+-- from 1 to 32 octets, of which the last is not 0
+pub record AreBits (bits : List ℕ) : Type 0 where
+  pub some : 1 ≤ length bits
+  pub few : length bits ≤ 32
+  pub last : 0 < slice_index bits (length bits - 1)
+
+-- windows whose numbers strictly rise from at least this one on
+abbrev pub WindowsFrom : ℕ → List Window → Type 0
+WindowsFrom least [] = ⊤
+WindowsFrom least (window ∷ others) = (least ≤ window.number) × AreBits window.bits × WindowsFrom (suc window.number) others
+
+-- these octets are windows of bits
+pub record AreWindows (octets : List ℕ) : Type 0 where
+  pub windows : List Window
+  pub rise : WindowsFrom 0 windows
+  pub is : octets ≡ windows_octets windows
+
 -- ---- fields
 
 -- a field of a kind
@@ -41,6 +67,9 @@ FieldAt (SoMany n) contents at (Raw octets) end = (length octets ≡ n) × Octet
 FieldAt Pointed contents at (Named labels) end = NameAt contents at labels end
 FieldAt Plain contents at (Named labels) end = PlainNameAt contents at labels end
 FieldAt Text contents at (Sized octets) end = OctetsAt contents at (length octets ∷ octets) end
+FieldAt Texts contents at (Raw octets) end = (end ≡ length contents) × OctetsAt contents at octets end × AreTexts octets
+FieldAt Windows contents at (Raw octets) end = (end ≡ length contents) × OctetsAt contents at octets end × AreWindows octets
+FieldAt SomeWindows contents at (Raw octets) end = (end ≡ length contents) × OctetsAt contents at octets end × AreWindows octets × (1 ≤ length octets)
 FieldAt Rest contents at (Raw octets) end = (end ≡ length contents) × OctetsAt contents at octets end
 FieldAt kind contents at field end = ⊥
 

@@ -1,11 +1,13 @@
 -- Kinds of fields, and what they read. Names that pointers may lead through are read by a grammar that is passed in, so that
 -- one table serves names of any type, with pointers and without.
-use Rattle.std.specs.Prelude.{ℕ, List, [], ◌∷◌, length, take, drop, Option, Some, None, nat_lt, if◌then◌else◌}
+use Rattle.std.specs.Prelude.{ℕ, List, [], ◌∷◌, Option, Some, None}
 use Rattle.std.specs.Int.{Width}
 use Rattle.dns_wire.specs.Names.{plain_name}
 use Rattle.dns_wire.specs.Reading.{octet, octets, number, plain_at}
 use Rattle.dns_record.specs.Fields.{Field}
 use Rattle.dns_record.specs.Fields.Field.{Named, Raw, Sized, Byte, Number}
+use Rattle.dns_record.specs.Texts.{text, texts}
+use Rattle.dns_record.specs.Windows.{bitmap, some_bitmap}
 use Rattle.dns_wire.specs.Steps.{◌>>=◌, first_to}
 
 pub data Kind : Type 0 where
@@ -15,12 +17,10 @@ pub data Kind : Type 0 where
   Pointed : Kind  -- a name, which in a message may have pointers
   Plain : Kind  -- a name without pointers
   Text : Kind  -- octets behind an octet with their number
+  Texts : Kind  -- such strings, at least one, up to the end
+  Windows : Kind  -- a bitmap of types, up to the end
+  SomeWindows : Kind  -- the same with one window at least
   Rest : Kind  -- all that remains
-
--- octets behind an octet with their number (RFC 1035 section 3.3, <character-string>)
-abbrev pub text : List ℕ → Option (List ℕ × List ℕ)
-text [] = None
-text (size ∷ rest) = if nat_lt (length rest) size then None else Some (take size rest, drop size rest)
 
 -- ---- at the front of octets
 
@@ -31,6 +31,9 @@ field_of pointed (SoMany n) bytes = first_to Raw (octets n bytes)
 field_of pointed Pointed bytes = pointed bytes
 field_of pointed Plain bytes = first_to Named (plain_name bytes)
 field_of pointed Text bytes = first_to Sized (text bytes)
+field_of pointed Texts bytes = first_to Raw (texts bytes)
+field_of pointed Windows bytes = first_to Raw (bitmap bytes)
+field_of pointed SomeWindows bytes = first_to Raw (some_bitmap bytes)
 field_of pointed Rest bytes = Some (Raw bytes, [])
 
 -- the fields of these kinds, one after another, and the octets behind them
@@ -50,6 +53,9 @@ field_in pointed (SoMany n) contents at = first_to Raw (plain_at (octets n) cont
 field_in pointed Pointed contents at = pointed contents at
 field_in pointed Plain contents at = first_to Named (plain_at plain_name contents at)
 field_in pointed Text contents at = first_to Sized (plain_at text contents at)
+field_in pointed Texts contents at = first_to Raw (plain_at texts contents at)
+field_in pointed Windows contents at = first_to Raw (plain_at bitmap contents at)
+field_in pointed SomeWindows contents at = first_to Raw (plain_at some_bitmap contents at)
 field_in pointed Rest contents at = first_to Raw (plain_at (λ bytes. Some (bytes, [])) contents at)
 
 -- the fields of these kinds, one after another, and where the last ends

@@ -14,5 +14,8 @@ pub mod Records
 pub mod Rows
 pub mod Seen
 pub mod Serials
+pub mod Texts
 pub mod Types
 pub mod Unparsed
+pub mod Whole
+pub mod Windows

@@ -1,11 +1,77 @@
 -- The one table of record data: which kinds of fields the data of each type have.
-use Rattle.std.specs.Prelude.{ℕ, List, [], ◌∷◌, Option, ◌==◌, if◌then◌else◌}
+use Rattle.std.specs.Prelude.{ℕ, List, [], ◌∷◌, ◌==◌, if◌then◌else◌}
+use Rattle.std.specs.Int.{w16, w32}
 use Rattle.dns_record.specs.Kinds.{Kind}
-use Rattle.dns_record.specs.Kinds.Kind.{SoMany, Rest}
+use Rattle.dns_record.specs.Kinds.Kind.{OneByte, OneNumber, SoMany, Pointed, Plain, Text, Texts, Windows, SomeWindows, Rest}
 
 -- A (RFC 1035 section 3.4.1): an address
 abbrev pub row_a : List Kind
 row_a = SoMany 4 ∷ []
+
+-- NS, CNAME and PTR (RFC 1035 sections 3.3.11, 3.3.1 and 3.3.12): a name
+abbrev pub row_name : List Kind
+row_name = Pointed ∷ []
+
+-- SOA (RFC 1035 section 3.3.13): the server and the mailbox; serial, refresh, retry, expire, minimum
+abbrev pub row_soa : List Kind
+row_soa = Pointed ∷ Pointed ∷ OneNumber w32 ∷ OneNumber w32 ∷ OneNumber w32 ∷ OneNumber w32 ∷ OneNumber w32 ∷ []
+
+-- HINFO (RFC 1035 section 3.3.2): processor and system
+abbrev pub row_hinfo : List Kind
+row_hinfo = Text ∷ Text ∷ []
+
+-- MX (RFC 1035 section 3.3.9): preference, and the exchange
+abbrev pub row_mx : List Kind
+row_mx = OneNumber w16 ∷ Pointed ∷ []
+
+-- TXT (RFC 1035 section 3.3.14): strings
+abbrev pub row_txt : List Kind
+row_txt = Texts ∷ []
+
+-- RP (RFC 1183 section 2.2): a mailbox, and where texts are
+abbrev pub row_rp : List Kind
+row_rp = Pointed ∷ Pointed ∷ []
+
+-- AAAA (RFC 3596 section 2.2): an address
+abbrev pub row_aaaa : List Kind
+row_aaaa = SoMany 16 ∷ []
+
+-- SRV (RFC 2782): priority, weight, port, and the target
+abbrev pub row_srv : List Kind
+row_srv = OneNumber w16 ∷ OneNumber w16 ∷ OneNumber w16 ∷ Plain ∷ []
+
+-- DNAME (RFC 6672 section 2.1): a name
+abbrev pub row_dname : List Kind
+row_dname = Plain ∷ []
+
+-- DS (RFC 4034 section 5.1): key tag, algorithm, type of the digest, and the digest
+abbrev pub row_ds : List Kind
+row_ds = OneNumber w16 ∷ OneByte ∷ OneByte ∷ Rest ∷ []
+
+-- RRSIG (RFC 4034 section 3.1): type covered, algorithm, labels, original TTL, expiration, inception, key tag, the signer,
+-- and the signature
+abbrev pub row_rrsig : List Kind
+row_rrsig = OneNumber w16 ∷ OneByte ∷ OneByte ∷ OneNumber w32 ∷ OneNumber w32 ∷ OneNumber w32 ∷ OneNumber w16 ∷ Plain ∷ Rest ∷ []
+
+-- NSEC (RFC 4034 section 4.1): the next name, and the types of the owner
+abbrev pub row_nsec : List Kind
+row_nsec = Plain ∷ SomeWindows ∷ []
+
+-- DNSKEY (RFC 4034 section 2.1): flags, protocol, algorithm, and the key
+abbrev pub row_dnskey : List Kind
+row_dnskey = OneNumber w16 ∷ OneByte ∷ OneByte ∷ Rest ∷ []
+
+-- NSEC3 (RFC 5155 section 3.2): hash algorithm, flags, iterations, salt, the next owner's hash, and types
+abbrev pub row_nsec3 : List Kind
+row_nsec3 = OneByte ∷ OneByte ∷ OneNumber w16 ∷ Text ∷ Text ∷ Windows ∷ []
+
+-- NSEC3PARAM (RFC 5155 section 4.2): hash algorithm, flags, iterations, and salt
+abbrev pub row_nsec3param : List Kind
+row_nsec3param = OneByte ∷ OneByte ∷ OneNumber w16 ∷ Text ∷ []
+
+-- ZONEMD (RFC 8976 section 2.2): serial, scheme, hash algorithm, and the digest
+abbrev pub row_zonemd : List Kind
+row_zonemd = OneNumber w32 ∷ OneByte ∷ OneByte ∷ Rest ∷ []
 
 -- the data of a type that has no row of its own are octets (RFC 3597 section 3)
 abbrev pub row_unknown : List Kind
@@ -13,4 +79,24 @@ row_unknown = Rest ∷ []
 
 -- the row of a type number
 unfoldable pub row : ℕ → List Kind
-row rtype = if rtype == 1 then row_a else row_unknown
+row rtype =
+    if rtype == 1 then row_a
+    else if rtype == 2 then row_name
+    else if rtype == 5 then row_name
+    else if rtype == 6 then row_soa
+    else if rtype == 12 then row_name
+    else if rtype == 13 then row_hinfo
+    else if rtype == 15 then row_mx
+    else if rtype == 16 then row_txt
+    else if rtype == 17 then row_rp
+    else if rtype == 28 then row_aaaa
+    else if rtype == 33 then row_srv
+    else if rtype == 39 then row_dname
+    else if rtype == 43 then row_ds
+    else if rtype == 46 then row_rrsig
+    else if rtype == 47 then row_nsec
+    else if rtype == 48 then row_dnskey
+    else if rtype == 50 then row_nsec3
+    else if rtype == 51 then row_nsec3param
+    else if rtype == 63 then row_zonemd
+    else row_unknown

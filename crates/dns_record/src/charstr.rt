@@ -10,7 +10,7 @@ ghost use Rattle.dns_wire.specs.Pieces.{whole_presses};
 ghost use Rattle.dns_wire.specs.Reading.{all_of, plain_at};
 ghost use Rattle.dns_record.specs.CharStrs.{charstr_wire, octets_of, same_charstr};
 ghost use Rattle.dns_record.specs.CharStrHashing.{charstr_writes, same_charstrs_alike};
-ghost use Rattle.dns_record.specs.Kinds.{text};
+ghost use Rattle.dns_record.specs.Texts.{text};
 
 use crate::charstr_buf::CharStrBuf;
 use dns_wire::{

@@ -9,7 +9,7 @@ ghost use Rattle.dns_wire.specs.Pieces.{whole_presses};
 ghost use Rattle.dns_wire.specs.Reading.{plain_at};
 ghost use Rattle.dns_record.specs.CharStrs.{IsShort, charstr_wire, octets_of, same_charstr};
 ghost use Rattle.dns_record.specs.CharStrTexts.{charstr_of};
-ghost use Rattle.dns_record.specs.Kinds.{text};
+ghost use Rattle.dns_record.specs.Texts.{text};
 
 use crate::charstr::CharStr;
 use crate::charstr_error::CharStrParseError;

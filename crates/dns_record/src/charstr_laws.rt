@@ -4,7 +4,7 @@ ghost use Rattle.std.specs.Prelude.{◌≡◌, ◌↔◌, ◌++◌, ℕ, List, S
 ghost use Rattle.std.specs.Str.{str_to_ascii_lowercase};
 ghost use Rattle.dns_wire.specs.Reading.{AreOctets};
 ghost use Rattle.dns_record.specs.CharStrs.{IsShort, charstr_wire, same_charstr};
-ghost use Rattle.dns_record.specs.Kinds.{text};
+ghost use Rattle.dns_record.specs.Texts.{text};
 
 /// A string is read exactly where it stands on the wire: the number of its octets, which is at most 255, and
 /// just these octets (RFC 1035 section 3.3). Two strings are the same exactly where they are so octet by

@@ -1,8 +1,8 @@
 //! The definitions of this crate in other words.
 
-ghost use Rattle.std.specs.Prelude.{◌≡◌, ◌↔◌, ℕ, List, Some};
+ghost use Rattle.std.specs.Prelude.{◌≡◌, ◌↔◌, ◌<◌, ◌+◌, ◌^◌, ℕ, List, Some, length};
 ghost use Rattle.dns_wire.specs.Pointers.{name_at};
-ghost use Rattle.dns_record.specs.Fields.{Field};
+ghost use Rattle.dns_record.specs.Fields.{Field, fields_octets};
 ghost use Rattle.dns_record.specs.InPlace.{FieldsAt, DataAt, QuestionAt, RecordAt};
 ghost use Rattle.dns_record.specs.Kinds.{Kind, fields_in, named_in};
 ghost use Rattle.dns_record.specs.Data.{data_in};
@@ -21,4 +21,12 @@ pub fn items_in_words()
         (question_in name_at contents at ≡ Some (question, end)) ↔ QuestionAt contents at question end }
     ensures whole { (contents : List ℕ) (at : ℕ) (found : RecordOf (List (List ℕ)) (List Field)) (end : ℕ) →
         (record_in name_at (data_in (named_in (λ labels. labels) name_at)) contents at ≡ Some (found, end)) ↔ RecordAt contents at found end }
+{}
+
+/// Data that stand in fewer than 65,536 octets have fewer than 65,536 octets when their names are written
+/// whole. So a record that was read can be written again without pointers (RFC 4034 section 6.2).
+#[tactic(auto, using(crate::proofs::Sizes::data_short_at))]
+pub fn whole_data_are_short()
+    ensures { (rtype : ℕ) (contents : List ℕ) (at : ℕ) (fields : List Field) → length contents < at + 2 ^ 16 →
+        DataAt rtype contents at fields → length (fields_octets fields) < 2 ^ 16 }
 {}

@@ -24,7 +24,7 @@ pub use charstr::CharStr;
 pub use charstr_buf::CharStrBuf;
 pub use charstr_error::CharStrParseError;
 pub use charstr_laws::character_strings;
-pub use laws::items_in_words;
+pub use laws::{items_in_words, whole_data_are_short};
 pub use qclass::QClass;
 pub use qtype::QType;
 pub use question::Question;

@@ -127,6 +127,7 @@ impl<'a, N: SplitBytes<'a>, D: ParseRecordDataBytes<'a>> SplitBytes<'a> for Reco
         ensures exact { Gives (λ x. (record_seen N.seen D.seen x.0, x.1.now)) result (record_at N.reads D.reads_as bytes.now) }
         ensures within { IfOk result (λ x. length x.1.now ≤ length bytes.now) }
         ensures sized { IfOk result (λ x. SizedData D.reads_as (D.seen x.0.rdata) x.0.rtype.code.value) }
+        ensures typed { IfOk result (λ x. D.is_of x.0.rdata x.0.rtype.code.value) }
     {
         let (rname, rest) = N::split_bytes(bytes)?;
         let (rtype, rest) = RType::split_bytes(rest)?;
@@ -169,6 +170,7 @@ impl<'a, N: SplitMessageBytes<'a>, D: ParseRecordData<'a>> SplitMessageBytes<'a>
         ensures exact { Gives (λ x. (record_seen N.seen D.seen x.0, x.1)) result (record_in N.reads_at D.reads_in contents.now start) }
         ensures within { IfOk result (λ x. (start ≤ x.1) × (x.1 ≤ length contents.now)) }
         ensures sized { IfOk result (λ x. SizedDataIn D.reads_in contents.now (D.seen x.0.rdata) x.0.rtype.code.value x.1) }
+        ensures typed { IfOk result (λ x. D.is_of x.0.rdata x.0.rtype.code.value) }
     {
         let (rname, at) = N::split_message_bytes(contents, start)?;
         let (rtype, at) = RType::split_message_bytes(contents, at)?;

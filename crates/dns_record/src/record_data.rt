@@ -1,6 +1,6 @@
 //! Data of records, whose grammar depends on the type.
 
-ghost use Rattle.std.specs.Prelude.{◌≡◌, ℕ, List, Option};
+ghost use Rattle.std.specs.Prelude.{◌≡◌, ℕ, List, Option, IfOk};
 ghost use Rattle.dns_wire.specs.Reading.{Gives};
 
 use crate::rtype::RType;
@@ -20,10 +20,14 @@ pub trait ParseRecordDataBytes<'a>: Sized + Drop {
     /// contents.
     ghost reads_in: { ℕ → List ℕ → ℕ → Option Seen };
 
+    /// Whether the value is data of the type with this number.
+    ghost is_of: { Self → ℕ → Type 0 };
+
     /// Reads the data that all the octets spell. `ParseError` comes exactly where they spell none of this
     /// type.
     fn parse_record_data_bytes(bytes: &'a [u8], rtype: RType) -> Result<Self, ParseError>
-        ensures { Gives seen result (reads_as rtype.code.value bytes.now) };
+        ensures exact { Gives seen result (reads_as rtype.code.value bytes.now) }
+        ensures typed { IfOk result (λ v. is_of v rtype.code.value) };
 }
 
 /// Data that are read in a message, whose contents may be pointed to.
@@ -31,5 +35,6 @@ pub trait ParseRecordData<'a>: ParseRecordDataBytes<'a> {
     /// Reads the data that stand from the place to the end of the contents. `ParseError` comes exactly
     /// where none of this type do.
     fn parse_record_data(contents: &'a [u8], start: usize, rtype: RType) -> Result<Self, ParseError>
-        ensures { Gives Self.seen result (Self.reads_in rtype.code.value contents.now start) };
+        ensures exact { Gives Self.seen result (Self.reads_in rtype.code.value contents.now start) }
+        ensures typed { IfOk result (λ v. Self.is_of v rtype.code.value) };
 }

@@ -2,7 +2,7 @@
 
 use crate::{
     CanonicalRecordData, ParseRecordData, ParseRecordDataBytes, QClass, QType, Question, RClass,
-    RType, Record, Serial, TTL, UnparsedRecordData, items_in_words,
+    RType, Record, Serial, TTL, UnparsedRecordData, items_in_words, whole_data_are_short,
 };
 use dns_num::{U16, U32};
 use dns_wire::{
@@ -143,6 +143,7 @@ fn questions_of_any_name(rt: HostRuntime) -> Result<(), Fail> {
     let named = question.transform(|name| (name, name));
     assert_eq!(rt; named, Question::new((b'n', b'n'), QType::A, QClass::CH));
     items_in_words();
+    whole_data_are_short();
     Ok(())
 }
 

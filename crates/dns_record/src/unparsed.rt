@@ -42,6 +42,8 @@ impl<'a> ParseRecordDataBytes<'a> for UnparsedRecordData<'a> {
 
     ghost reads_in = { λ _ contents at. few_in contents at };
 
+    ghost is_of = { λ _ _. ⊤ };
+
     fn parse_record_data_bytes(
         bytes: &'a [u8],
         _rtype: RType,

@@ -4,7 +4,7 @@ use Rattle.std.proofs.lemmas.Option.{some_pair_parts}
 use Rattle.dns_wire.specs.Reading.{AreOctets}
 use Rattle.dns_wire.proofs.Spelled.{chosen}
 use Rattle.dns_record.specs.CharStrs.{IsShort}
-use Rattle.dns_record.specs.Kinds.{text}
+use Rattle.dns_record.specs.Texts.{text}
 use Rattle.dns_record.proofs.charstr_laws.character_strings.Goals as goal
 
 -- the length octet says at most 255
