@@ -1,0 +1,3 @@
+-- What the contracts of data with names that may be compressed cite.
+pub mod Calls
+pub mod Types

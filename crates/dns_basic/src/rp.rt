@@ -1,0 +1,173 @@
+//! Responsible persons.
+
+ghost use Rattle.std.specs.Prelude.{◌≡◌, ◌≤◌, ◌<◌, ◌^◌, ℕ, List, [], ◌∷◌, ◌++◌, length, map, Option, IfOk, ⊤};
+ghost use Rattle.std.specs.Fn.{CalledAt, TakesAt};
+ghost use Rattle.dns_wire.specs.Reading.{Gives, all_of, all_at};
+ghost use Rattle.dns_record.specs.Canonical.{ranked_cmp};
+ghost use Rattle.dns_record.specs.Data.{of_type};
+ghost use Rattle.dns_record.specs.Fields.{Field, fields_octets, folded_field};
+ghost use Rattle.dns_record.specs.Kinds.{fields_of, fields_in, named, named_in};
+ghost use Rattle.dns_record.specs.Rows.{row_rp};
+ghost use Rattle.dns_basic.specs.Calls.{TakesNextAt};
+ghost use Rattle.dns_basic.specs.Types.{rp_fields};
+
+use dns_name::{CanonicalName, Lowercased};
+use dns_record::{CanonicalRecordData, ParseRecordData, ParseRecordDataBytes, RType};
+use dns_wire::{
+    BuildBytes, ParseBytes, ParseError, ParseMessageBytes, SplitBytes, SplitMessageBytes,
+    TruncationError,
+};
+use std::cmp::Ordering;
+
+/// Who is responsible for the owner (RFC 1183 section 2.2).
+#[derive(Clone, Copy, Debug, PartialEq, Eq, Hash, Drop)]
+pub struct Rp<N> {
+    /// The mailbox, as a name: its first label is what stands before the `@`.
+    pub mailbox: N,
+    /// The owner of TXT records about the person, and the root where there are none.
+    pub texts: N,
+}
+
+impl<N> Rp<N> {
+    /// The data with what the function makes of the names, called on them in this order.
+    pub fn map_names<R, F: FnMut(N) -> R>(self, mut f: F) -> Rp<R>
+        requires first { F.pre f self.mailbox }
+        requires second { (r : R) (between : F) → F.step f self.mailbox r between → F.pre between self.texts }
+        ensures names { (between : F) × (last : F) × F.step f self.mailbox result.mailbox between × F.step between self.texts result.texts last }
+    {
+        let mailbox = f(self.mailbox);
+        let texts = f(self.texts);
+        Rp { mailbox, texts }
+    }
+
+    /// The data with what the function makes of references to the names, called on them in this order.
+    pub fn map_names_by_ref<'r, R, F: FnMut(&'r N) -> R>(&'r self, mut f: F) -> Rp<R>
+        requires first { TakesAt F.FnMut f self.now.mailbox }
+        requires second { TakesNextAt F.FnMut f self.now.mailbox self.now.texts }
+        ensures names { (between : F) × (last : F) × CalledAt F.FnMut f self.now.mailbox result.mailbox between × CalledAt F.FnMut between self.now.texts result.texts last }
+    {
+        let mailbox = f(&self.mailbox);
+        let texts = f(&self.texts);
+        Rp { mailbox, texts }
+    }
+}
+
+impl<'a, N: SplitBytes<'a>> ParseBytes<'a> for Rp<N> {
+    ghost Seen = { List Field };
+
+    ghost seen = { rp_fields (λ n. N.labels (N.seen n)) };
+
+    ghost reads = { fields_of (named N.labels N.reads) row_rp };
+
+    ghost reads_at = { fields_in (named_in N.labels N.reads_at) row_rp };
+
+    ghost labels = { λ _. [] };
+
+    fn parse_bytes(bytes: &'a [u8]) -> Result<Rp<N>, ParseError> {
+        let (value, rest) = Rp::split_bytes(bytes)?;
+        if rest.is_empty() {
+            Ok(value)
+        } else {
+            Err(ParseError)
+        }
+    }
+}
+
+impl<'a, N: SplitBytes<'a>> SplitBytes<'a> for Rp<N> {
+    fn split_bytes(bytes: &'a [u8]) -> Result<(Rp<N>, &'a [u8]), ParseError> {
+        let (mailbox, rest) = N::split_bytes(bytes)?;
+        let (texts, rest) = N::split_bytes(rest)?;
+        let value = Rp { mailbox, texts };
+        Ok((value, rest))
+    }
+}
+
+impl<'a, N: SplitMessageBytes<'a>> ParseMessageBytes<'a> for Rp<N> {
+    fn parse_message_bytes(contents: &'a [u8], start: usize) -> Result<Rp<N>, ParseError> {
+        let (value, end) = Rp::split_message_bytes(contents, start)?;
+        if end == contents.len() {
+            Ok(value)
+        } else {
+            Err(ParseError)
+        }
+    }
+}
+
+impl<'a, N: SplitMessageBytes<'a>> SplitMessageBytes<'a> for Rp<N> {
+    fn split_message_bytes(contents: &'a [u8], start: usize) -> Result<(Rp<N>, usize), ParseError> {
+        let (mailbox, at) = N::split_message_bytes(contents, start)?;
+        let (texts, end) = N::split_message_bytes(contents, at)?;
+        let value = Rp { mailbox, texts };
+        Ok((value, end))
+    }
+}
+
+/// Any other type's number is `ParseError`.
+impl<'a, N: SplitBytes<'a>> ParseRecordDataBytes<'a> for Rp<N> {
+    ghost Seen = { List Field };
+
+    ghost seen = { rp_fields (λ n. N.labels (N.seen n)) };
+
+    ghost reads_as = { λ rtype bytes. of_type 17 rtype (all_of (fields_of (named N.labels N.reads) row_rp bytes)) };
+
+    ghost reads_in = { λ rtype contents at. of_type 17 rtype (all_at contents (fields_in (named_in N.labels N.reads_at) row_rp contents at)) };
+
+    ghost is_of = { λ _ rtype. rtype ≡ 17 };
+
+    fn parse_record_data_bytes(bytes: &'a [u8], rtype: RType) -> Result<Rp<N>, ParseError> {
+        match rtype.code.value {
+            17 => Rp::parse_bytes(bytes),
+            _ => Err(ParseError),
+        }
+    }
+}
+
+impl<'a, N: SplitMessageBytes<'a>> ParseRecordData<'a> for Rp<N> {
+    fn parse_record_data(
+        contents: &'a [u8],
+        start: usize,
+        rtype: RType,
+    ) -> Result<Rp<N>, ParseError> {
+        match rtype.code.value {
+            17 => Rp::parse_message_bytes(contents, start),
+            _ => Err(ParseError),
+        }
+    }
+}
+
+impl<N: BuildBytes> BuildBytes for Rp<N> {
+    ghost octets = { λ v. N.octets v.mailbox ++ N.octets v.texts };
+
+    ghost fits = { λ v. N.fits v.mailbox × N.fits v.texts };
+
+    fn build_at(&self, bytes: &mut [u8], start: usize) -> Result<usize, TruncationError> {
+        (&self.mailbox, &self.texts).build_at(bytes, start)
+    }
+
+    fn built_bytes_size(&self) -> usize {
+        self.mailbox.built_bytes_size() + self.texts.built_bytes_size()
+    }
+}
+
+/// The fields in order, the names in small letters.
+impl<N: CanonicalName> CanonicalRecordData for Rp<N> {
+    ghost canonical = { λ v. fields_octets (map folded_field (rp_fields N.name v)) };
+
+    ghost rank = { λ _. 0 };
+
+    ghost is_proper = { λ _. ⊤ };
+
+    fn build_canonical_at(&self, bytes: &mut [u8], start: usize) -> Result<usize, TruncationError> {
+        let mailbox = Lowercased {
+            name: &self.mailbox,
+        };
+        let texts = Lowercased { name: &self.texts };
+        (mailbox, (texts, ())).build_at(bytes, start)
+    }
+
+    fn cmp_canonical(&self, other: &Self) -> Ordering {
+        let mailbox = self.mailbox.cmp_lowercase_composed(&other.mailbox);
+        let texts = self.texts.cmp_lowercase_composed(&other.texts);
+        mailbox.then(texts)
+    }
+}

@@ -1,0 +1,240 @@
+//! Starts of zones.
+
+ghost use Rattle.std.specs.Prelude.{◌≡◌, ◌≤◌, ◌<◌, ◌^◌, ℕ, List, [], ◌∷◌, ◌++◌, length, map, Option, IfOk, ⊤};
+ghost use Rattle.std.specs.Int.{w32, to_be_bytes};
+ghost use Rattle.std.specs.Fn.{CalledAt, TakesAt};
+ghost use Rattle.dns_wire.specs.Reading.{Gives, all_of, all_at};
+ghost use Rattle.dns_record.specs.Canonical.{ranked_cmp};
+ghost use Rattle.dns_record.specs.Data.{of_type};
+ghost use Rattle.dns_record.specs.Fields.{Field, fields_octets, folded_field};
+ghost use Rattle.dns_record.specs.Kinds.{fields_of, fields_in, named, named_in};
+ghost use Rattle.dns_record.specs.Rows.{row_soa};
+ghost use Rattle.dns_basic.specs.Calls.{TakesNextAt};
+ghost use Rattle.dns_basic.specs.Types.{soa_fields};
+
+use dns_name::{CanonicalName, Lowercased};
+use dns_num::U32;
+use dns_record::{CanonicalRecordData, ParseRecordData, ParseRecordDataBytes, RType, Serial};
+use dns_wire::{
+    BuildBytes, ParseBytes, ParseError, ParseMessageBytes, SplitBytes, SplitMessageBytes,
+    TruncationError,
+};
+use std::cmp::Ordering;
+
+/// What a zone is, and how its secondaries keep up with it (RFC 1035 section 3.3.13).
+#[derive(Clone, Copy, Debug, PartialEq, Eq, Hash, Drop)]
+pub struct Soa<N> {
+    /// The server from which the others have the zone.
+    pub mname: N,
+    /// The mailbox of who is responsible, as a name: its first label is what stands before the `@`.
+    pub rname: N,
+    /// The version of the zone, which rises with each change (RFC 1982).
+    pub serial: Serial,
+    /// After how many seconds a secondary asks again.
+    pub refresh: U32,
+    /// After how many seconds it does where that failed.
+    pub retry: U32,
+    /// After how many seconds it gives the zone up.
+    pub expire: U32,
+    /// For how many seconds a negative answer may be kept (RFC 2308 section 4).
+    pub minimum: U32,
+}
+
+impl<N> Soa<N> {
+    /// The data with what the function makes of the names, called on them in this order.
+    pub fn map_names<R, F: FnMut(N) -> R>(self, mut f: F) -> Soa<R>
+        requires first { F.pre f self.mname }
+        requires second { (r : R) (between : F) → F.step f self.mname r between → F.pre between self.rname }
+        ensures names { (between : F) × (last : F) × F.step f self.mname result.mname between × F.step between self.rname result.rname last }
+        ensures kept { (result.serial ≡ self.serial) × (result.refresh ≡ self.refresh) × (result.retry ≡ self.retry) × (result.expire ≡ self.expire) × (result.minimum ≡ self.minimum) }
+    {
+        let mname = f(self.mname);
+        let rname = f(self.rname);
+        Soa {
+            mname,
+            rname,
+            serial: self.serial,
+            refresh: self.refresh,
+            retry: self.retry,
+            expire: self.expire,
+            minimum: self.minimum,
+        }
+    }
+
+    /// The data with what the function makes of references to the names, called on them in this order.
+    pub fn map_names_by_ref<'r, R, F: FnMut(&'r N) -> R>(&'r self, mut f: F) -> Soa<R>
+        requires first { TakesAt F.FnMut f self.now.mname }
+        requires second { TakesNextAt F.FnMut f self.now.mname self.now.rname }
+        ensures names { (between : F) × (last : F) × CalledAt F.FnMut f self.now.mname result.mname between × CalledAt F.FnMut between self.now.rname result.rname last }
+        ensures kept { (result.serial ≡ self.now.serial) × (result.refresh ≡ self.now.refresh) × (result.retry ≡ self.now.retry) × (result.expire ≡ self.now.expire) × (result.minimum ≡ self.now.minimum) }
+    {
+        let mname = f(&self.mname);
+        let rname = f(&self.rname);
+        Soa {
+            mname,
+            rname,
+            serial: self.serial,
+            refresh: self.refresh,
+            retry: self.retry,
+            expire: self.expire,
+            minimum: self.minimum,
+        }
+    }
+}
+
+impl<'a, N: SplitBytes<'a>> ParseBytes<'a> for Soa<N> {
+    ghost Seen = { List Field };
+
+    ghost seen = { soa_fields (λ n. N.labels (N.seen n)) };
+
+    ghost reads = { fields_of (named N.labels N.reads) row_soa };
+
+    ghost reads_at = { fields_in (named_in N.labels N.reads_at) row_soa };
+
+    ghost labels = { λ _. [] };
+
+    fn parse_bytes(bytes: &'a [u8]) -> Result<Soa<N>, ParseError> {
+        let (value, rest) = Soa::split_bytes(bytes)?;
+        if rest.is_empty() {
+            Ok(value)
+        } else {
+            Err(ParseError)
+        }
+    }
+}
+
+impl<'a, N: SplitBytes<'a>> SplitBytes<'a> for Soa<N> {
+    fn split_bytes(bytes: &'a [u8]) -> Result<(Soa<N>, &'a [u8]), ParseError> {
+        let (mname, rest) = N::split_bytes(bytes)?;
+        let (rname, rest) = N::split_bytes(rest)?;
+        let (serial, rest) = Serial::split_bytes(rest)?;
+        let (refresh, rest) = U32::split_bytes(rest)?;
+        let (retry, rest) = U32::split_bytes(rest)?;
+        let (expire, rest) = U32::split_bytes(rest)?;
+        let (minimum, rest) = U32::split_bytes(rest)?;
+        let value = Soa {
+            mname,
+            rname,
+            serial,
+            refresh,
+            retry,
+            expire,
+            minimum,
+        };
+        Ok((value, rest))
+    }
+}
+
+impl<'a, N: SplitMessageBytes<'a>> ParseMessageBytes<'a> for Soa<N> {
+    fn parse_message_bytes(contents: &'a [u8], start: usize) -> Result<Soa<N>, ParseError> {
+        let (value, end) = Soa::split_message_bytes(contents, start)?;
+        if end == contents.len() {
+            Ok(value)
+        } else {
+            Err(ParseError)
+        }
+    }
+}
+
+impl<'a, N: SplitMessageBytes<'a>> SplitMessageBytes<'a> for Soa<N> {
+    fn split_message_bytes(
+        contents: &'a [u8],
+        start: usize,
+    ) -> Result<(Soa<N>, usize), ParseError> {
+        let (mname, at) = N::split_message_bytes(contents, start)?;
+        let (rname, at) = N::split_message_bytes(contents, at)?;
+        let (serial, at) = Serial::split_message_bytes(contents, at)?;
+        let (refresh, at) = U32::split_message_bytes(contents, at)?;
+        let (retry, at) = U32::split_message_bytes(contents, at)?;
+        let (expire, at) = U32::split_message_bytes(contents, at)?;
+        let (minimum, end) = U32::split_message_bytes(contents, at)?;
+        let value = Soa {
+            mname,
+            rname,
+            serial,
+            refresh,
+            retry,
+            expire,
+            minimum,
+        };
+        Ok((value, end))
+    }
+}
+
+/// Any other type's number is `ParseError`.
+impl<'a, N: SplitBytes<'a>> ParseRecordDataBytes<'a> for Soa<N> {
+    ghost Seen = { List Field };
+
+    ghost seen = { soa_fields (λ n. N.labels (N.seen n)) };
+
+    ghost reads_as = { λ rtype bytes. of_type 6 rtype (all_of (fields_of (named N.labels N.reads) row_soa bytes)) };
+
+    ghost reads_in = { λ rtype contents at. of_type 6 rtype (all_at contents (fields_in (named_in N.labels N.reads_at) row_soa contents at)) };
+
+    ghost is_of = { λ _ rtype. rtype ≡ 6 };
+
+    fn parse_record_data_bytes(bytes: &'a [u8], rtype: RType) -> Result<Soa<N>, ParseError> {
+        match rtype.code.value {
+            6 => Soa::parse_bytes(bytes),
+            _ => Err(ParseError),
+        }
+    }
+}
+
+impl<'a, N: SplitMessageBytes<'a>> ParseRecordData<'a> for Soa<N> {
+    fn parse_record_data(
+        contents: &'a [u8],
+        start: usize,
+        rtype: RType,
+    ) -> Result<Soa<N>, ParseError> {
+        match rtype.code.value {
+            6 => Soa::parse_message_bytes(contents, start),
+            _ => Err(ParseError),
+        }
+    }
+}
+
+impl<N: BuildBytes> BuildBytes for Soa<N> {
+    ghost octets = { λ v. N.octets v.mname ++ (N.octets v.rname ++ (to_be_bytes w32 v.serial.0.value ++ (to_be_bytes w32 v.refresh.value ++ (to_be_bytes w32 v.retry.value ++ (to_be_bytes w32 v.expire.value ++ to_be_bytes w32 v.minimum.value))))) };
+
+    ghost fits = { λ v. N.fits v.mname × N.fits v.rname };
+
+    fn build_at(&self, bytes: &mut [u8], start: usize) -> Result<usize, TruncationError> {
+        let limits = (&self.expire, &self.minimum);
+        let numbers = (&self.serial, (&self.refresh, (&self.retry, limits)));
+        (&self.mname, (&self.rname, numbers)).build_at(bytes, start)
+    }
+
+    fn built_bytes_size(&self) -> usize {
+        self.mname.built_bytes_size() + self.rname.built_bytes_size() + 20
+    }
+}
+
+/// The fields in order, the names in small letters.
+impl<N: CanonicalName> CanonicalRecordData for Soa<N> {
+    ghost canonical = { λ v. fields_octets (map folded_field (soa_fields N.name v)) };
+
+    ghost rank = { λ _. 0 };
+
+    ghost is_proper = { λ _. ⊤ };
+
+    fn build_canonical_at(&self, bytes: &mut [u8], start: usize) -> Result<usize, TruncationError> {
+        let mname = Lowercased { name: &self.mname };
+        let rname = Lowercased { name: &self.rname };
+        let limits = (&self.expire, (&self.minimum, ()));
+        let numbers = (&self.serial, (&self.refresh, (&self.retry, limits)));
+        (mname, (rname, numbers)).build_at(bytes, start)
+    }
+
+    fn cmp_canonical(&self, other: &Self) -> Ordering {
+        let mname = self.mname.cmp_lowercase_composed(&other.mname);
+        let rname = self.rname.cmp_lowercase_composed(&other.rname);
+        let serial = self.serial.0.compare(&other.serial.0);
+        let refresh = self.refresh.compare(&other.refresh);
+        let retry = self.retry.compare(&other.retry);
+        let expire = self.expire.compare(&other.expire);
+        let minimum = self.minimum.compare(&other.minimum);
+        let numbers = serial.then(refresh.then(retry.then(expire.then(minimum))));
+        mname.then(rname.then(numbers))
+    }
+}
