@@ -1,0 +1,31 @@
+-- The fields of the data of each type.
+use Rattle.std.specs.Prelude.{ℕ, List, [], ◌∷◌}
+use Rattle.std.specs.Int.{w16}
+use Rattle.dns_wire.specs.Names.{labels_of}
+use Rattle.dns_record.specs.CharStrs.{octets_of}
+use Rattle.dns_record.specs.Fields.{Field}
+use Rattle.dns_record.specs.Fields.Field.{Named, Raw, Sized, Number}
+use Rattle.dns_plain.specs.declared.a.A.{A}
+use Rattle.dns_plain.specs.declared.hinfo.HInfo.{HInfo}
+use Rattle.dns_plain.specs.declared.srv.Srv.{Srv}
+use Rattle.dns_plain.specs.declared.aaaa.Aaaa.{Aaaa}
+use Rattle.dns_plain.specs.declared.dname.DName.{DName}
+
+abbrev pub a_fields : A → List Field
+a_fields v = Raw v.octets ∷ []
+
+abbrev pub hinfo_fields : HInfo → List Field
+hinfo_fields v = Sized (octets_of v.cpu.slice.now) ∷ Sized (octets_of v.os.slice.now) ∷ []
+
+-- of the octets of the strings
+abbrev pub txt_fields : List ℕ → List Field
+txt_fields octets = Raw octets ∷ []
+
+abbrev pub srv_fields : Srv → List Field
+srv_fields v = Number w16 v.priority.value ∷ Number w16 v.weight.value ∷ Number w16 v.port.value ∷ Named (labels_of v.name.slice.now) ∷ []
+
+abbrev pub aaaa_fields : Aaaa → List Field
+aaaa_fields v = Raw v.octets ∷ []
+
+abbrev pub dname_fields : DName → List Field
+dname_fields v = Named (labels_of v.name.slice.now) ∷ []

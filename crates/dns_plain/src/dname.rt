@@ -1,0 +1,168 @@
+//! Redirected subtrees.
+
+ghost use Rattle.std.specs.Prelude.{◌≡◌, ◌≤◌, ◌<◌, ◌^◌, ℕ, List, [], ◌∷◌, length, map, take, Option, Some, IfOk, ⊤};
+ghost use Rattle.dns_wire.specs.Building.{Builds};
+ghost use Rattle.dns_wire.specs.Compression.{FitsIn};
+ghost use Rattle.dns_wire.specs.InMessage.{BuildsIn};
+ghost use Rattle.dns_wire.specs.Pieces.{whole_presses};
+ghost use Rattle.dns_wire.specs.Reading.{Gives, all_of, all_at};
+ghost use Rattle.dns_record.specs.Canonical.{ranked_cmp};
+ghost use Rattle.dns_record.specs.Data.{of_type};
+ghost use Rattle.dns_record.specs.Fields.{Field, fields_octets, folded_field};
+ghost use Rattle.dns_record.specs.Kinds.{fields_of, fields_in, no_name, no_name_in};
+ghost use Rattle.dns_record.specs.Rows.{row_dname};
+ghost use Rattle.dns_record.specs.Whole.{whole_pieces, told_whole};
+ghost use Rattle.dns_plain.specs.Types.{dname_fields};
+
+use dns_name::{CanonicalName, Lowercased, Name};
+use dns_record::{CanonicalRecordData, ParseRecordData, ParseRecordDataBytes, RType};
+use dns_wire::{
+    BuildBytes, BuildInMessage, NameCompressor, ParseBytes, ParseError, ParseMessageBytes,
+    SplitBytes, SplitMessageBytes, TruncationError, build_whole, parse_without_compression,
+    split_without_compression,
+};
+use std::cmp::Ordering;
+
+/// The name under which what stands below the owner stands (RFC 6672 section 2.1).
+#[derive(Clone, Copy, Debug, PartialEq, Eq, PartialOrd, Ord, Hash)]
+pub struct DName<'a> {
+    /// The target, whose name is never compressed.
+    pub name: Name<'a>,
+}
+
+impl<'a> DName<'a> {
+    /// The data that lead to this name (RFC 6672 section 2.1).
+    pub fn new(target: Name<'a>) -> DName<'a>
+        ensures { result.name ≡ target.entry }
+    {
+        DName { name: target }
+    }
+}
+
+impl<'a> ParseBytes<'a> for DName<'a> {
+    ghost Seen = { List Field };
+
+    ghost seen = { dname_fields };
+
+    ghost reads = { fields_of no_name row_dname };
+
+    ghost reads_at = { fields_in no_name_in row_dname };
+
+    ghost labels = { λ _. [] };
+
+    fn parse_bytes(bytes: &'a [u8]) -> Result<DName<'a>, ParseError> {
+        let (value, rest) = DName::split_bytes(bytes)?;
+        if rest.is_empty() {
+            Ok(value)
+        } else {
+            Err(ParseError)
+        }
+    }
+}
+
+impl<'a> SplitBytes<'a> for DName<'a> {
+    fn split_bytes(bytes: &'a [u8]) -> Result<(DName<'a>, &'a [u8]), ParseError> {
+        let (name, rest) = Name::split_bytes(bytes)?;
+        let value = DName { name };
+        Ok((value, rest))
+    }
+}
+
+impl<'a> ParseMessageBytes<'a> for DName<'a> {
+    fn parse_message_bytes(contents: &'a [u8], start: usize) -> Result<DName<'a>, ParseError> {
+        parse_without_compression(contents, start)
+    }
+}
+
+impl<'a> SplitMessageBytes<'a> for DName<'a> {
+    fn split_message_bytes(
+        contents: &'a [u8],
+        start: usize,
+    ) -> Result<(DName<'a>, usize), ParseError> {
+        split_without_compression(contents, start)
+    }
+}
+
+/// Any other type's number is `ParseError`.
+impl<'a> ParseRecordDataBytes<'a> for DName<'a> {
+    ghost Seen = { List Field };
+
+    ghost seen = { dname_fields };
+
+    ghost reads_as = { λ rtype bytes. of_type 39 rtype (all_of (fields_of no_name row_dname bytes)) };
+
+    ghost reads_in = { λ rtype contents at. of_type 39 rtype (all_at contents (fields_in no_name_in row_dname contents at)) };
+
+    ghost is_of = { λ _ rtype. rtype ≡ 39 };
+
+    fn parse_record_data_bytes(bytes: &'a [u8], rtype: RType) -> Result<DName<'a>, ParseError> {
+        match rtype.code.value {
+            39 => DName::parse_bytes(bytes),
+            _ => Err(ParseError),
+        }
+    }
+}
+
+impl<'a> ParseRecordData<'a> for DName<'a> {
+    fn parse_record_data(
+        contents: &'a [u8],
+        start: usize,
+        rtype: RType,
+    ) -> Result<DName<'a>, ParseError> {
+        match rtype.code.value {
+            39 => DName::parse_message_bytes(contents, start),
+            _ => Err(ParseError),
+        }
+    }
+}
+
+impl BuildBytes for DName<'_> {
+    ghost octets = { λ v. fields_octets (dname_fields v) };
+
+    ghost fits = { λ _. ⊤ };
+
+    fn build_at(&self, bytes: &mut [u8], start: usize) -> Result<usize, TruncationError> {
+        (&self.name, ()).build_at(bytes, start)
+    }
+
+    fn built_bytes_size(&self) -> usize {
+        self.name.built_bytes_size()
+    }
+}
+
+/// Whole, a piece for each field.
+impl BuildInMessage for DName<'_> {
+    ghost presses = { λ v. whole_presses (fields_octets (dname_fields v)) };
+
+    ghost fits_in = { λ _ _ _. ⊤ };
+
+    ghost pieces = { λ v. Some (whole_pieces (dname_fields v)) };
+
+    ghost told = { λ v. told_whole (dname_fields v) };
+
+    fn build_in_message(
+        &self,
+        contents: &mut [u8],
+        start: usize,
+        compressor: &mut NameCompressor,
+    ) -> Result<usize, TruncationError> {
+        build_whole(self, contents, start, compressor)
+    }
+}
+
+impl CanonicalRecordData for DName<'_> {
+    ghost canonical = { λ v. fields_octets (map folded_field (dname_fields v)) };
+
+    ghost rank = { λ _. 0 };
+
+    ghost is_proper = { λ _. ⊤ };
+
+    fn build_canonical_at(&self, bytes: &mut [u8], start: usize) -> Result<usize, TruncationError> {
+        let name = Lowercased { name: &self.name };
+        (name, ()).build_at(bytes, start)
+    }
+
+    fn cmp_canonical(&self, other: &Self) -> Ordering {
+        self.name.cmp_lowercase_composed(&other.name)
+    }
+}

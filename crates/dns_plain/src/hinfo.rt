@@ -1,0 +1,174 @@
+//! Hosts.
+
+ghost use Rattle.std.specs.Prelude.{◌≡◌, ◌≤◌, ◌<◌, ◌^◌, ℕ, List, [], ◌∷◌, length, map, take, Option, Some, IfOk, ⊤};
+ghost use Rattle.std.specs.Ordering.{nat_cmp, ordering_then};
+ghost use Rattle.std.specs.Cmp.Lexicographic.{slice_cmp};
+ghost use Rattle.dns_wire.specs.Building.{Builds};
+ghost use Rattle.dns_wire.specs.Compression.{FitsIn};
+ghost use Rattle.dns_wire.specs.InMessage.{BuildsIn};
+ghost use Rattle.dns_wire.specs.Pieces.{whole_presses};
+ghost use Rattle.dns_wire.specs.Reading.{Gives, all_of, all_at};
+ghost use Rattle.dns_record.specs.Canonical.{ranked_cmp};
+ghost use Rattle.dns_record.specs.CharStrs.{octets_of};
+ghost use Rattle.dns_record.specs.Data.{of_type};
+ghost use Rattle.dns_record.specs.Fields.{Field, fields_octets};
+ghost use Rattle.dns_record.specs.Kinds.{fields_of, fields_in, no_name, no_name_in};
+ghost use Rattle.dns_record.specs.Rows.{row_hinfo};
+ghost use Rattle.dns_record.specs.Whole.{whole_pieces, told_whole};
+ghost use Rattle.dns_plain.specs.Types.{hinfo_fields};
+
+use dns_record::{CanonicalRecordData, CharStr, ParseRecordData, ParseRecordDataBytes, RType};
+use dns_wire::{
+    BuildBytes, BuildInMessage, NameCompressor, ParseBytes, ParseError, ParseMessageBytes,
+    SplitBytes, SplitMessageBytes, TruncationError, build_whole, parse_without_compression,
+    split_without_compression,
+};
+use std::cmp::Ordering;
+
+/// The order of two strings as they stand on the wire: the shorter comes first.
+fn compare_strings(a: &CharStr<'_>, b: &CharStr<'_>) -> Ordering
+    ensures { result ≡ ordering_then (nat_cmp (length (octets_of a.now.slice.now)) (length (octets_of b.now.slice.now)))
+        (slice_cmp nat_cmp (octets_of a.now.slice.now) (octets_of b.now.slice.now)) }
+{
+    let sizes = a.len().cmp(&b.len());
+    sizes.then(a.octets().cmp(b.octets()))
+}
+
+/// The processor and the system of a host (RFC 1035 section 3.3.2).
+#[derive(Clone, Copy, Debug, PartialEq, Eq, Hash)]
+pub struct HInfo<'a> {
+    /// The processor, of at most 255 octets.
+    pub cpu: CharStr<'a>,
+    /// The operating system, of at most 255 octets.
+    pub os: CharStr<'a>,
+}
+
+impl<'a> ParseBytes<'a> for HInfo<'a> {
+    ghost Seen = { List Field };
+
+    ghost seen = { hinfo_fields };
+
+    ghost reads = { fields_of no_name row_hinfo };
+
+    ghost reads_at = { fields_in no_name_in row_hinfo };
+
+    ghost labels = { λ _. [] };
+
+    fn parse_bytes(bytes: &'a [u8]) -> Result<HInfo<'a>, ParseError> {
+        let (value, rest) = HInfo::split_bytes(bytes)?;
+        if rest.is_empty() {
+            Ok(value)
+        } else {
+            Err(ParseError)
+        }
+    }
+}
+
+impl<'a> SplitBytes<'a> for HInfo<'a> {
+    fn split_bytes(bytes: &'a [u8]) -> Result<(HInfo<'a>, &'a [u8]), ParseError> {
+        let (cpu, rest) = CharStr::split_bytes(bytes)?;
+        let (os, rest) = CharStr::split_bytes(rest)?;
+        let value = HInfo { cpu, os };
+        Ok((value, rest))
+    }
+}
+
+impl<'a> ParseMessageBytes<'a> for HInfo<'a> {
+    fn parse_message_bytes(contents: &'a [u8], start: usize) -> Result<HInfo<'a>, ParseError> {
+        parse_without_compression(contents, start)
+    }
+}
+
+impl<'a> SplitMessageBytes<'a> for HInfo<'a> {
+    fn split_message_bytes(
+        contents: &'a [u8],
+        start: usize,
+    ) -> Result<(HInfo<'a>, usize), ParseError> {
+        split_without_compression(contents, start)
+    }
+}
+
+/// Any other type's number is `ParseError`.
+impl<'a> ParseRecordDataBytes<'a> for HInfo<'a> {
+    ghost Seen = { List Field };
+
+    ghost seen = { hinfo_fields };
+
+    ghost reads_as = { λ rtype bytes. of_type 13 rtype (all_of (fields_of no_name row_hinfo bytes)) };
+
+    ghost reads_in = { λ rtype contents at. of_type 13 rtype (all_at contents (fields_in no_name_in row_hinfo contents at)) };
+
+    ghost is_of = { λ _ rtype. rtype ≡ 13 };
+
+    fn parse_record_data_bytes(bytes: &'a [u8], rtype: RType) -> Result<HInfo<'a>, ParseError> {
+        match rtype.code.value {
+            13 => HInfo::parse_bytes(bytes),
+            _ => Err(ParseError),
+        }
+    }
+}
+
+impl<'a> ParseRecordData<'a> for HInfo<'a> {
+    fn parse_record_data(
+        contents: &'a [u8],
+        start: usize,
+        rtype: RType,
+    ) -> Result<HInfo<'a>, ParseError> {
+        match rtype.code.value {
+            13 => HInfo::parse_message_bytes(contents, start),
+            _ => Err(ParseError),
+        }
+    }
+}
+
+impl BuildBytes for HInfo<'_> {
+    ghost octets = { λ v. fields_octets (hinfo_fields v) };
+
+    ghost fits = { λ _. ⊤ };
+
+    fn build_at(&self, bytes: &mut [u8], start: usize) -> Result<usize, TruncationError> {
+        (&self.cpu, (&self.os, ())).build_at(bytes, start)
+    }
+
+    fn built_bytes_size(&self) -> usize {
+        self.cpu.built_bytes_size() + self.os.built_bytes_size()
+    }
+}
+
+/// Whole, a piece for each field.
+impl BuildInMessage for HInfo<'_> {
+    ghost presses = { λ v. whole_presses (fields_octets (hinfo_fields v)) };
+
+    ghost fits_in = { λ _ _ _. ⊤ };
+
+    ghost pieces = { λ v. Some (whole_pieces (hinfo_fields v)) };
+
+    ghost told = { λ v. told_whole (hinfo_fields v) };
+
+    fn build_in_message(
+        &self,
+        contents: &mut [u8],
+        start: usize,
+        compressor: &mut NameCompressor,
+    ) -> Result<usize, TruncationError> {
+        build_whole(self, contents, start, compressor)
+    }
+}
+
+impl CanonicalRecordData for HInfo<'_> {
+    ghost canonical = { λ v. fields_octets (hinfo_fields v) };
+
+    ghost rank = { λ _. 0 };
+
+    ghost is_proper = { λ _. ⊤ };
+
+    fn build_canonical_at(&self, bytes: &mut [u8], start: usize) -> Result<usize, TruncationError> {
+        self.build_at(bytes, start)
+    }
+
+    fn cmp_canonical(&self, other: &Self) -> Ordering {
+        let cpu = compare_strings(&self.cpu, &other.cpu);
+        let os = compare_strings(&self.os, &other.os);
+        cpu.then(os)
+    }
+}

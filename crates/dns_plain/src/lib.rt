@@ -1,0 +1,23 @@
+//! Data of records without compressed names: A, HINFO, TXT, SRV, AAAA and DNAME.
+#![tactic(auto)]
+
+mod a;
+mod aaaa;
+mod dname;
+mod hinfo;
+mod laws;
+mod srv;
+mod txt;
+mod txt_iter;
+
+pub use a::A;
+pub use aaaa::Aaaa;
+pub use dname::DName;
+pub use hinfo::HInfo;
+pub use laws::strings_of_texts;
+pub use srv::Srv;
+pub use txt::Txt;
+pub use txt_iter::TxtIter;
+
+#[cfg(test)]
+mod tests;

@@ -1,0 +1,186 @@
+//! Services.
+
+ghost use Rattle.std.specs.Prelude.{◌≡◌, ◌≤◌, ◌<◌, ◌^◌, ℕ, List, [], ◌∷◌, length, map, take, Option, Some, IfOk, ⊤};
+ghost use Rattle.std.specs.Int.{w16};
+ghost use Rattle.dns_wire.specs.Building.{Builds};
+ghost use Rattle.dns_wire.specs.Compression.{FitsIn};
+ghost use Rattle.dns_wire.specs.InMessage.{BuildsIn};
+ghost use Rattle.dns_wire.specs.Pieces.{whole_presses};
+ghost use Rattle.dns_wire.specs.Reading.{Gives, all_of, all_at};
+ghost use Rattle.dns_record.specs.Canonical.{ranked_cmp};
+ghost use Rattle.dns_record.specs.Data.{of_type};
+ghost use Rattle.dns_record.specs.Fields.{Field, fields_octets, folded_field};
+ghost use Rattle.dns_record.specs.Kinds.{fields_of, fields_in, no_name, no_name_in};
+ghost use Rattle.dns_record.specs.Rows.{row_srv};
+ghost use Rattle.dns_record.specs.Whole.{whole_pieces, told_whole};
+ghost use Rattle.dns_plain.specs.Types.{srv_fields};
+
+use dns_name::{CanonicalName, Lowercased, Name};
+use dns_num::U16;
+use dns_record::{CanonicalRecordData, ParseRecordData, ParseRecordDataBytes, RType};
+use dns_wire::{
+    BuildBytes, BuildInMessage, NameCompressor, ParseBytes, ParseError, ParseMessageBytes,
+    SplitBytes, SplitMessageBytes, TruncationError, build_whole, parse_without_compression,
+    split_without_compression,
+};
+use std::cmp::Ordering;
+
+/// Where a service is: a host and a port (RFC 2782).
+#[derive(Clone, Copy, Debug, PartialEq, Eq, PartialOrd, Ord, Hash)]
+pub struct Srv<'a> {
+    /// The priority, from 0 to 65,535: hosts of the lowest are tried first.
+    pub priority: U16,
+    /// The weight, from 0 to 65,535: how often the host is chosen among those of the same priority.
+    pub weight: U16,
+    /// The port of the service, from 0 to 65,535.
+    pub port: U16,
+    /// The host, whose name is never compressed.
+    pub name: Name<'a>,
+}
+
+impl<'a> ParseBytes<'a> for Srv<'a> {
+    ghost Seen = { List Field };
+
+    ghost seen = { srv_fields };
+
+    ghost reads = { fields_of no_name row_srv };
+
+    ghost reads_at = { fields_in no_name_in row_srv };
+
+    ghost labels = { λ _. [] };
+
+    fn parse_bytes(bytes: &'a [u8]) -> Result<Srv<'a>, ParseError> {
+        let (value, rest) = Srv::split_bytes(bytes)?;
+        if rest.is_empty() {
+            Ok(value)
+        } else {
+            Err(ParseError)
+        }
+    }
+}
+
+impl<'a> SplitBytes<'a> for Srv<'a> {
+    fn split_bytes(bytes: &'a [u8]) -> Result<(Srv<'a>, &'a [u8]), ParseError> {
+        let (priority, rest) = U16::split_bytes(bytes)?;
+        let (weight, rest) = U16::split_bytes(rest)?;
+        let (port, rest) = U16::split_bytes(rest)?;
+        let (name, rest) = Name::split_bytes(rest)?;
+        let value = Srv {
+            priority,
+            weight,
+            port,
+            name,
+        };
+        Ok((value, rest))
+    }
+}
+
+impl<'a> ParseMessageBytes<'a> for Srv<'a> {
+    fn parse_message_bytes(contents: &'a [u8], start: usize) -> Result<Srv<'a>, ParseError> {
+        parse_without_compression(contents, start)
+    }
+}
+
+impl<'a> SplitMessageBytes<'a> for Srv<'a> {
+    fn split_message_bytes(
+        contents: &'a [u8],
+        start: usize,
+    ) -> Result<(Srv<'a>, usize), ParseError> {
+        split_without_compression(contents, start)
+    }
+}
+
+/// Any other type's number is `ParseError`.
+impl<'a> ParseRecordDataBytes<'a> for Srv<'a> {
+    ghost Seen = { List Field };
+
+    ghost seen = { srv_fields };
+
+    ghost reads_as = { λ rtype bytes. of_type 33 rtype (all_of (fields_of no_name row_srv bytes)) };
+
+    ghost reads_in = { λ rtype contents at. of_type 33 rtype (all_at contents (fields_in no_name_in row_srv contents at)) };
+
+    ghost is_of = { λ _ rtype. rtype ≡ 33 };
+
+    fn parse_record_data_bytes(bytes: &'a [u8], rtype: RType) -> Result<Srv<'a>, ParseError> {
+        match rtype.code.value {
+            33 => Srv::parse_bytes(bytes),
+            _ => Err(ParseError),
+        }
+    }
+}
+
+impl<'a> ParseRecordData<'a> for Srv<'a> {
+    fn parse_record_data(
+        contents: &'a [u8],
+        start: usize,
+        rtype: RType,
+    ) -> Result<Srv<'a>, ParseError> {
+        match rtype.code.value {
+            33 => Srv::parse_message_bytes(contents, start),
+            _ => Err(ParseError),
+        }
+    }
+}
+
+impl BuildBytes for Srv<'_> {
+    ghost octets = { λ v. fields_octets (srv_fields v) };
+
+    ghost fits = { λ _. ⊤ };
+
+    fn build_at(&self, bytes: &mut [u8], start: usize) -> Result<usize, TruncationError> {
+        (
+            &self.priority,
+            (&self.weight, (&self.port, (&self.name, ()))),
+        )
+            .build_at(bytes, start)
+    }
+
+    fn built_bytes_size(&self) -> usize {
+        self.priority.built_bytes_size()
+            + self.weight.built_bytes_size()
+            + self.port.built_bytes_size()
+            + self.name.built_bytes_size()
+    }
+}
+
+/// Whole, a piece for each field.
+impl BuildInMessage for Srv<'_> {
+    ghost presses = { λ v. whole_presses (fields_octets (srv_fields v)) };
+
+    ghost fits_in = { λ _ _ _. ⊤ };
+
+    ghost pieces = { λ v. Some (whole_pieces (srv_fields v)) };
+
+    ghost told = { λ v. told_whole (srv_fields v) };
+
+    fn build_in_message(
+        &self,
+        contents: &mut [u8],
+        start: usize,
+        compressor: &mut NameCompressor,
+    ) -> Result<usize, TruncationError> {
+        build_whole(self, contents, start, compressor)
+    }
+}
+
+impl CanonicalRecordData for Srv<'_> {
+    ghost canonical = { λ v. fields_octets (map folded_field (srv_fields v)) };
+
+    ghost rank = { λ _. 0 };
+
+    ghost is_proper = { λ _. ⊤ };
+
+    fn build_canonical_at(&self, bytes: &mut [u8], start: usize) -> Result<usize, TruncationError> {
+        let name = Lowercased { name: &self.name };
+        (&self.priority, (&self.weight, (&self.port, (name, ())))).build_at(bytes, start)
+    }
+
+    fn cmp_canonical(&self, other: &Self) -> Ordering {
+        let priority = self.priority.compare(&other.priority);
+        let weight = self.weight.compare(&other.weight);
+        let port = self.port.compare(&other.port);
+        let name = self.name.cmp_lowercase_composed(&other.name);
+        priority.then(weight.then(port.then(name)))
+    }
+}

@@ -1,0 +1,226 @@
+//! Texts.
+
+ghost use Rattle.std.specs.Prelude.{◌≡◌, ◌≤◌, ◌<◌, ◌^◌, ℕ, List, [], ◌∷◌, length, map, take, Option, Some, IfOk, true, ⊤};
+ghost use Rattle.std.proofs.Props.{props};
+ghost use Rattle.std.specs.Cmp.{on_equiv, partial_equiv_from_equiv};
+ghost use Rattle.std.specs.Cmp.Lexicographic.{lists_equiv, on_texts_equal};
+ghost use Rattle.std.specs.Ordering.{on};
+ghost use Rattle.std.specs.Str.{str_to_ascii_lowercase};
+ghost use Rattle.dns_wire.specs.Building.{Builds};
+ghost use Rattle.dns_wire.specs.Compression.{FitsIn};
+ghost use Rattle.dns_wire.specs.InMessage.{BuildsIn};
+ghost use Rattle.dns_wire.specs.Pieces.{whole_presses};
+ghost use Rattle.dns_wire.specs.Pieces.Piece.{Whole};
+ghost use Rattle.dns_wire.specs.Told.{told_piece};
+ghost use Rattle.dns_wire.specs.Reading.{Gives, all_of, all_at};
+ghost use Rattle.dns_record.specs.Canonical.{ranked_cmp};
+ghost use Rattle.dns_record.specs.CharStrs.{same_charstr};
+ghost use Rattle.dns_record.specs.Data.{of_type};
+ghost use Rattle.dns_record.specs.Fields.{Field};
+ghost use Rattle.dns_record.specs.Kinds.{fields_of, fields_in, no_name, no_name_in};
+ghost use Rattle.dns_record.specs.Rows.{row_txt};
+ghost use Rattle.dns_record.specs.Texts.{is_text_data, texts_octets};
+ghost use Rattle.dns_plain.specs.Strings.{strings_in, same_strings, strings_writes, same_strings_alike};
+ghost use Rattle.dns_plain.specs.Types.{txt_fields};
+
+use crate::txt_iter::TxtIter;
+use dns_record::{CanonicalRecordData, CharStr, ParseRecordData, ParseRecordDataBytes, RType};
+use dns_wire::{
+    AsBytes, BuildBytes, BuildInMessage, NameCompressor, ParseBytes, ParseError, ParseMessageBytes,
+    SplitBytes, TruncationError, build_whole, parse_without_compression, put,
+};
+use std::cmp::Ordering;
+use std::hash::{Hash, Hasher};
+
+/// Texts: one character string or more, of at most 65,535 octets in all (RFC 1035 section 3.3.14).
+#[derive(Clone, Copy, Debug)]
+pub struct Txt<'a> {
+    /// The strings one after another, each behind its length octet.
+    pub slice: &'a [u8],
+    ghost is_txt: { is_text_data slice.now ≡ true } by { Prim.hlevel props },
+}
+
+impl<'a> Txt<'a> {
+    /// Goes over the strings in order, from 1 to 65,535.
+    pub fn iter(&self) -> TxtIter<'a>
+        ensures strings { result ≡ strings_in self.now.slice.now }
+        ensures whole { texts_octets result ≡ self.now.slice.now }
+        ensures few { length result ≤ 65535 }
+    {
+        TxtIter::new(self.slice)
+    }
+}
+
+impl AsBytes for Txt<'_> {
+    ghost bytes = { λ v. v.slice.now };
+
+    fn as_bytes(&self) -> &[u8] {
+        self.slice
+    }
+}
+
+/// Whether the octets are one string or more, and at most 65,535.
+fn are_texts(bytes: &[u8]) -> bool
+    ensures { result ≡ is_text_data bytes.now }
+{
+    if bytes.is_empty() || bytes.len() > 65_535 {
+        return false;
+    }
+    let mut rest = bytes;
+    while !rest.is_empty() {
+        let Ok((_string, behind)) = CharStr::split_bytes(rest) else {
+            return false;
+        };
+        rest = behind;
+    }
+    true
+}
+
+/// `ParseError` comes exactly where the octets are none, or more than 65,535, or strings don't fill them.
+impl<'a> ParseBytes<'a> for Txt<'a> {
+    ghost Seen = { List Field };
+
+    ghost seen = { λ v. txt_fields v.slice.now };
+
+    ghost reads = { fields_of no_name row_txt };
+
+    ghost reads_at = { fields_in no_name_in row_txt };
+
+    ghost labels = { λ _. [] };
+
+    fn parse_bytes(bytes: &'a [u8]) -> Result<Txt<'a>, ParseError> {
+        if are_texts(bytes) {
+            Ok(Txt { slice: bytes })
+        } else {
+            Err(ParseError)
+        }
+    }
+}
+
+impl<'a> ParseMessageBytes<'a> for Txt<'a> {
+    fn parse_message_bytes(contents: &'a [u8], start: usize) -> Result<Txt<'a>, ParseError> {
+        parse_without_compression(contents, start)
+    }
+}
+
+/// Any other type's number is `ParseError`.
+impl<'a> ParseRecordDataBytes<'a> for Txt<'a> {
+    ghost Seen = { List Field };
+
+    ghost seen = { λ v. txt_fields v.slice.now };
+
+    ghost reads_as = { λ rtype bytes. of_type 16 rtype (all_of (fields_of no_name row_txt bytes)) };
+
+    ghost reads_in = { λ rtype contents at. of_type 16 rtype (all_at contents (fields_in no_name_in row_txt contents at)) };
+
+    ghost is_of = { λ _ rtype. rtype ≡ 16 };
+
+    fn parse_record_data_bytes(bytes: &'a [u8], rtype: RType) -> Result<Txt<'a>, ParseError> {
+        match rtype.code.value {
+            16 => Txt::parse_bytes(bytes),
+            _ => Err(ParseError),
+        }
+    }
+}
+
+impl<'a> ParseRecordData<'a> for Txt<'a> {
+    fn parse_record_data(
+        contents: &'a [u8],
+        start: usize,
+        rtype: RType,
+    ) -> Result<Txt<'a>, ParseError> {
+        match rtype.code.value {
+            16 => Txt::parse_message_bytes(contents, start),
+            _ => Err(ParseError),
+        }
+    }
+}
+
+impl BuildBytes for Txt<'_> {
+    ghost octets = { λ v. v.slice.now };
+
+    ghost fits = { λ _. ⊤ };
+
+    fn build_at(&self, bytes: &mut [u8], start: usize) -> Result<usize, TruncationError> {
+        put(self.slice, bytes, start)
+    }
+
+    fn built_bytes_size(&self) -> usize {
+        self.slice.len()
+    }
+}
+
+/// Whole, in one piece.
+impl BuildInMessage for Txt<'_> {
+    ghost presses = { λ v. whole_presses v.slice.now };
+
+    ghost fits_in = { λ _ _ _. ⊤ };
+
+    ghost pieces = { λ v. Some (Whole v.slice.now ∷ []) };
+
+    ghost told = { λ v. told_piece (Whole v.slice.now) };
+
+    fn build_in_message(
+        &self,
+        contents: &mut [u8],
+        start: usize,
+        compressor: &mut NameCompressor,
+    ) -> Result<usize, TruncationError> {
+        build_whole(self, contents, start, compressor)
+    }
+}
+
+impl CanonicalRecordData for Txt<'_> {
+    ghost canonical = { λ v. v.slice.now };
+
+    ghost rank = { λ _. 0 };
+
+    ghost is_proper = { λ _. ⊤ };
+
+    fn build_canonical_at(&self, bytes: &mut [u8], start: usize) -> Result<usize, TruncationError> {
+        self.build_at(bytes, start)
+    }
+
+    fn cmp_canonical(&self, other: &Self) -> Ordering {
+        self.slice.cmp(other.slice)
+    }
+}
+
+impl PartialEq for Txt<'_> {
+    ghost eq = { on (λ v. strings_in v.slice.now) same_strings };
+
+    ghost laws = { partial_equiv_from_equiv (on_equiv (λ v. strings_in v.slice.now) (lists_equiv (on_texts_equal str_to_ascii_lowercase))) };
+
+    /// Whether the strings are the same in order, ASCII case aside (RFC 1035 section 2.3.3).
+    fn eq(&self, other: &Self) -> bool {
+        let mut strings = self.iter();
+        let mut others = other.iter();
+        while let Some(string) = strings.next() {
+            let Some(other) = others.next() else {
+                return false;
+            };
+            if string != other {
+                return false;
+            }
+        }
+        others.next().is_none()
+    }
+}
+
+impl Eq for Txt<'_> {
+    ghost laws = { on_equiv (λ v. strings_in v.slice.now) (lists_equiv (on_texts_equal str_to_ascii_lowercase)) };
+}
+
+impl Hash for Txt<'_> {
+    ghost hash_input = { λ v. strings_writes (strings_in v.slice.now) };
+
+    ghost respects_eq = { λ a b same. same_strings_alike (strings_in a.slice.now) (strings_in b.slice.now) same };
+
+    /// Feeds each string in order: its length octet and its octets in small letters, in one write.
+    fn hash<H: Hasher>(&self, state: &mut H) {
+        let mut strings = self.iter();
+        while let Some(string) = strings.next() {
+            string.hash(state);
+        }
+    }
+}
