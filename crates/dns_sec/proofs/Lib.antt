@@ -1,0 +1,3 @@
+-- The crate's own lemmas.
+pub mod Bits
+pub mod Digests

@@ -1,0 +1,7 @@
+-- The flags of a key.
+use Rattle.std.specs.Prelude.{ℕ}
+use Rattle.dns_sec.specs.declared.dnskey_flags.DNSKeyFlags.{DNSKeyFlags}
+
+-- their 16 bits as a number
+abbrev pub flag_bits : DNSKeyFlags → ℕ
+flag_bits flags = flags.bits.value

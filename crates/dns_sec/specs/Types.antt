@@ -1,0 +1,27 @@
+-- The fields of the data of each type.
+use Rattle.std.specs.Prelude.{ℕ, List, [], ◌∷◌}
+use Rattle.std.specs.Int.{w16, w32}
+use Rattle.dns_wire.specs.Names.{labels_of}
+use Rattle.dns_record.specs.Fields.{Field}
+use Rattle.dns_record.specs.Fields.Field.{Named, Raw, Byte, Number}
+use Rattle.dns_sec.specs.Flags.{flag_bits}
+use Rattle.dns_sec.specs.declared.dnskey.DNSKey.{DNSKey}
+use Rattle.dns_sec.specs.declared.ds.Ds.{Ds}
+use Rattle.dns_sec.specs.declared.rrsig.Rrsig.{Rrsig}
+use Rattle.dns_sec.specs.declared.zonemd.ZoneMD.{ZoneMD}
+
+abbrev pub ds_fields : Ds → List Field
+ds_fields v = Number w16 v.keytag.value ∷ Byte v.algorithm.code ∷ Byte v.digest_type.code ∷ Raw v.digest.now ∷ []
+
+abbrev pub dnskey_fields : DNSKey → List Field
+dnskey_fields v = Number w16 (flag_bits v.flags) ∷ Byte v.protocol ∷ Byte v.algorithm.code ∷ Raw v.key.now ∷ []
+
+abbrev pub rrsig_fields : Rrsig → List Field
+rrsig_fields v =
+    Number w16 v.rtype.code.value ∷ Byte v.algorithm.code ∷ Byte v.labels ∷ Number w32 v.ttl.value.value
+    ∷ Number w32 v.expiration.0.value ∷ Number w32 v.inception.0.value ∷ Number w16 v.keytag.value
+    ∷ Named (labels_of v.signer.slice.now) ∷ Raw v.signature.now ∷ []
+
+-- the digest by its octets
+abbrev pub zonemd_fields : {D : Type 0} → (D → List ℕ) → ZoneMD D → List Field
+zonemd_fields octets v = Number w32 v.serial.0.value ∷ Byte v.scheme.code ∷ Byte v.hash_alg.code ∷ Raw (octets v.digest) ∷ []

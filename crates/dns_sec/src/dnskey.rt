@@ -1,0 +1,156 @@
+//! Keys of zones.
+
+ghost use Rattle.std.specs.Prelude.{◌≡◌, ◌≤◌, ◌<◌, ◌^◌, ℕ, List, [], ◌∷◌, length, take, Option, Some, IfOk, ⊤};
+ghost use Rattle.dns_wire.specs.Building.{Builds};
+ghost use Rattle.dns_wire.specs.Compression.{FitsIn};
+ghost use Rattle.dns_wire.specs.InMessage.{BuildsIn};
+ghost use Rattle.dns_wire.specs.Pieces.{whole_presses};
+ghost use Rattle.dns_wire.specs.Reading.{Gives, all_of, all_at};
+ghost use Rattle.dns_record.specs.Canonical.{ranked_cmp};
+ghost use Rattle.dns_record.specs.Data.{of_type};
+ghost use Rattle.dns_record.specs.Fields.{Field, fields_octets};
+ghost use Rattle.dns_record.specs.Kinds.{fields_of, fields_in, no_name, no_name_in};
+ghost use Rattle.dns_record.specs.Rows.{row_dnskey};
+ghost use Rattle.dns_record.specs.Whole.{whole_pieces, told_whole};
+ghost use Rattle.dns_sec.specs.Types.{dnskey_fields};
+
+use crate::dnskey_flags::DNSKeyFlags;
+use crate::sec_alg::SecAlg;
+use dns_record::{CanonicalRecordData, ParseRecordData, ParseRecordDataBytes, RType};
+use dns_wire::{
+    BuildBytes, BuildInMessage, NameCompressor, ParseBytes, ParseError, ParseMessageBytes,
+    SplitBytes, TruncationError, build_whole, parse_without_compression,
+};
+use std::cmp::Ordering;
+
+/// A public key of a zone (RFC 4034 section 2.1).
+#[derive(Clone, Copy, Debug, PartialEq, Eq, Hash)]
+pub struct DNSKey<'a> {
+    /// What the key is for.
+    pub flags: DNSKeyFlags,
+    /// The protocol, which is 3 where the key is to be used (RFC 4034 section 2.1.2).
+    pub protocol: u8,
+    /// The algorithm of the key.
+    pub algorithm: SecAlg,
+    /// The key, of any number of octets.
+    pub key: &'a [u8],
+}
+
+impl<'a> ParseBytes<'a> for DNSKey<'a> {
+    ghost Seen = { List Field };
+
+    ghost seen = { dnskey_fields };
+
+    ghost reads = { fields_of no_name row_dnskey };
+
+    ghost reads_at = { fields_in no_name_in row_dnskey };
+
+    ghost labels = { λ _. [] };
+
+    fn parse_bytes(bytes: &'a [u8]) -> Result<DNSKey<'a>, ParseError> {
+        let (flags, rest) = DNSKeyFlags::split_bytes(bytes)?;
+        let (protocol, rest) = u8::split_bytes(rest)?;
+        let (algorithm, key) = SecAlg::split_bytes(rest)?;
+        Ok(DNSKey {
+            flags,
+            protocol,
+            algorithm,
+            key,
+        })
+    }
+}
+
+impl<'a> ParseMessageBytes<'a> for DNSKey<'a> {
+    fn parse_message_bytes(contents: &'a [u8], start: usize) -> Result<DNSKey<'a>, ParseError> {
+        parse_without_compression(contents, start)
+    }
+}
+
+/// Any other type's number is `ParseError`.
+impl<'a> ParseRecordDataBytes<'a> for DNSKey<'a> {
+    ghost Seen = { List Field };
+
+    ghost seen = { dnskey_fields };
+
+    ghost reads_as = { λ rtype bytes. of_type 48 rtype (all_of (fields_of no_name row_dnskey bytes)) };
+
+    ghost reads_in = { λ rtype contents at. of_type 48 rtype (all_at contents (fields_in no_name_in row_dnskey contents at)) };
+
+    ghost is_of = { λ _ rtype. rtype ≡ 48 };
+
+    fn parse_record_data_bytes(bytes: &'a [u8], rtype: RType) -> Result<DNSKey<'a>, ParseError> {
+        match rtype.code.value {
+            48 => DNSKey::parse_bytes(bytes),
+            _ => Err(ParseError),
+        }
+    }
+}
+
+impl<'a> ParseRecordData<'a> for DNSKey<'a> {
+    fn parse_record_data(
+        contents: &'a [u8],
+        start: usize,
+        rtype: RType,
+    ) -> Result<DNSKey<'a>, ParseError> {
+        match rtype.code.value {
+            48 => DNSKey::parse_message_bytes(contents, start),
+            _ => Err(ParseError),
+        }
+    }
+}
+
+impl BuildBytes for DNSKey<'_> {
+    ghost octets = { λ v. fields_octets (dnskey_fields v) };
+
+    ghost fits = { λ _. ⊤ };
+
+    #[tactic(auto, using(dns_wire::proofs::Several::themselves))]
+    fn build_at(&self, bytes: &mut [u8], start: usize) -> Result<usize, TruncationError> {
+        let key = (self.key, ());
+        (&self.flags, (&self.protocol, (&self.algorithm, key))).build_at(bytes, start)
+    }
+
+    fn built_bytes_size(&self) -> usize {
+        4 + self.key.len()
+    }
+}
+
+/// Whole, a piece for each field.
+impl BuildInMessage for DNSKey<'_> {
+    ghost presses = { λ v. whole_presses (fields_octets (dnskey_fields v)) };
+
+    ghost fits_in = { λ _ _ _. ⊤ };
+
+    ghost pieces = { λ v. Some (whole_pieces (dnskey_fields v)) };
+
+    ghost told = { λ v. told_whole (dnskey_fields v) };
+
+    fn build_in_message(
+        &self,
+        contents: &mut [u8],
+        start: usize,
+        compressor: &mut NameCompressor,
+    ) -> Result<usize, TruncationError> {
+        build_whole(self, contents, start, compressor)
+    }
+}
+
+impl CanonicalRecordData for DNSKey<'_> {
+    ghost canonical = { λ v. fields_octets (dnskey_fields v) };
+
+    ghost rank = { λ _. 0 };
+
+    ghost is_proper = { λ _. ⊤ };
+
+    fn build_canonical_at(&self, bytes: &mut [u8], start: usize) -> Result<usize, TruncationError> {
+        self.build_at(bytes, start)
+    }
+
+    fn cmp_canonical(&self, other: &Self) -> Ordering {
+        let flags = self.flags.compare(&other.flags);
+        let protocol = self.protocol.cmp(&other.protocol);
+        let algorithm = self.algorithm.cmp(&other.algorithm);
+        let key = self.key.cmp(other.key);
+        flags.then(protocol.then(algorithm.then(key)))
+    }
+}

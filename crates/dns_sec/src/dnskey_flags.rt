@@ -1,0 +1,165 @@
+//! What a key is for.
+
+ghost use Rattle.std.specs.Prelude.{◌≡◌, ◌≢◌, ◌<◌, ◌^◌, ◌↔◌, ℕ, [], None, IsTrue, if◌then◌else◌, ⊤};
+ghost use Rattle.std.specs.Int.{w16, bit_at, to_be_bytes};
+ghost use Rattle.std.specs.Ordering.{nat_cmp};
+ghost use Rattle.dns_wire.specs.Pieces.{whole_presses};
+ghost use Rattle.dns_wire.specs.Reading.{number, plain_at};
+ghost use Rattle.dns_sec.specs.Flags.{flag_bits};
+
+use dns_num::U16;
+use dns_wire::{
+    BuildBytes, BuildInMessage, NameCompressor, ParseBytes, ParseError, ParseMessageBytes,
+    SplitBytes, SplitMessageBytes, TruncationError, build_whole, parse_without_compression,
+    split_without_compression,
+};
+use std::cmp::Ordering;
+
+/// The bit of a key of a zone.
+const ZONE_KEY: u16 = 256;
+
+/// The bit of a key that others are to trust first.
+const SECURE_ENTRY_POINT: u16 = 1;
+
+/// What a key is for: 16 bits, two octets on the wire (RFC 4034 section 2.1.1).
+#[derive(Clone, Copy, Debug, Default, PartialEq, Eq, Hash)]
+pub struct DNSKeyFlags {
+    bits: U16,
+}
+
+impl DNSKeyFlags {
+    /// All the bits as a number.
+    pub fn bits(&self) -> u16
+        ensures { result ≡ flag_bits self.now }
+    {
+        self.bits.get()
+    }
+
+    /// Whether it is a key of the zone that owns it, which may sign its records: the bit that counts 256 (RFC
+    /// 4034 section 2.1.1).
+    pub fn is_zone_key(&self) -> bool
+        ensures { IsTrue result ↔ (bit_at (flag_bits self.now) 8 ≡ 1) }
+    {
+        self.bits.get() >> 8 & 1 == 1
+    }
+
+    /// Whether it is meant to be the key that others trust first: the bit that counts 1 (RFC 3757 section 2).
+    pub fn is_secure_entry_point(&self) -> bool
+        ensures { IsTrue result ↔ (bit_at (flag_bits self.now) 0 ≡ 1) }
+    {
+        self.bits.get() & SECURE_ENTRY_POINT != 0
+    }
+
+    /// The flags with the bit that counts 256 as told. Every other bit stays.
+    pub fn set_zone_key(self, value: bool) -> DNSKeyFlags
+        ensures told { bit_at (flag_bits result) 8 ≡ (if value then 1 else 0) }
+        ensures others { (i : ℕ) → i ≢ 8 → bit_at (flag_bits result) i ≡ bit_at (flag_bits self) i }
+    {
+        if value {
+            DNSKeyFlags {
+                bits: self.bits | ZONE_KEY,
+            }
+        } else {
+            DNSKeyFlags {
+                bits: self.bits & !ZONE_KEY,
+            }
+        }
+    }
+
+    /// The flags with the bit that counts 1 as told. Every other bit stays.
+    pub fn set_secure_entry_point(self, value: bool) -> DNSKeyFlags
+        ensures told { bit_at (flag_bits result) 0 ≡ (if value then 1 else 0) }
+        ensures others { (i : ℕ) → i ≢ 0 → bit_at (flag_bits result) i ≡ bit_at (flag_bits self) i }
+    {
+        if value {
+            DNSKeyFlags {
+                bits: self.bits | SECURE_ENTRY_POINT,
+            }
+        } else {
+            DNSKeyFlags {
+                bits: self.bits & !SECURE_ENTRY_POINT,
+            }
+        }
+    }
+
+    /// How it compares with others, by number, and that both have 16 bits.
+    pub(crate) fn compare(&self, other: &DNSKeyFlags) -> Ordering
+        ensures order { result ≡ nat_cmp (flag_bits self.now) (flag_bits other.now) }
+        ensures fits { (flag_bits self.now < 2 ^ 16) × (flag_bits other.now < 2 ^ 16) }
+    {
+        self.bits.compare(&other.bits)
+    }
+}
+
+impl<'a> ParseBytes<'a> for DNSKeyFlags {
+    ghost Seen = { ℕ };
+
+    ghost seen = { flag_bits };
+
+    ghost reads = { number w16 };
+
+    ghost reads_at = { plain_at (number w16) };
+
+    ghost labels = { λ _. [] };
+
+    fn parse_bytes(bytes: &'a [u8]) -> Result<DNSKeyFlags, ParseError> {
+        let bits = U16::parse_bytes(bytes)?;
+        Ok(DNSKeyFlags { bits })
+    }
+}
+
+impl<'a> SplitBytes<'a> for DNSKeyFlags {
+    fn split_bytes(bytes: &'a [u8]) -> Result<(DNSKeyFlags, &'a [u8]), ParseError> {
+        let (bits, rest) = U16::split_bytes(bytes)?;
+        Ok((DNSKeyFlags { bits }, rest))
+    }
+}
+
+impl<'a> ParseMessageBytes<'a> for DNSKeyFlags {
+    fn parse_message_bytes(contents: &'a [u8], start: usize) -> Result<DNSKeyFlags, ParseError> {
+        parse_without_compression(contents, start)
+    }
+}
+
+impl<'a> SplitMessageBytes<'a> for DNSKeyFlags {
+    fn split_message_bytes(
+        contents: &'a [u8],
+        start: usize,
+    ) -> Result<(DNSKeyFlags, usize), ParseError> {
+        split_without_compression(contents, start)
+    }
+}
+
+impl BuildBytes for DNSKeyFlags {
+    ghost octets = { λ v. to_be_bytes w16 (flag_bits v) };
+
+    ghost fits = { λ _. ⊤ };
+
+    fn build_at(&self, bytes: &mut [u8], start: usize) -> Result<usize, TruncationError> {
+        self.bits.build_at(bytes, start)
+    }
+
+    fn built_bytes_size(&self) -> usize {
+        self.bits.built_bytes_size()
+    }
+}
+
+/// Whole, with no name in it.
+impl BuildInMessage for DNSKeyFlags {
+    ghost presses = { λ v. whole_presses (to_be_bytes w16 (flag_bits v)) };
+
+    ghost fits_in = { λ _ _ _. ⊤ };
+
+    ghost pieces = { λ _. None };
+
+    ghost told = { λ _. tt };
+
+    fn build_in_message(
+        &self,
+        contents: &mut [u8],
+        start: usize,
+        compressor: &mut NameCompressor,
+    ) -> Result<usize, TruncationError> {
+        build_whole(self, contents, start, compressor)
+    }
+}

@@ -1,0 +1,157 @@
+//! Digests of keys of a child zone.
+
+ghost use Rattle.std.specs.Prelude.{◌≡◌, ◌≤◌, ◌<◌, ◌^◌, ℕ, List, [], ◌∷◌, length, take, Option, Some, IfOk, ⊤};
+ghost use Rattle.dns_wire.specs.Building.{Builds};
+ghost use Rattle.dns_wire.specs.Compression.{FitsIn};
+ghost use Rattle.dns_wire.specs.InMessage.{BuildsIn};
+ghost use Rattle.dns_wire.specs.Pieces.{whole_presses};
+ghost use Rattle.dns_wire.specs.Reading.{Gives, all_of, all_at};
+ghost use Rattle.dns_record.specs.Canonical.{ranked_cmp};
+ghost use Rattle.dns_record.specs.Data.{of_type};
+ghost use Rattle.dns_record.specs.Fields.{Field, fields_octets};
+ghost use Rattle.dns_record.specs.Kinds.{fields_of, fields_in, no_name, no_name_in};
+ghost use Rattle.dns_record.specs.Rows.{row_ds};
+ghost use Rattle.dns_record.specs.Whole.{whole_pieces, told_whole};
+ghost use Rattle.dns_sec.specs.Types.{ds_fields};
+
+use crate::digest_type::DigestType;
+use crate::sec_alg::SecAlg;
+use dns_num::U16;
+use dns_record::{CanonicalRecordData, ParseRecordData, ParseRecordDataBytes, RType};
+use dns_wire::{
+    BuildBytes, BuildInMessage, NameCompressor, ParseBytes, ParseError, ParseMessageBytes,
+    SplitBytes, TruncationError, build_whole, parse_without_compression,
+};
+use std::cmp::Ordering;
+
+/// A digest of a key that signs for a child zone (RFC 4034 section 5.1).
+#[derive(Clone, Copy, Debug, PartialEq, Eq, Hash)]
+pub struct Ds<'a> {
+    /// The key tag of the key (RFC 4034 appendix B).
+    pub keytag: U16,
+    /// The algorithm of the key.
+    pub algorithm: SecAlg,
+    /// How the key is digested.
+    pub digest_type: DigestType,
+    /// The digest, of any number of octets.
+    pub digest: &'a [u8],
+}
+
+impl<'a> ParseBytes<'a> for Ds<'a> {
+    ghost Seen = { List Field };
+
+    ghost seen = { ds_fields };
+
+    ghost reads = { fields_of no_name row_ds };
+
+    ghost reads_at = { fields_in no_name_in row_ds };
+
+    ghost labels = { λ _. [] };
+
+    fn parse_bytes(bytes: &'a [u8]) -> Result<Ds<'a>, ParseError> {
+        let (keytag, rest) = U16::split_bytes(bytes)?;
+        let (algorithm, rest) = SecAlg::split_bytes(rest)?;
+        let (digest_type, digest) = DigestType::split_bytes(rest)?;
+        Ok(Ds {
+            keytag,
+            algorithm,
+            digest_type,
+            digest,
+        })
+    }
+}
+
+impl<'a> ParseMessageBytes<'a> for Ds<'a> {
+    fn parse_message_bytes(contents: &'a [u8], start: usize) -> Result<Ds<'a>, ParseError> {
+        parse_without_compression(contents, start)
+    }
+}
+
+/// Any other type's number is `ParseError`.
+impl<'a> ParseRecordDataBytes<'a> for Ds<'a> {
+    ghost Seen = { List Field };
+
+    ghost seen = { ds_fields };
+
+    ghost reads_as = { λ rtype bytes. of_type 43 rtype (all_of (fields_of no_name row_ds bytes)) };
+
+    ghost reads_in = { λ rtype contents at. of_type 43 rtype (all_at contents (fields_in no_name_in row_ds contents at)) };
+
+    ghost is_of = { λ _ rtype. rtype ≡ 43 };
+
+    fn parse_record_data_bytes(bytes: &'a [u8], rtype: RType) -> Result<Ds<'a>, ParseError> {
+        match rtype.code.value {
+            43 => Ds::parse_bytes(bytes),
+            _ => Err(ParseError),
+        }
+    }
+}
+
+impl<'a> ParseRecordData<'a> for Ds<'a> {
+    fn parse_record_data(
+        contents: &'a [u8],
+        start: usize,
+        rtype: RType,
+    ) -> Result<Ds<'a>, ParseError> {
+        match rtype.code.value {
+            43 => Ds::parse_message_bytes(contents, start),
+            _ => Err(ParseError),
+        }
+    }
+}
+
+impl BuildBytes for Ds<'_> {
+    ghost octets = { λ v. fields_octets (ds_fields v) };
+
+    ghost fits = { λ _. ⊤ };
+
+    #[tactic(auto, using(dns_wire::proofs::Several::themselves))]
+    fn build_at(&self, bytes: &mut [u8], start: usize) -> Result<usize, TruncationError> {
+        let digest = (self.digest, ());
+        (&self.keytag, (&self.algorithm, (&self.digest_type, digest))).build_at(bytes, start)
+    }
+
+    fn built_bytes_size(&self) -> usize {
+        4 + self.digest.len()
+    }
+}
+
+/// Whole, a piece for each field.
+impl BuildInMessage for Ds<'_> {
+    ghost presses = { λ v. whole_presses (fields_octets (ds_fields v)) };
+
+    ghost fits_in = { λ _ _ _. ⊤ };
+
+    ghost pieces = { λ v. Some (whole_pieces (ds_fields v)) };
+
+    ghost told = { λ v. told_whole (ds_fields v) };
+
+    fn build_in_message(
+        &self,
+        contents: &mut [u8],
+        start: usize,
+        compressor: &mut NameCompressor,
+    ) -> Result<usize, TruncationError> {
+        build_whole(self, contents, start, compressor)
+    }
+}
+
+impl CanonicalRecordData for Ds<'_> {
+    ghost canonical = { λ v. fields_octets (ds_fields v) };
+
+    ghost rank = { λ _. 0 };
+
+    ghost is_proper = { λ _. ⊤ };
+
+    fn build_canonical_at(&self, bytes: &mut [u8], start: usize) -> Result<usize, TruncationError> {
+        self.build_at(bytes, start)
+    }
+
+    fn cmp_canonical(&self, other: &Self) -> Ordering {
+        let keytag = self.keytag.compare(&other.keytag);
+        let algorithm = self.algorithm.cmp(&other.algorithm);
+        let digest_type = self.digest_type.cmp(&other.digest_type);
+        let digest = self.digest.cmp(other.digest);
+        keytag.then(algorithm.then(digest_type.then(digest)))
+    }
+}

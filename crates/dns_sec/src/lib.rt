@@ -1,0 +1,27 @@
+//! Data of records of DNSSEC: DS, RRSIG, DNSKEY and ZONEMD, and the codes, flags and times in them.
+#![tactic(auto)]
+
+mod digest_type;
+mod dnskey;
+mod dnskey_flags;
+mod ds;
+mod rrsig;
+mod sec_alg;
+mod timestamp;
+mod zonemd;
+mod zonemd_hash_alg;
+mod zonemd_scheme;
+
+pub use digest_type::DigestType;
+pub use dnskey::DNSKey;
+pub use dnskey_flags::DNSKeyFlags;
+pub use ds::Ds;
+pub use rrsig::Rrsig;
+pub use sec_alg::SecAlg;
+pub use timestamp::Timestamp;
+pub use zonemd::ZoneMD;
+pub use zonemd_hash_alg::ZoneMDHashAlg;
+pub use zonemd_scheme::ZoneMDScheme;
+
+#[cfg(test)]
+mod tests;

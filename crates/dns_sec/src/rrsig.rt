@@ -1,0 +1,223 @@
+//! Signatures of records.
+
+ghost use Rattle.std.specs.Prelude.{◌≡◌, ◌≤◌, ◌<◌, ◌^◌, ℕ, List, [], ◌∷◌, length, map, take, Option, Some, IfOk, ⊤};
+ghost use Rattle.dns_wire.specs.Building.{Builds};
+ghost use Rattle.dns_wire.specs.Compression.{FitsIn};
+ghost use Rattle.dns_wire.specs.InMessage.{BuildsIn};
+ghost use Rattle.dns_wire.specs.Pieces.{whole_presses};
+ghost use Rattle.dns_wire.specs.Reading.{Gives, all_of, all_at};
+ghost use Rattle.dns_record.specs.Canonical.{ranked_cmp};
+ghost use Rattle.dns_record.specs.Data.{of_type};
+ghost use Rattle.dns_record.specs.Fields.{Field, fields_octets, folded_field};
+ghost use Rattle.dns_record.specs.Kinds.{fields_of, fields_in, no_name, no_name_in};
+ghost use Rattle.dns_record.specs.Rows.{row_rrsig};
+ghost use Rattle.dns_record.specs.Whole.{whole_pieces, told_whole};
+ghost use Rattle.dns_sec.specs.Types.{rrsig_fields};
+
+use crate::sec_alg::SecAlg;
+use crate::timestamp::Timestamp;
+use dns_name::{CanonicalName, Lowercased, Name};
+use dns_num::U16;
+use dns_record::{CanonicalRecordData, ParseRecordData, ParseRecordDataBytes, RType, Serial, TTL};
+use dns_wire::{
+    BuildBytes, BuildInMessage, NameCompressor, ParseBytes, ParseError, ParseMessageBytes,
+    SplitBytes, TruncationError, build_whole, parse_without_compression,
+};
+use std::cmp::Ordering;
+
+/// A signature of all the records of one owner, class and type (RFC 4034 section 3.1).
+#[derive(Clone, Copy, Debug, PartialEq, Eq, Hash)]
+pub struct Rrsig<'a> {
+    /// The type of the records that are signed.
+    pub rtype: RType,
+    /// The algorithm of the signature.
+    pub algorithm: SecAlg,
+    /// The number of the owner's labels, a wildcard's and the root's not counted (RFC 4034 section 3.1.3).
+    pub labels: u8,
+    /// The time to live that the records have in the zone.
+    pub ttl: TTL,
+    /// The moment after which it no longer holds.
+    pub expiration: Serial,
+    /// The moment from which on it holds.
+    pub inception: Serial,
+    /// The key tag of the key that signed (RFC 4034 appendix B).
+    pub keytag: U16,
+    /// The owner of the key that signed.
+    pub signer: Name<'a>,
+    /// The signature, of any number of octets.
+    pub signature: &'a [u8],
+}
+
+impl Rrsig<'_> {
+    /// The type of the records that are signed (RFC 4034 section 3.1.1).
+    pub fn type_covered(&self) -> RType
+        ensures { result ≡ self.now.rtype }
+    {
+        self.rtype
+    }
+
+    /// The time to live that the records have in the zone (RFC 4034 section 3.1.4).
+    pub fn original_ttl(&self) -> TTL
+        ensures { result ≡ self.now.ttl }
+    {
+        self.ttl
+    }
+
+    /// The key tag of the key that signed (RFC 4034 section 3.1.6).
+    pub fn key_tag(&self) -> u16
+        ensures { result ≡ self.now.keytag.value }
+    {
+        self.keytag.get()
+    }
+
+    /// The moment after which it no longer holds (RFC 4034 section 3.1.5).
+    pub fn expiration(&self) -> Timestamp
+        ensures { result ≡ self.now.expiration.0.value }
+    {
+        Timestamp::from(self.expiration.get())
+    }
+}
+
+impl<'a> ParseBytes<'a> for Rrsig<'a> {
+    ghost Seen = { List Field };
+
+    ghost seen = { rrsig_fields };
+
+    ghost reads = { fields_of no_name row_rrsig };
+
+    ghost reads_at = { fields_in no_name_in row_rrsig };
+
+    ghost labels = { λ _. [] };
+
+    fn parse_bytes(bytes: &'a [u8]) -> Result<Rrsig<'a>, ParseError> {
+        let (rtype, rest) = RType::split_bytes(bytes)?;
+        let (algorithm, rest) = SecAlg::split_bytes(rest)?;
+        let (labels, rest) = u8::split_bytes(rest)?;
+        let (ttl, rest) = TTL::split_bytes(rest)?;
+        let (expiration, rest) = Serial::split_bytes(rest)?;
+        let (inception, rest) = Serial::split_bytes(rest)?;
+        let (keytag, rest) = U16::split_bytes(rest)?;
+        let (signer, signature) = Name::split_bytes(rest)?;
+        Ok(Rrsig {
+            rtype,
+            algorithm,
+            labels,
+            ttl,
+            expiration,
+            inception,
+            keytag,
+            signer,
+            signature,
+        })
+    }
+}
+
+impl<'a> ParseMessageBytes<'a> for Rrsig<'a> {
+    fn parse_message_bytes(contents: &'a [u8], start: usize) -> Result<Rrsig<'a>, ParseError> {
+        parse_without_compression(contents, start)
+    }
+}
+
+/// Any other type's number is `ParseError`.
+impl<'a> ParseRecordDataBytes<'a> for Rrsig<'a> {
+    ghost Seen = { List Field };
+
+    ghost seen = { rrsig_fields };
+
+    ghost reads_as = { λ rtype bytes. of_type 46 rtype (all_of (fields_of no_name row_rrsig bytes)) };
+
+    ghost reads_in = { λ rtype contents at. of_type 46 rtype (all_at contents (fields_in no_name_in row_rrsig contents at)) };
+
+    ghost is_of = { λ _ rtype. rtype ≡ 46 };
+
+    fn parse_record_data_bytes(bytes: &'a [u8], rtype: RType) -> Result<Rrsig<'a>, ParseError> {
+        match rtype.code.value {
+            46 => Rrsig::parse_bytes(bytes),
+            _ => Err(ParseError),
+        }
+    }
+}
+
+impl<'a> ParseRecordData<'a> for Rrsig<'a> {
+    fn parse_record_data(
+        contents: &'a [u8],
+        start: usize,
+        rtype: RType,
+    ) -> Result<Rrsig<'a>, ParseError> {
+        match rtype.code.value {
+            46 => Rrsig::parse_message_bytes(contents, start),
+            _ => Err(ParseError),
+        }
+    }
+}
+
+impl BuildBytes for Rrsig<'_> {
+    ghost octets = { λ v. fields_octets (rrsig_fields v) };
+
+    ghost fits = { λ _. ⊤ };
+
+    #[tactic(auto, using(dns_wire::proofs::Several::themselves))]
+    fn build_at(&self, bytes: &mut [u8], start: usize) -> Result<usize, TruncationError> {
+        let fixed = (&self.rtype, (&self.algorithm, (&self.labels, &self.ttl)));
+        let times = (&self.expiration, (&self.inception, &self.keytag));
+        let named = (&self.signer, (self.signature, ()));
+        (fixed, (times, named)).build_at(bytes, start)
+    }
+
+    fn built_bytes_size(&self) -> usize {
+        18 + self.signer.built_bytes_size() + self.signature.len()
+    }
+}
+
+/// Whole, a piece for each field.
+impl BuildInMessage for Rrsig<'_> {
+    ghost presses = { λ v. whole_presses (fields_octets (rrsig_fields v)) };
+
+    ghost fits_in = { λ _ _ _. ⊤ };
+
+    ghost pieces = { λ v. Some (whole_pieces (rrsig_fields v)) };
+
+    ghost told = { λ v. told_whole (rrsig_fields v) };
+
+    fn build_in_message(
+        &self,
+        contents: &mut [u8],
+        start: usize,
+        compressor: &mut NameCompressor,
+    ) -> Result<usize, TruncationError> {
+        build_whole(self, contents, start, compressor)
+    }
+}
+
+/// The fields in order, the signer in small letters.
+impl CanonicalRecordData for Rrsig<'_> {
+    ghost canonical = { λ v. fields_octets (map folded_field (rrsig_fields v)) };
+
+    ghost rank = { λ _. 0 };
+
+    ghost is_proper = { λ _. ⊤ };
+
+    #[tactic(auto, using(dns_wire::proofs::Several::themselves))]
+    fn build_canonical_at(&self, bytes: &mut [u8], start: usize) -> Result<usize, TruncationError> {
+        let fixed = (&self.rtype, (&self.algorithm, (&self.labels, &self.ttl)));
+        let times = (&self.expiration, (&self.inception, &self.keytag));
+        let signer = Lowercased { name: &self.signer };
+        let named = (signer, (self.signature, ()));
+        (fixed, (times, named)).build_at(bytes, start)
+    }
+
+    fn cmp_canonical(&self, other: &Self) -> Ordering {
+        let rtype = self.rtype.code.compare(&other.rtype.code);
+        let algorithm = self.algorithm.cmp(&other.algorithm);
+        let labels = self.labels.cmp(&other.labels);
+        let ttl = self.ttl.value.compare(&other.ttl.value);
+        let expiration = self.expiration.0.compare(&other.expiration.0);
+        let inception = self.inception.0.compare(&other.inception.0);
+        let keytag = self.keytag.compare(&other.keytag);
+        let signer = self.signer.cmp_lowercase_composed(&other.signer);
+        let signature = self.signature.cmp(other.signature);
+        let by_key = keytag.then(signer.then(signature));
+        let by_time = ttl.then(expiration.then(inception.then(by_key)));
+        rtype.then(algorithm.then(labels.then(by_time)))
+    }
+}

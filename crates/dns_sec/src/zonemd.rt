@@ -1,0 +1,237 @@
+//! Digests of zones.
+
+ghost use Rattle.std.specs.Prelude.{◌≡◌, ◌≤◌, ◌<◌, ◌^◌, ℕ, List, [], ◌∷◌, length, take, Option, Some, IfOk, ⊤};
+ghost use Rattle.dns_wire.specs.Building.{Builds};
+ghost use Rattle.dns_wire.specs.Compression.{FitsIn};
+ghost use Rattle.dns_wire.specs.InMessage.{BuildsIn};
+ghost use Rattle.dns_wire.specs.Pieces.{whole_presses};
+ghost use Rattle.dns_wire.specs.Reading.{Gives, all_of, all_at};
+ghost use Rattle.dns_record.specs.Canonical.{ranked_cmp};
+ghost use Rattle.dns_record.specs.Data.{of_type};
+ghost use Rattle.dns_record.specs.Fields.{Field, fields_octets};
+ghost use Rattle.dns_record.specs.Kinds.{fields_of, fields_in, no_name, no_name_in};
+ghost use Rattle.dns_record.specs.Rows.{row_zonemd};
+ghost use Rattle.dns_record.specs.Whole.{whole_pieces, told_whole};
+ghost use Rattle.dns_sec.specs.Rows.{row_zonemd_of};
+ghost use Rattle.dns_sec.specs.Types.{zonemd_fields};
+
+use crate::zonemd_hash_alg::ZoneMDHashAlg;
+use crate::zonemd_scheme::ZoneMDScheme;
+use dns_record::{CanonicalRecordData, ParseRecordData, ParseRecordDataBytes, RType, Serial};
+use dns_wire::{
+    BuildBytes, BuildInMessage, NameCompressor, ParseBytes, ParseError, ParseMessageBytes,
+    SplitBytes, TruncationError, build_whole, parse_without_compression,
+};
+use std::cmp::Ordering;
+use std::convert::AsSlice;
+
+/// A digest of a whole zone (RFC 8976 section 2.2). `D` is `&[u8]` for a digest of any number of octets, or
+/// `[u8; N]` for one of N octets.
+#[derive(Clone, Copy, Debug, PartialEq, Eq, Hash, Drop)]
+pub struct ZoneMD<D> {
+    /// The serial number of the zone that is digested.
+    pub serial: Serial,
+    /// How its records are collated.
+    pub scheme: ZoneMDScheme,
+    /// How they are digested.
+    pub hash_alg: ZoneMDHashAlg,
+    /// The digest.
+    pub digest: D,
+}
+
+/// With a digest of any number of octets.
+impl<'a> ParseBytes<'a> for ZoneMD<&'a [u8]> {
+    ghost Seen = { List Field };
+
+    ghost seen = { zonemd_fields (λ d. d.now) };
+
+    ghost reads = { fields_of no_name row_zonemd };
+
+    ghost reads_at = { fields_in no_name_in row_zonemd };
+
+    ghost labels = { λ _. [] };
+
+    fn parse_bytes(bytes: &'a [u8]) -> Result<ZoneMD<&'a [u8]>, ParseError> {
+        let (serial, rest) = Serial::split_bytes(bytes)?;
+        let (scheme, rest) = ZoneMDScheme::split_bytes(rest)?;
+        let (hash_alg, digest) = ZoneMDHashAlg::split_bytes(rest)?;
+        Ok(ZoneMD {
+            serial,
+            scheme,
+            hash_alg,
+            digest,
+        })
+    }
+}
+
+/// With a digest of just N octets.
+impl<'a, const N: usize> ParseBytes<'a> for ZoneMD<[u8; N]> {
+    ghost Seen = { List Field };
+
+    ghost seen = { zonemd_fields (λ d. d) };
+
+    ghost reads = { fields_of no_name (row_zonemd_of N) };
+
+    ghost reads_at = { fields_in no_name_in (row_zonemd_of N) };
+
+    ghost labels = { λ _. [] };
+
+    fn parse_bytes(bytes: &'a [u8]) -> Result<ZoneMD<[u8; N]>, ParseError> {
+        let (serial, rest) = Serial::split_bytes(bytes)?;
+        let (scheme, rest) = ZoneMDScheme::split_bytes(rest)?;
+        let (hash_alg, rest) = ZoneMDHashAlg::split_bytes(rest)?;
+        let digest = <[u8; N]>::parse_bytes(rest)?;
+        Ok(ZoneMD {
+            serial,
+            scheme,
+            hash_alg,
+            digest,
+        })
+    }
+}
+
+impl<'a> ParseMessageBytes<'a> for ZoneMD<&'a [u8]> {
+    fn parse_message_bytes(
+        contents: &'a [u8],
+        start: usize,
+    ) -> Result<ZoneMD<&'a [u8]>, ParseError> {
+        parse_without_compression(contents, start)
+    }
+}
+
+impl<'a, const N: usize> ParseMessageBytes<'a> for ZoneMD<[u8; N]> {
+    fn parse_message_bytes(
+        contents: &'a [u8],
+        start: usize,
+    ) -> Result<ZoneMD<[u8; N]>, ParseError> {
+        parse_without_compression(contents, start)
+    }
+}
+
+/// Any other type's number is `ParseError`.
+impl<'a> ParseRecordDataBytes<'a> for ZoneMD<&'a [u8]> {
+    ghost Seen = { List Field };
+
+    ghost seen = { zonemd_fields (λ d. d.now) };
+
+    ghost reads_as = { λ rtype bytes. of_type 63 rtype (all_of (fields_of no_name row_zonemd bytes)) };
+
+    ghost reads_in = { λ rtype contents at. of_type 63 rtype (all_at contents (fields_in no_name_in row_zonemd contents at)) };
+
+    ghost is_of = { λ _ rtype. rtype ≡ 63 };
+
+    fn parse_record_data_bytes(
+        bytes: &'a [u8],
+        rtype: RType,
+    ) -> Result<ZoneMD<&'a [u8]>, ParseError> {
+        match rtype.code.value {
+            63 => ZoneMD::parse_bytes(bytes),
+            _ => Err(ParseError),
+        }
+    }
+}
+
+/// Any other type's number is `ParseError`.
+impl<'a, const N: usize> ParseRecordDataBytes<'a> for ZoneMD<[u8; N]> {
+    ghost Seen = { List Field };
+
+    ghost seen = { zonemd_fields (λ d. d) };
+
+    ghost reads_as = { λ rtype bytes. of_type 63 rtype (all_of (fields_of no_name (row_zonemd_of N) bytes)) };
+
+    ghost reads_in = { λ rtype contents at. of_type 63 rtype (all_at contents (fields_in no_name_in (row_zonemd_of N) contents at)) };
+
+    ghost is_of = { λ _ rtype. rtype ≡ 63 };
+
+    fn parse_record_data_bytes(
+        bytes: &'a [u8],
+        rtype: RType,
+    ) -> Result<ZoneMD<[u8; N]>, ParseError> {
+        match rtype.code.value {
+            63 => ZoneMD::parse_bytes(bytes),
+            _ => Err(ParseError),
+        }
+    }
+}
+
+impl<'a> ParseRecordData<'a> for ZoneMD<&'a [u8]> {
+    fn parse_record_data(
+        contents: &'a [u8],
+        start: usize,
+        rtype: RType,
+    ) -> Result<ZoneMD<&'a [u8]>, ParseError> {
+        match rtype.code.value {
+            63 => ZoneMD::parse_message_bytes(contents, start),
+            _ => Err(ParseError),
+        }
+    }
+}
+
+impl<'a, const N: usize> ParseRecordData<'a> for ZoneMD<[u8; N]> {
+    fn parse_record_data(
+        contents: &'a [u8],
+        start: usize,
+        rtype: RType,
+    ) -> Result<ZoneMD<[u8; N]>, ParseError> {
+        match rtype.code.value {
+            63 => ZoneMD::parse_message_bytes(contents, start),
+            _ => Err(ParseError),
+        }
+    }
+}
+
+impl<D: AsSlice<u8>> BuildBytes for ZoneMD<D> {
+    ghost octets = { λ v. fields_octets (zonemd_fields D.items v) };
+
+    ghost fits = { λ _. ⊤ };
+
+    #[tactic(auto, using(dns_wire::proofs::Several::themselves))]
+    fn build_at(&self, bytes: &mut [u8], start: usize) -> Result<usize, TruncationError> {
+        let digest = self.digest.as_slice();
+        (&self.serial, (&self.scheme, (&self.hash_alg, (digest, ())))).build_at(bytes, start)
+    }
+
+    fn built_bytes_size(&self) -> usize {
+        6 + self.digest.as_slice().len()
+    }
+}
+
+/// Whole, a piece for each field.
+impl<D: AsSlice<u8>> BuildInMessage for ZoneMD<D> {
+    ghost presses = { λ v. whole_presses (fields_octets (zonemd_fields D.items v)) };
+
+    ghost fits_in = { λ _ _ _. ⊤ };
+
+    ghost pieces = { λ v. Some (whole_pieces (zonemd_fields D.items v)) };
+
+    ghost told = { λ v. told_whole (zonemd_fields D.items v) };
+
+    fn build_in_message(
+        &self,
+        contents: &mut [u8],
+        start: usize,
+        compressor: &mut NameCompressor,
+    ) -> Result<usize, TruncationError> {
+        build_whole(self, contents, start, compressor)
+    }
+}
+
+impl<D: AsSlice<u8>> CanonicalRecordData for ZoneMD<D> {
+    ghost canonical = { λ v. fields_octets (zonemd_fields D.items v) };
+
+    ghost rank = { λ _. 0 };
+
+    ghost is_proper = { λ _. ⊤ };
+
+    fn build_canonical_at(&self, bytes: &mut [u8], start: usize) -> Result<usize, TruncationError> {
+        self.build_at(bytes, start)
+    }
+
+    fn cmp_canonical(&self, other: &Self) -> Ordering {
+        let serial = self.serial.0.compare(&other.serial.0);
+        let scheme = self.scheme.cmp(&other.scheme);
+        let hash_alg = self.hash_alg.cmp(&other.hash_alg);
+        let digest = self.digest.as_slice().cmp(other.digest.as_slice());
+        serial.then(scheme.then(hash_alg.then(digest)))
+    }
+}

@@ -1,0 +1,99 @@
+//! Digests of zones.
+
+ghost use Rattle.std.specs.Prelude.{◌≡◌, ℕ, [], ◌∷◌, None, ⊤};
+ghost use Rattle.dns_wire.specs.Pieces.{whole_presses};
+ghost use Rattle.dns_wire.specs.Reading.{octet, plain_at};
+
+use dns_wire::{
+    BuildBytes, BuildInMessage, NameCompressor, ParseBytes, ParseError, ParseMessageBytes,
+    SplitBytes, SplitMessageBytes, TruncationError, build_whole, parse_without_compression,
+    split_without_compression,
+};
+
+/// How a zone is digested: one octet on the wire (RFC 8976 section 2.2.3).
+#[derive(Clone, Copy, Debug, PartialEq, Eq, PartialOrd, Ord, Hash)]
+pub struct ZoneMDHashAlg {
+    /// The number.
+    pub code: u8,
+}
+
+impl ZoneMDHashAlg {
+    /// SHA-384, whose digests have 48 octets.
+    pub const SHA384: ZoneMDHashAlg = ZoneMDHashAlg { code: 1 };
+
+    /// SHA-512, whose digests have 64 octets.
+    pub const SHA512: ZoneMDHashAlg = ZoneMDHashAlg { code: 2 };
+}
+
+impl<'a> ParseBytes<'a> for ZoneMDHashAlg {
+    ghost Seen = { ℕ };
+
+    ghost seen = { λ v. v.code };
+
+    ghost reads = { octet };
+
+    ghost reads_at = { plain_at octet };
+
+    ghost labels = { λ _. [] };
+
+    fn parse_bytes(bytes: &'a [u8]) -> Result<ZoneMDHashAlg, ParseError> {
+        let code = u8::parse_bytes(bytes)?;
+        Ok(ZoneMDHashAlg { code })
+    }
+}
+
+impl<'a> SplitBytes<'a> for ZoneMDHashAlg {
+    fn split_bytes(bytes: &'a [u8]) -> Result<(ZoneMDHashAlg, &'a [u8]), ParseError> {
+        let (code, rest) = u8::split_bytes(bytes)?;
+        Ok((ZoneMDHashAlg { code }, rest))
+    }
+}
+
+impl<'a> ParseMessageBytes<'a> for ZoneMDHashAlg {
+    fn parse_message_bytes(contents: &'a [u8], start: usize) -> Result<ZoneMDHashAlg, ParseError> {
+        parse_without_compression(contents, start)
+    }
+}
+
+impl<'a> SplitMessageBytes<'a> for ZoneMDHashAlg {
+    fn split_message_bytes(
+        contents: &'a [u8],
+        start: usize,
+    ) -> Result<(ZoneMDHashAlg, usize), ParseError> {
+        split_without_compression(contents, start)
+    }
+}
+
+impl BuildBytes for ZoneMDHashAlg {
+    ghost octets = { λ v. v.code ∷ [] };
+
+    ghost fits = { λ _. ⊤ };
+
+    fn build_at(&self, bytes: &mut [u8], start: usize) -> Result<usize, TruncationError> {
+        self.code.build_at(bytes, start)
+    }
+
+    fn built_bytes_size(&self) -> usize {
+        self.code.built_bytes_size()
+    }
+}
+
+/// Whole, with no name in it.
+impl BuildInMessage for ZoneMDHashAlg {
+    ghost presses = { λ v. whole_presses (v.code ∷ []) };
+
+    ghost fits_in = { λ _ _ _. ⊤ };
+
+    ghost pieces = { λ _. None };
+
+    ghost told = { λ _. tt };
+
+    fn build_in_message(
+        &self,
+        contents: &mut [u8],
+        start: usize,
+        compressor: &mut NameCompressor,
+    ) -> Result<usize, TruncationError> {
+        build_whole(self, contents, start, compressor)
+    }
+}

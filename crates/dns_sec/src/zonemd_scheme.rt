@@ -1,0 +1,96 @@
+//! What of a zone is digested.
+
+ghost use Rattle.std.specs.Prelude.{◌≡◌, ℕ, [], ◌∷◌, None, ⊤};
+ghost use Rattle.dns_wire.specs.Pieces.{whole_presses};
+ghost use Rattle.dns_wire.specs.Reading.{octet, plain_at};
+
+use dns_wire::{
+    BuildBytes, BuildInMessage, NameCompressor, ParseBytes, ParseError, ParseMessageBytes,
+    SplitBytes, SplitMessageBytes, TruncationError, build_whole, parse_without_compression,
+    split_without_compression,
+};
+
+/// How the records of a zone are collated for its digest: one octet on the wire (RFC 8976 section 2.2.2).
+#[derive(Clone, Copy, Debug, PartialEq, Eq, PartialOrd, Ord, Hash)]
+pub struct ZoneMDScheme {
+    /// The number.
+    pub code: u8,
+}
+
+impl ZoneMDScheme {
+    /// All records at once, in canonical order (RFC 8976 section 3.3).
+    pub const SIMPLE: ZoneMDScheme = ZoneMDScheme { code: 1 };
+}
+
+impl<'a> ParseBytes<'a> for ZoneMDScheme {
+    ghost Seen = { ℕ };
+
+    ghost seen = { λ v. v.code };
+
+    ghost reads = { octet };
+
+    ghost reads_at = { plain_at octet };
+
+    ghost labels = { λ _. [] };
+
+    fn parse_bytes(bytes: &'a [u8]) -> Result<ZoneMDScheme, ParseError> {
+        let code = u8::parse_bytes(bytes)?;
+        Ok(ZoneMDScheme { code })
+    }
+}
+
+impl<'a> SplitBytes<'a> for ZoneMDScheme {
+    fn split_bytes(bytes: &'a [u8]) -> Result<(ZoneMDScheme, &'a [u8]), ParseError> {
+        let (code, rest) = u8::split_bytes(bytes)?;
+        Ok((ZoneMDScheme { code }, rest))
+    }
+}
+
+impl<'a> ParseMessageBytes<'a> for ZoneMDScheme {
+    fn parse_message_bytes(contents: &'a [u8], start: usize) -> Result<ZoneMDScheme, ParseError> {
+        parse_without_compression(contents, start)
+    }
+}
+
+impl<'a> SplitMessageBytes<'a> for ZoneMDScheme {
+    fn split_message_bytes(
+        contents: &'a [u8],
+        start: usize,
+    ) -> Result<(ZoneMDScheme, usize), ParseError> {
+        split_without_compression(contents, start)
+    }
+}
+
+impl BuildBytes for ZoneMDScheme {
+    ghost octets = { λ v. v.code ∷ [] };
+
+    ghost fits = { λ _. ⊤ };
+
+    fn build_at(&self, bytes: &mut [u8], start: usize) -> Result<usize, TruncationError> {
+        self.code.build_at(bytes, start)
+    }
+
+    fn built_bytes_size(&self) -> usize {
+        self.code.built_bytes_size()
+    }
+}
+
+/// Whole, with no name in it.
+impl BuildInMessage for ZoneMDScheme {
+    ghost presses = { λ v. whole_presses (v.code ∷ []) };
+
+    ghost fits_in = { λ _ _ _. ⊤ };
+
+    ghost pieces = { λ _. None };
+
+    ghost told = { λ _. tt };
+
+    fn build_in_message(
+        &self,
+        contents: &mut [u8],
+        start: usize,
+        compressor: &mut NameCompressor,
+    ) -> Result<usize, TruncationError> {
+        build_whole(self, contents, start, compressor)
+    }
+}
