@@ -1,0 +1,7 @@
+-- The flags of hashed owners.
+use Rattle.std.specs.Prelude.{ℕ}
+use Rattle.dns_nsec.specs.declared.flags.Nsec3Flags.{Nsec3Flags}
+
+-- their 8 bits as a number
+abbrev pub flag_bits : Nsec3Flags → ℕ
+flag_bits flags = flags.bits

@@ -1,0 +1,6 @@
+-- What the contracts of data that deny names cite.
+pub mod Bitmaps
+pub mod Flags
+pub mod Hashed
+pub mod Seen
+pub mod Types

@@ -1,0 +1,122 @@
+//! Bitmaps of types.
+
+ghost use Rattle.std.specs.Prelude.{◌≡◌, ◌↔◌, ◌∷◌, IsTrue, Contains, ℕ, List, [], true, length, ◌≤◌, ◌<◌, IfSome, MatchOption, ⊤};
+ghost use Rattle.std.proofs.Props.{props};
+ghost use Rattle.dns_wire.specs.Reading.{plain_at};
+ghost use Rattle.dns_record.specs.InPlace.{WindowsFrom};
+ghost use Rattle.dns_record.specs.Windows.{is_bitmap, bitmap};
+ghost use Rattle.dns_nsec.specs.Bitmaps.{types_in, windows_in};
+ghost use Rattle.dns_nsec.specs.Seen.{window_seen};
+
+use crate::type_iter::TypeIter;
+use crate::window::Window;
+use dns_record::RType;
+use dns_wire::{AsBytes, BuildBytes, ParseBytes, ParseError, TruncationError, put};
+
+/// The types that there are at a name, as windows of bits whose numbers strictly rise (RFC 4034
+/// section 4.1.2). A window has 1 to 32 octets of bits, the last of them not 0.
+#[derive(Clone, Copy, Debug, PartialEq, Eq, Hash)]
+pub struct TypeBitmaps<'a> {
+    /// The windows: for each its number, the number of its octets of bits, and these.
+    pub slice: &'a [u8],
+    ghost is_bitmap: { is_bitmap slice.now ≡ true } by { Prim.hlevel props },
+}
+
+impl<'a> TypeBitmaps<'a> {
+    /// The types, strictly rising (`types_of_bitmaps`).
+    pub fn types(&self) -> TypeIter<'a>
+        ensures { result ≡ types_in self.now.slice.now }
+    {
+        TypeIter::new(*self)
+    }
+
+    /// The same as `types`.
+    pub fn iter(&self) -> TypeIter<'a>
+        ensures { result ≡ types_in self.now.slice.now }
+    {
+        TypeIter::new(*self)
+    }
+
+    /// Whether the type is among them.
+    pub fn contains(&self, rtype: RType) -> bool
+        ensures { IsTrue result ↔ Contains (types_in self.now.slice.now) rtype.code.value }
+    {
+        let code = rtype.code.get() as usize;
+        let mut rest = *self;
+        while let Some((window, later)) = rest.split_first() {
+            if window.number as usize == code / 256 {
+                return window.is_set(code % 256);
+            }
+            rest = later;
+        }
+        false
+    }
+
+    /// Whether there is no type, which is the same as no window (`types_of_bitmaps`).
+    pub fn is_empty(&self) -> bool
+        ensures { IsTrue result ↔ (types_in self.now.slice.now ≡ []) }
+    {
+        self.types().next().is_none()
+    }
+
+    /// The first window, and the windows behind it; none where there is no window.
+    pub(crate) fn split_first(&self) -> Option<(Window<'a>, TypeBitmaps<'a>)>
+        ensures windows { MatchOption result (windows_in self.now.slice.now ≡ [])
+            (λ x. windows_in self.now.slice.now ≡ window_seen x.0 ∷ windows_in x.1.slice.now) }
+        ensures few { IfSome result (λ x. length x.0.bits.now ≤ 32) }
+        ensures shorter { IfSome result (λ x. length x.1.slice.now < length self.now.slice.now) }
+        ensures rise { WindowsFrom 0 (windows_in self.now.slice.now) }
+    {
+        match Window::split(0, self.slice) {
+            Ok((window, rest)) => Some((window, TypeBitmaps { slice: rest })),
+            Err(_) => None,
+        }
+    }
+}
+
+impl<'a> ParseBytes<'a> for TypeBitmaps<'a> {
+    ghost Seen = { List ℕ };
+
+    ghost seen = { λ v. v.slice.now };
+
+    ghost reads = { bitmap };
+
+    ghost reads_at = { plain_at bitmap };
+
+    ghost labels = { λ _. [] };
+
+    fn parse_bytes(bytes: &'a [u8]) -> Result<TypeBitmaps<'a>, ParseError> {
+        let mut rest = bytes;
+        let mut least = 0;
+        while !rest.is_empty() {
+            let Ok((window, behind)) = Window::split(least, rest) else {
+                return Err(ParseError);
+            };
+            least = window.number as u16 + 1;
+            rest = behind;
+        }
+        Ok(TypeBitmaps { slice: bytes })
+    }
+}
+
+impl AsBytes for TypeBitmaps<'_> {
+    ghost bytes = { λ v. v.slice.now };
+
+    fn as_bytes(&self) -> &[u8] {
+        self.slice
+    }
+}
+
+impl BuildBytes for TypeBitmaps<'_> {
+    ghost octets = { λ v. v.slice.now };
+
+    ghost fits = { λ _. ⊤ };
+
+    fn build_at(&self, bytes: &mut [u8], start: usize) -> Result<usize, TruncationError> {
+        put(self.slice, bytes, start)
+    }
+
+    fn built_bytes_size(&self) -> usize {
+        self.slice.len()
+    }
+}

@@ -1,0 +1,120 @@
+//! Flags of hashed owners.
+
+ghost use Rattle.std.specs.Prelude.{◌≡◌, ◌≢◌, ◌↔◌, ◌∷◌, if◌then◌else◌, ℕ, [], None, IsTrue, ⊤};
+ghost use Rattle.std.specs.Int.{bit_at};
+ghost use Rattle.dns_wire.specs.Pieces.{whole_presses};
+ghost use Rattle.dns_wire.specs.Reading.{octet, plain_at};
+ghost use Rattle.dns_nsec.specs.Flags.{flag_bits};
+
+use dns_wire::{
+    BuildBytes, BuildInMessage, NameCompressor, ParseBytes, ParseError, ParseMessageBytes,
+    SplitBytes, SplitMessageBytes, TruncationError, build_whole, parse_without_compression,
+    split_without_compression,
+};
+
+/// Flags of hashed owners: one octet on the wire (RFC 5155 section 3.1.2).
+#[derive(Clone, Copy, Debug, PartialEq, Eq, Hash, Default)]
+pub struct Nsec3Flags {
+    bits: u8,
+}
+
+impl Nsec3Flags {
+    /// The 8 bits.
+    pub fn bits(&self) -> u8
+        ensures { result ≡ flag_bits self.now }
+    {
+        self.bits
+    }
+
+    /// Whether bit 0, the last, is 1: names without security may stand between two owners (RFC 5155
+    /// section 3.1.2.1).
+    pub fn is_optout(&self) -> bool
+        ensures { IsTrue result ↔ (bit_at (flag_bits self.now) 0 ≡ 1) }
+    {
+        self.bits % 2 == 1
+    }
+
+    /// The flags with bit 0 as told. Every other bit stays.
+    #[tactic(auto, using(crate::proofs::OptOut::last_bit, crate::proofs::OptOut::other_bits))]
+    pub fn set_optout(self, value: bool) -> Nsec3Flags
+        ensures told { bit_at (flag_bits result) 0 ≡ (if value then 1 else 0) }
+        ensures others { (i : ℕ) → i ≢ 0 → bit_at (flag_bits result) i ≡ bit_at (flag_bits self) i }
+    {
+        Nsec3Flags {
+            bits: self.bits / 2 * 2 + value as u8,
+        }
+    }
+}
+
+impl<'a> ParseBytes<'a> for Nsec3Flags {
+    ghost Seen = { ℕ };
+
+    ghost seen = { flag_bits };
+
+    ghost reads = { octet };
+
+    ghost reads_at = { plain_at octet };
+
+    ghost labels = { λ _. [] };
+
+    fn parse_bytes(bytes: &'a [u8]) -> Result<Nsec3Flags, ParseError> {
+        let bits = u8::parse_bytes(bytes)?;
+        Ok(Nsec3Flags { bits })
+    }
+}
+
+impl<'a> SplitBytes<'a> for Nsec3Flags {
+    fn split_bytes(bytes: &'a [u8]) -> Result<(Nsec3Flags, &'a [u8]), ParseError> {
+        let (bits, rest) = u8::split_bytes(bytes)?;
+        Ok((Nsec3Flags { bits }, rest))
+    }
+}
+
+impl<'a> ParseMessageBytes<'a> for Nsec3Flags {
+    fn parse_message_bytes(contents: &'a [u8], start: usize) -> Result<Nsec3Flags, ParseError> {
+        parse_without_compression(contents, start)
+    }
+}
+
+impl<'a> SplitMessageBytes<'a> for Nsec3Flags {
+    fn split_message_bytes(
+        contents: &'a [u8],
+        start: usize,
+    ) -> Result<(Nsec3Flags, usize), ParseError> {
+        split_without_compression(contents, start)
+    }
+}
+
+impl BuildBytes for Nsec3Flags {
+    ghost octets = { λ v. flag_bits v ∷ [] };
+
+    ghost fits = { λ _. ⊤ };
+
+    fn build_at(&self, bytes: &mut [u8], start: usize) -> Result<usize, TruncationError> {
+        self.bits.build_at(bytes, start)
+    }
+
+    fn built_bytes_size(&self) -> usize {
+        self.bits.built_bytes_size()
+    }
+}
+
+/// Whole, with no name in it.
+impl BuildInMessage for Nsec3Flags {
+    ghost presses = { λ v. whole_presses (flag_bits v ∷ []) };
+
+    ghost fits_in = { λ _ _ _. ⊤ };
+
+    ghost pieces = { λ _. None };
+
+    ghost told = { λ _. tt };
+
+    fn build_in_message(
+        &self,
+        contents: &mut [u8],
+        start: usize,
+        compressor: &mut NameCompressor,
+    ) -> Result<usize, TruncationError> {
+        build_whole(self, contents, start, compressor)
+    }
+}

@@ -1,0 +1,99 @@
+//! How owners are hashed.
+
+ghost use Rattle.std.specs.Prelude.{◌≡◌, ◌∷◌, ℕ, [], None, ⊤};
+ghost use Rattle.dns_wire.specs.Pieces.{whole_presses};
+ghost use Rattle.dns_wire.specs.Reading.{octet, plain_at};
+
+use dns_wire::{
+    BuildBytes, BuildInMessage, NameCompressor, ParseBytes, ParseError, ParseMessageBytes,
+    SplitBytes, SplitMessageBytes, TruncationError, build_whole, parse_without_compression,
+    split_without_compression,
+};
+
+/// How owners are hashed: one octet on the wire (RFC 5155 section 3.1.1).
+#[derive(Clone, Copy, Debug, PartialEq, Eq, PartialOrd, Ord, Hash)]
+pub struct Nsec3HashAlgorithm {
+    /// The number.
+    pub code: u8,
+}
+
+impl Nsec3HashAlgorithm {
+    /// SHA-1 (RFC 5155 section 11).
+    pub const SHA1: Nsec3HashAlgorithm = Nsec3HashAlgorithm { code: 1 };
+}
+
+impl<'a> ParseBytes<'a> for Nsec3HashAlgorithm {
+    ghost Seen = { ℕ };
+
+    ghost seen = { λ v. v.code };
+
+    ghost reads = { octet };
+
+    ghost reads_at = { plain_at octet };
+
+    ghost labels = { λ _. [] };
+
+    fn parse_bytes(bytes: &'a [u8]) -> Result<Nsec3HashAlgorithm, ParseError> {
+        let code = u8::parse_bytes(bytes)?;
+        Ok(Nsec3HashAlgorithm { code })
+    }
+}
+
+impl<'a> SplitBytes<'a> for Nsec3HashAlgorithm {
+    fn split_bytes(bytes: &'a [u8]) -> Result<(Nsec3HashAlgorithm, &'a [u8]), ParseError> {
+        let (code, rest) = u8::split_bytes(bytes)?;
+        Ok((Nsec3HashAlgorithm { code }, rest))
+    }
+}
+
+impl<'a> ParseMessageBytes<'a> for Nsec3HashAlgorithm {
+    fn parse_message_bytes(
+        contents: &'a [u8],
+        start: usize,
+    ) -> Result<Nsec3HashAlgorithm, ParseError> {
+        parse_without_compression(contents, start)
+    }
+}
+
+impl<'a> SplitMessageBytes<'a> for Nsec3HashAlgorithm {
+    fn split_message_bytes(
+        contents: &'a [u8],
+        start: usize,
+    ) -> Result<(Nsec3HashAlgorithm, usize), ParseError> {
+        split_without_compression(contents, start)
+    }
+}
+
+impl BuildBytes for Nsec3HashAlgorithm {
+    ghost octets = { λ v. v.code ∷ [] };
+
+    ghost fits = { λ _. ⊤ };
+
+    fn build_at(&self, bytes: &mut [u8], start: usize) -> Result<usize, TruncationError> {
+        self.code.build_at(bytes, start)
+    }
+
+    fn built_bytes_size(&self) -> usize {
+        self.code.built_bytes_size()
+    }
+}
+
+/// Whole, with no name in it.
+impl BuildInMessage for Nsec3HashAlgorithm {
+    ghost presses = { λ v. whole_presses (v.code ∷ []) };
+
+    ghost fits_in = { λ _ _ _. ⊤ };
+
+    ghost pieces = { λ _. None };
+
+    ghost told = { λ _. tt };
+
+    fn build_in_message(
+        &self,
+        contents: &mut [u8],
+        start: usize,
+        compressor: &mut NameCompressor,
+    ) -> Result<usize, TruncationError> {
+        build_whole(self, contents, start, compressor)
+    }
+}

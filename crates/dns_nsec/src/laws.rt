@@ -1,0 +1,16 @@
+//! The definitions of this crate in other words.
+
+ghost use Rattle.std.specs.Prelude.{◌≡◌, ◌↔◌, ℕ, List, [], true};
+ghost use Rattle.std.specs.List.Sorted.{IsStrictlyIncreasing};
+ghost use Rattle.dns_wire.specs.Reading.{AreOctets};
+ghost use Rattle.dns_record.specs.Windows.{is_bitmap};
+ghost use Rattle.dns_nsec.specs.Bitmaps.{types_in};
+
+/// The types of bitmaps (RFC 4034 section 4.1.2): they strictly rise, there is none exactly where there is no
+/// window, and bitmaps with the same types have the same octets.
+pub fn types_of_bitmaps()
+    ensures rise { (bytes : List ℕ) → is_bitmap bytes ≡ true → IsStrictlyIncreasing (types_in bytes) }
+    ensures none { (bytes : List ℕ) → AreOctets bytes → is_bitmap bytes ≡ true → (types_in bytes ≡ []) ↔ (bytes ≡ []) }
+    ensures same { (a b : List ℕ) → AreOctets a → AreOctets b → is_bitmap a ≡ true → is_bitmap b ≡ true →
+        types_in a ≡ types_in b → a ≡ b }
+{}

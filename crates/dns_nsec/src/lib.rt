@@ -1,0 +1,25 @@
+//! Data that deny names: NSEC, NSEC3 and NSEC3PARAM.
+#![tactic(auto)]
+
+mod bitmaps;
+mod flags;
+mod hash_algorithm;
+mod laws;
+mod nsec;
+mod nsec3;
+mod nsec3param;
+mod short_octets;
+mod type_iter;
+mod window;
+
+pub use bitmaps::TypeBitmaps;
+pub use flags::Nsec3Flags;
+pub use hash_algorithm::Nsec3HashAlgorithm;
+pub use laws::types_of_bitmaps;
+pub use nsec::Nsec;
+pub use nsec3::Nsec3;
+pub use nsec3param::Nsec3Param;
+pub use type_iter::TypeIter;
+
+#[cfg(test)]
+mod tests;

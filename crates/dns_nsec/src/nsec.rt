@@ -1,0 +1,171 @@
+//! The next name.
+
+ghost use Rattle.std.specs.Prelude.{◌≡◌, ◌≤◌, ◌<◌, ◌^◌, ℕ, List, [], ◌∷◌, length, map, take, Option, Some, IfOk, ⊤};
+ghost use Rattle.std.specs.Int.{w16};
+ghost use Rattle.dns_wire.specs.Building.{Builds};
+ghost use Rattle.dns_wire.specs.Compression.{FitsIn};
+ghost use Rattle.dns_wire.specs.InMessage.{BuildsIn};
+ghost use Rattle.dns_wire.specs.Pieces.{whole_presses};
+ghost use Rattle.dns_wire.specs.Reading.{Gives, all_of, all_at};
+ghost use Rattle.dns_record.specs.Canonical.{ranked_cmp};
+ghost use Rattle.dns_record.specs.Data.{of_type};
+ghost use Rattle.dns_record.specs.Fields.{Field, fields_octets};
+ghost use Rattle.dns_record.specs.Kinds.{fields_of, fields_in, no_name, no_name_in};
+ghost use Rattle.dns_record.specs.Rows.{row_nsec};
+ghost use Rattle.dns_record.specs.Whole.{whole_pieces, told_whole};
+ghost use Rattle.dns_nsec.specs.Types.{nsec_fields};
+
+use crate::bitmaps::TypeBitmaps;
+use dns_name::{CanonicalName, Name};
+use dns_record::{CanonicalRecordData, ParseRecordData, ParseRecordDataBytes, RType};
+use dns_wire::{
+    BuildBytes, BuildInMessage, NameCompressor, ParseBytes, ParseError, ParseMessageBytes,
+    SplitBytes, TruncationError, build_whole, parse_without_compression,
+};
+use std::cmp::Ordering;
+
+/// The next name of a zone, and the types at the owner (RFC 4034 section 4.1).
+#[derive(Clone, Copy, Debug, PartialEq, Eq, Hash)]
+pub struct Nsec<'a> {
+    /// The next name in canonical order.
+    pub next: Name<'a>,
+    /// The types at the owner.
+    pub types: TypeBitmaps<'a>,
+}
+
+impl<'a> Nsec<'a> {
+    /// The next name, and the types at the owner. Data without a type are written, but not read.
+    pub fn new(next: Name<'a>, types: TypeBitmaps<'a>) -> Nsec<'a>
+        ensures next { result.next ≡ next.entry }
+        ensures types { result.types ≡ types.entry }
+    {
+        Nsec { next, types }
+    }
+
+    /// The types at the owner.
+    pub fn types(&self) -> TypeBitmaps<'a>
+        ensures { result ≡ self.now.types }
+    {
+        self.types
+    }
+
+    /// The next name.
+    pub fn next_name(&self) -> Name<'a>
+        ensures { result ≡ self.now.next }
+    {
+        self.next
+    }
+}
+
+impl<'a> ParseBytes<'a> for Nsec<'a> {
+    ghost Seen = { List Field };
+
+    ghost seen = { nsec_fields };
+
+    ghost reads = { fields_of no_name row_nsec };
+
+    ghost reads_at = { fields_in no_name_in row_nsec };
+
+    ghost labels = { λ _. [] };
+
+    /// Data without a window are `ParseError`.
+    fn parse_bytes(bytes: &'a [u8]) -> Result<Nsec<'a>, ParseError> {
+        let (next, rest) = Name::split_bytes(bytes)?;
+        if rest.is_empty() {
+            return Err(ParseError);
+        }
+        let types = TypeBitmaps::parse_bytes(rest)?;
+        Ok(Nsec { next, types })
+    }
+}
+
+impl<'a> ParseMessageBytes<'a> for Nsec<'a> {
+    fn parse_message_bytes(contents: &'a [u8], start: usize) -> Result<Nsec<'a>, ParseError> {
+        parse_without_compression(contents, start)
+    }
+}
+
+/// Any other type's number is `ParseError`.
+impl<'a> ParseRecordDataBytes<'a> for Nsec<'a> {
+    ghost Seen = { List Field };
+
+    ghost seen = { nsec_fields };
+
+    ghost reads_as = { λ rtype bytes. of_type 47 rtype (all_of (fields_of no_name row_nsec bytes)) };
+
+    ghost reads_in = { λ rtype contents at. of_type 47 rtype (all_at contents (fields_in no_name_in row_nsec contents at)) };
+
+    ghost is_of = { λ _ rtype. rtype ≡ 47 };
+
+    fn parse_record_data_bytes(bytes: &'a [u8], rtype: RType) -> Result<Nsec<'a>, ParseError> {
+        match rtype.code.value {
+            47 => Nsec::parse_bytes(bytes),
+            _ => Err(ParseError),
+        }
+    }
+}
+
+impl<'a> ParseRecordData<'a> for Nsec<'a> {
+    fn parse_record_data(
+        contents: &'a [u8],
+        start: usize,
+        rtype: RType,
+    ) -> Result<Nsec<'a>, ParseError> {
+        match rtype.code.value {
+            47 => Nsec::parse_message_bytes(contents, start),
+            _ => Err(ParseError),
+        }
+    }
+}
+
+impl BuildBytes for Nsec<'_> {
+    ghost octets = { λ v. fields_octets (nsec_fields v) };
+
+    ghost fits = { λ _. ⊤ };
+
+    fn build_at(&self, bytes: &mut [u8], start: usize) -> Result<usize, TruncationError> {
+        (&self.next, (&self.types, ())).build_at(bytes, start)
+    }
+
+    fn built_bytes_size(&self) -> usize {
+        self.next.built_bytes_size() + self.types.built_bytes_size()
+    }
+}
+
+/// Whole, a piece for each field.
+impl BuildInMessage for Nsec<'_> {
+    ghost presses = { λ v. whole_presses (fields_octets (nsec_fields v)) };
+
+    ghost fits_in = { λ _ _ _. ⊤ };
+
+    ghost pieces = { λ v. Some (whole_pieces (nsec_fields v)) };
+
+    ghost told = { λ v. told_whole (nsec_fields v) };
+
+    fn build_in_message(
+        &self,
+        contents: &mut [u8],
+        start: usize,
+        compressor: &mut NameCompressor,
+    ) -> Result<usize, TruncationError> {
+        build_whole(self, contents, start, compressor)
+    }
+}
+
+impl CanonicalRecordData for Nsec<'_> {
+    ghost canonical = { λ v. fields_octets (nsec_fields v) };
+
+    ghost rank = { λ _. 0 };
+
+    ghost is_proper = { λ _. ⊤ };
+
+    fn build_canonical_at(&self, bytes: &mut [u8], start: usize) -> Result<usize, TruncationError> {
+        self.build_at(bytes, start)
+    }
+
+    fn cmp_canonical(&self, other: &Self) -> Ordering {
+        let next = self.next.cmp_composed(&other.next);
+        let types = self.types.slice.cmp(other.types.slice);
+        next.then(types)
+    }
+}

@@ -1,0 +1,256 @@
+//! The next hashed owner.
+
+ghost use Rattle.std.specs.Prelude.{◌≡◌, ◌≤◌, ◌<◌, ◌^◌, ℕ, List, [], ◌∷◌, length, map, take, Option, Some, IfOk, ⊤};
+ghost use Rattle.std.specs.Int.{w16};
+ghost use Rattle.dns_wire.specs.Building.{Builds};
+ghost use Rattle.dns_wire.specs.Compression.{FitsIn};
+ghost use Rattle.dns_wire.specs.InMessage.{BuildsIn};
+ghost use Rattle.dns_wire.specs.Pieces.{whole_presses};
+ghost use Rattle.dns_wire.specs.Reading.{Gives, all_of, all_at};
+ghost use Rattle.dns_record.specs.Canonical.{ranked_cmp};
+ghost use Rattle.dns_record.specs.Data.{of_type};
+ghost use Rattle.dns_record.specs.Fields.{Field, fields_octets};
+ghost use Rattle.dns_record.specs.Kinds.{fields_of, fields_in, no_name, no_name_in};
+ghost use Rattle.dns_record.specs.Rows.{row_nsec3};
+ghost use Rattle.dns_record.specs.Whole.{whole_pieces, told_whole};
+ghost use Rattle.dns_nsec.specs.Flags.{flag_bits};
+ghost use Rattle.dns_nsec.specs.Hashed.{algorithm_of, flags_of, iterations_of, salt_of, next_owner_of, types_of};
+ghost use Rattle.dns_nsec.specs.Types.{nsec3_fields};
+
+use crate::bitmaps::TypeBitmaps;
+use crate::flags::Nsec3Flags;
+use crate::hash_algorithm::Nsec3HashAlgorithm;
+use crate::short_octets::ShortOctets;
+use dns_num::{SizePrefixed, U16};
+use dns_record::{CanonicalRecordData, ParseRecordData, ParseRecordDataBytes, RType};
+use dns_wire::{
+    BuildBytes, BuildInMessage, NameCompressor, ParseBytes, ParseError, ParseMessageBytes,
+    SplitBytes, TruncationError, build_whole, parse_without_compression,
+};
+use std::cmp::Ordering;
+
+/// The next hashed owner of a zone, and the types at the owner that was hashed (RFC 5155 section 3.2).
+#[derive(Clone, Copy, Debug, PartialEq, Eq, Hash)]
+pub struct Nsec3<'a> {
+    algorithm: Nsec3HashAlgorithm,
+    flags: Nsec3Flags,
+    iterations: U16,
+    salt: ShortOctets<'a>,
+    next_owner: ShortOctets<'a>,
+    types: TypeBitmaps<'a>,
+}
+
+impl<'a> Nsec3<'a> {
+    /// How owners are hashed, the flags, how often the hash is taken again, the salt, the next owner's hash,
+    /// and the types at the owner. The condition is that salt and hash have at most 255 octets each:
+    /// `salt.inner().len()` and `next_owner.inner().len()` tell.
+    pub fn new(
+        hash_algorithm: Nsec3HashAlgorithm,
+        flags: Nsec3Flags,
+        iterations: u16,
+        salt: SizePrefixed<u8, &'a [u8]>,
+        next_owner: SizePrefixed<u8, &'a [u8]>,
+        types: TypeBitmaps<'a>,
+    ) -> Nsec3<'a>
+        requires salt { length salt.now ≤ 255 }
+        requires next_owner { length next_owner.now ≤ 255 }
+        ensures algorithm { algorithm_of result ≡ hash_algorithm.code }
+        ensures flags { flags_of result ≡ flag_bits flags }
+        ensures iterations { iterations_of result ≡ iterations }
+        ensures salt { salt_of result ≡ salt.entry.now }
+        ensures next_owner { next_owner_of result ≡ next_owner.entry.now }
+        ensures types { types_of result ≡ types.entry.slice.now }
+    {
+        Nsec3 {
+            algorithm: hash_algorithm,
+            flags,
+            iterations: U16::new(iterations),
+            salt: ShortOctets::new(salt),
+            next_owner: ShortOctets::new(next_owner),
+            types,
+        }
+    }
+
+    /// How owners are hashed.
+    pub fn algorithm(&self) -> Nsec3HashAlgorithm
+        ensures { result.code ≡ algorithm_of self.now }
+    {
+        self.algorithm
+    }
+
+    /// The flags.
+    pub fn flags(&self) -> Nsec3Flags
+        ensures { flag_bits result ≡ flags_of self.now }
+    {
+        self.flags
+    }
+
+    /// How often the hash is taken again (RFC 5155 section 3.1.3).
+    pub fn iterations(&self) -> u16
+        ensures { result ≡ iterations_of self.now }
+    {
+        self.iterations.get()
+    }
+
+    /// The salt, at most 255 octets.
+    pub fn salt(&self) -> SizePrefixed<u8, &'a [u8]>
+        ensures salt { result.now ≡ salt_of self.now }
+        ensures short { length result.now ≤ 255 }
+    {
+        self.salt.prefixed()
+    }
+
+    /// The next owner's hash, at most 255 octets.
+    pub fn next_owner(&self) -> SizePrefixed<u8, &'a [u8]>
+        ensures next_owner { result.now ≡ next_owner_of self.now }
+        ensures short { length result.now ≤ 255 }
+    {
+        self.next_owner.prefixed()
+    }
+
+    /// The types at the owner that was hashed.
+    pub fn types(&self) -> TypeBitmaps<'a>
+        ensures { result.slice.now ≡ types_of self.now }
+    {
+        self.types
+    }
+}
+
+impl<'a> ParseBytes<'a> for Nsec3<'a> {
+    ghost Seen = { List Field };
+
+    ghost seen = { nsec3_fields };
+
+    ghost reads = { fields_of no_name row_nsec3 };
+
+    ghost reads_at = { fields_in no_name_in row_nsec3 };
+
+    ghost labels = { λ _. [] };
+
+    fn parse_bytes(bytes: &'a [u8]) -> Result<Nsec3<'a>, ParseError> {
+        let (algorithm, rest) = Nsec3HashAlgorithm::split_bytes(bytes)?;
+        let (flags, rest) = Nsec3Flags::split_bytes(rest)?;
+        let (iterations, rest) = U16::split_bytes(rest)?;
+        let (salt, rest) = ShortOctets::split_bytes(rest)?;
+        let (next_owner, rest) = ShortOctets::split_bytes(rest)?;
+        let types = TypeBitmaps::parse_bytes(rest)?;
+        Ok(Nsec3 {
+            algorithm,
+            flags,
+            iterations,
+            salt,
+            next_owner,
+            types,
+        })
+    }
+}
+
+impl<'a> ParseMessageBytes<'a> for Nsec3<'a> {
+    fn parse_message_bytes(contents: &'a [u8], start: usize) -> Result<Nsec3<'a>, ParseError> {
+        parse_without_compression(contents, start)
+    }
+}
+
+/// Any other type's number is `ParseError`.
+impl<'a> ParseRecordDataBytes<'a> for Nsec3<'a> {
+    ghost Seen = { List Field };
+
+    ghost seen = { nsec3_fields };
+
+    ghost reads_as = { λ rtype bytes. of_type 50 rtype (all_of (fields_of no_name row_nsec3 bytes)) };
+
+    ghost reads_in = { λ rtype contents at. of_type 50 rtype (all_at contents (fields_in no_name_in row_nsec3 contents at)) };
+
+    ghost is_of = { λ _ rtype. rtype ≡ 50 };
+
+    fn parse_record_data_bytes(bytes: &'a [u8], rtype: RType) -> Result<Nsec3<'a>, ParseError> {
+        match rtype.code.value {
+            50 => Nsec3::parse_bytes(bytes),
+            _ => Err(ParseError),
+        }
+    }
+}
+
+impl<'a> ParseRecordData<'a> for Nsec3<'a> {
+    fn parse_record_data(
+        contents: &'a [u8],
+        start: usize,
+        rtype: RType,
+    ) -> Result<Nsec3<'a>, ParseError> {
+        match rtype.code.value {
+            50 => Nsec3::parse_message_bytes(contents, start),
+            _ => Err(ParseError),
+        }
+    }
+}
+
+impl BuildBytes for Nsec3<'_> {
+    ghost octets = { λ v. fields_octets (nsec3_fields v) };
+
+    ghost fits = { λ _. ⊤ };
+
+    fn build_at(&self, bytes: &mut [u8], start: usize) -> Result<usize, TruncationError> {
+        (
+            &self.algorithm,
+            (
+                &self.flags,
+                (
+                    &self.iterations,
+                    (&self.salt, (&self.next_owner, (&self.types, ()))),
+                ),
+            ),
+        )
+            .build_at(bytes, start)
+    }
+
+    fn built_bytes_size(&self) -> usize {
+        self.algorithm.built_bytes_size()
+            + self.flags.built_bytes_size()
+            + self.iterations.built_bytes_size()
+            + self.salt.built_bytes_size()
+            + self.next_owner.built_bytes_size()
+            + self.types.built_bytes_size()
+    }
+}
+
+/// Whole, a piece for each field.
+impl BuildInMessage for Nsec3<'_> {
+    ghost presses = { λ v. whole_presses (fields_octets (nsec3_fields v)) };
+
+    ghost fits_in = { λ _ _ _. ⊤ };
+
+    ghost pieces = { λ v. Some (whole_pieces (nsec3_fields v)) };
+
+    ghost told = { λ v. told_whole (nsec3_fields v) };
+
+    fn build_in_message(
+        &self,
+        contents: &mut [u8],
+        start: usize,
+        compressor: &mut NameCompressor,
+    ) -> Result<usize, TruncationError> {
+        build_whole(self, contents, start, compressor)
+    }
+}
+
+impl CanonicalRecordData for Nsec3<'_> {
+    ghost canonical = { λ v. fields_octets (nsec3_fields v) };
+
+    ghost rank = { λ _. 0 };
+
+    ghost is_proper = { λ _. ⊤ };
+
+    fn build_canonical_at(&self, bytes: &mut [u8], start: usize) -> Result<usize, TruncationError> {
+        self.build_at(bytes, start)
+    }
+
+    fn cmp_canonical(&self, other: &Self) -> Ordering {
+        let algorithm = self.algorithm.code.cmp(&other.algorithm.code);
+        let flags = self.flags.bits().cmp(&other.flags.bits());
+        let iterations = self.iterations.compare(&other.iterations);
+        let salt = self.salt.compare(&other.salt);
+        let next_owner = self.next_owner.compare(&other.next_owner);
+        let types = self.types.slice.cmp(other.types.slice);
+        algorithm.then(flags.then(iterations.then(salt.then(next_owner.then(types)))))
+    }
+}

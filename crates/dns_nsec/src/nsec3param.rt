@@ -1,0 +1,248 @@
+//! The parameters of hashed owners.
+
+ghost use Rattle.std.specs.Prelude.{◌≡◌, ◌%◌, ◌==◌, ◌≤◌, ◌<◌, ◌^◌, ℕ, List, [], ◌∷◌, length, map, take, Option, Some, IfOk, ⊤};
+ghost use Rattle.std.specs.Int.{w16};
+ghost use Rattle.dns_wire.specs.Building.{Builds};
+ghost use Rattle.dns_wire.specs.Compression.{FitsIn};
+ghost use Rattle.dns_wire.specs.InMessage.{BuildsIn};
+ghost use Rattle.dns_wire.specs.Pieces.{whole_presses};
+ghost use Rattle.dns_wire.specs.Reading.{Gives, all_of, all_at};
+ghost use Rattle.dns_record.specs.Canonical.{ranked_cmp};
+ghost use Rattle.dns_record.specs.Data.{of_type};
+ghost use Rattle.dns_record.specs.Fields.{Field, fields_octets};
+ghost use Rattle.dns_record.specs.Kinds.{fields_of, fields_in, no_name, no_name_in};
+ghost use Rattle.dns_record.specs.Rows.{row_nsec3param};
+ghost use Rattle.dns_record.specs.Whole.{whole_pieces, told_whole};
+ghost use Rattle.dns_nsec.specs.Flags.{flag_bits};
+ghost use Rattle.dns_nsec.specs.Hashed.{param_algorithm_of, param_flags_of, param_iterations_of, param_salt_of};
+ghost use Rattle.dns_nsec.specs.Types.{nsec3param_fields};
+
+use crate::flags::Nsec3Flags;
+use crate::hash_algorithm::Nsec3HashAlgorithm;
+use crate::short_octets::ShortOctets;
+use dns_num::{SizePrefixed, U16};
+use dns_record::{CanonicalRecordData, ParseRecordData, ParseRecordDataBytes, RType};
+use dns_wire::{
+    BuildBytes, BuildInMessage, NameCompressor, ParseBytes, ParseError, ParseMessageBytes,
+    SplitBytes, SplitMessageBytes, TruncationError, build_whole, parse_without_compression,
+    split_without_compression,
+};
+use std::cmp::Ordering;
+
+/// How the owners of a zone are hashed (RFC 5155 section 4.2).
+#[derive(Clone, Copy, Debug, PartialEq, Eq, Hash)]
+pub struct Nsec3Param<'a> {
+    algorithm: Nsec3HashAlgorithm,
+    flags: Nsec3Flags,
+    iterations: U16,
+    salt: ShortOctets<'a>,
+}
+
+impl<'a> Nsec3Param<'a> {
+    /// How owners are hashed, the flags, how often the hash is taken again, and the salt. The condition is
+    /// that the salt has at most 255 octets: `salt.inner().len()` tells.
+    pub fn new(
+        hash_algorithm: Nsec3HashAlgorithm,
+        flags: Nsec3Flags,
+        iterations: u16,
+        salt: SizePrefixed<u8, &'a [u8]>,
+    ) -> Nsec3Param<'a>
+        requires { length salt.now ≤ 255 }
+        ensures algorithm { param_algorithm_of result ≡ hash_algorithm.code }
+        ensures flags { param_flags_of result ≡ flag_bits flags }
+        ensures iterations { param_iterations_of result ≡ iterations }
+        ensures salt { param_salt_of result ≡ salt.entry.now }
+    {
+        Nsec3Param {
+            algorithm: hash_algorithm,
+            flags,
+            iterations: U16::new(iterations),
+            salt: ShortOctets::new(salt),
+        }
+    }
+
+    /// How owners are hashed.
+    pub fn hash_algorithm(&self) -> Nsec3HashAlgorithm
+        ensures { result.code ≡ param_algorithm_of self.now }
+    {
+        self.algorithm
+    }
+
+    /// The flags.
+    pub fn flags(&self) -> Nsec3Flags
+        ensures { flag_bits result ≡ param_flags_of self.now }
+    {
+        self.flags
+    }
+
+    /// Whether names without security may stand between two owners (RFC 5155 section 3.1.2.1).
+    pub fn opt_out_flag(&self) -> bool
+        ensures { result ≡ (param_flags_of self.now % 2 == 1) }
+    {
+        self.flags.is_optout()
+    }
+
+    /// How often the hash is taken again (RFC 5155 section 3.1.3).
+    pub fn iterations(&self) -> u16
+        ensures { result ≡ param_iterations_of self.now }
+    {
+        self.iterations.get()
+    }
+
+    /// The salt, at most 255 octets.
+    pub fn salt(&self) -> SizePrefixed<u8, &'a [u8]>
+        ensures salt { result.now ≡ param_salt_of self.now }
+        ensures short { length result.now ≤ 255 }
+    {
+        self.salt.prefixed()
+    }
+}
+
+impl<'a> ParseBytes<'a> for Nsec3Param<'a> {
+    ghost Seen = { List Field };
+
+    ghost seen = { nsec3param_fields };
+
+    ghost reads = { fields_of no_name row_nsec3param };
+
+    ghost reads_at = { fields_in no_name_in row_nsec3param };
+
+    ghost labels = { λ _. [] };
+
+    fn parse_bytes(bytes: &'a [u8]) -> Result<Nsec3Param<'a>, ParseError> {
+        let (value, rest) = Nsec3Param::split_bytes(bytes)?;
+        if rest.is_empty() {
+            Ok(value)
+        } else {
+            Err(ParseError)
+        }
+    }
+}
+
+impl<'a> SplitBytes<'a> for Nsec3Param<'a> {
+    fn split_bytes(bytes: &'a [u8]) -> Result<(Nsec3Param<'a>, &'a [u8]), ParseError> {
+        let (algorithm, rest) = Nsec3HashAlgorithm::split_bytes(bytes)?;
+        let (flags, rest) = Nsec3Flags::split_bytes(rest)?;
+        let (iterations, rest) = U16::split_bytes(rest)?;
+        let (salt, rest) = ShortOctets::split_bytes(rest)?;
+        let value = Nsec3Param {
+            algorithm,
+            flags,
+            iterations,
+            salt,
+        };
+        Ok((value, rest))
+    }
+}
+
+impl<'a> ParseMessageBytes<'a> for Nsec3Param<'a> {
+    fn parse_message_bytes(contents: &'a [u8], start: usize) -> Result<Nsec3Param<'a>, ParseError> {
+        parse_without_compression(contents, start)
+    }
+}
+
+impl<'a> SplitMessageBytes<'a> for Nsec3Param<'a> {
+    fn split_message_bytes(
+        contents: &'a [u8],
+        start: usize,
+    ) -> Result<(Nsec3Param<'a>, usize), ParseError> {
+        split_without_compression(contents, start)
+    }
+}
+
+/// Any other type's number is `ParseError`.
+impl<'a> ParseRecordDataBytes<'a> for Nsec3Param<'a> {
+    ghost Seen = { List Field };
+
+    ghost seen = { nsec3param_fields };
+
+    ghost reads_as = { λ rtype bytes. of_type 51 rtype (all_of (fields_of no_name row_nsec3param bytes)) };
+
+    ghost reads_in = { λ rtype contents at. of_type 51 rtype (all_at contents (fields_in no_name_in row_nsec3param contents at)) };
+
+    ghost is_of = { λ _ rtype. rtype ≡ 51 };
+
+    fn parse_record_data_bytes(
+        bytes: &'a [u8],
+        rtype: RType,
+    ) -> Result<Nsec3Param<'a>, ParseError> {
+        match rtype.code.value {
+            51 => Nsec3Param::parse_bytes(bytes),
+            _ => Err(ParseError),
+        }
+    }
+}
+
+impl<'a> ParseRecordData<'a> for Nsec3Param<'a> {
+    fn parse_record_data(
+        contents: &'a [u8],
+        start: usize,
+        rtype: RType,
+    ) -> Result<Nsec3Param<'a>, ParseError> {
+        match rtype.code.value {
+            51 => Nsec3Param::parse_message_bytes(contents, start),
+            _ => Err(ParseError),
+        }
+    }
+}
+
+impl BuildBytes for Nsec3Param<'_> {
+    ghost octets = { λ v. fields_octets (nsec3param_fields v) };
+
+    ghost fits = { λ _. ⊤ };
+
+    fn build_at(&self, bytes: &mut [u8], start: usize) -> Result<usize, TruncationError> {
+        (
+            &self.algorithm,
+            (&self.flags, (&self.iterations, (&self.salt, ()))),
+        )
+            .build_at(bytes, start)
+    }
+
+    fn built_bytes_size(&self) -> usize {
+        self.algorithm.built_bytes_size()
+            + self.flags.built_bytes_size()
+            + self.iterations.built_bytes_size()
+            + self.salt.built_bytes_size()
+    }
+}
+
+/// Whole, a piece for each field.
+impl BuildInMessage for Nsec3Param<'_> {
+    ghost presses = { λ v. whole_presses (fields_octets (nsec3param_fields v)) };
+
+    ghost fits_in = { λ _ _ _. ⊤ };
+
+    ghost pieces = { λ v. Some (whole_pieces (nsec3param_fields v)) };
+
+    ghost told = { λ v. told_whole (nsec3param_fields v) };
+
+    fn build_in_message(
+        &self,
+        contents: &mut [u8],
+        start: usize,
+        compressor: &mut NameCompressor,
+    ) -> Result<usize, TruncationError> {
+        build_whole(self, contents, start, compressor)
+    }
+}
+
+impl CanonicalRecordData for Nsec3Param<'_> {
+    ghost canonical = { λ v. fields_octets (nsec3param_fields v) };
+
+    ghost rank = { λ _. 0 };
+
+    ghost is_proper = { λ _. ⊤ };
+
+    fn build_canonical_at(&self, bytes: &mut [u8], start: usize) -> Result<usize, TruncationError> {
+        self.build_at(bytes, start)
+    }
+
+    fn cmp_canonical(&self, other: &Self) -> Ordering {
+        let algorithm = self.algorithm.code.cmp(&other.algorithm.code);
+        let flags = self.flags.bits().cmp(&other.flags.bits());
+        let iterations = self.iterations.compare(&other.iterations);
+        let salt = self.salt.compare(&other.salt);
+        algorithm.then(flags.then(iterations.then(salt)))
+    }
+}

@@ -1,0 +1,98 @@
+//! Octets that one octet can count.
+
+ghost use Rattle.std.specs.Prelude.{◌≡◌, ◌≤◌, ◌∷◌, ℕ, List, [], length, ⊤};
+ghost use Rattle.std.specs.Ordering.{nat_cmp, ordering_then};
+ghost use Rattle.std.specs.Cmp.Lexicographic.{slice_cmp};
+ghost use Rattle.dns_wire.specs.Reading.{plain_at};
+ghost use Rattle.dns_record.specs.Texts.{text};
+
+use dns_num::SizePrefixed;
+use dns_wire::{BuildBytes, ParseBytes, ParseError, SplitBytes, TruncationError, put};
+use std::cmp::Ordering;
+
+/// At most 255 octets. On the wire they stand behind an octet with their number (RFC 5155 section 3.2).
+#[derive(Clone, Copy, Debug, PartialEq, Eq, Hash)]
+pub(crate) struct ShortOctets<'a> {
+    /// The octets, without their number.
+    pub octets: &'a [u8],
+    ghost short: { length octets.now ≤ 255 },
+}
+
+impl<'a> ShortOctets<'a> {
+    /// The data that are to be written behind their number.
+    pub fn new(prefixed: SizePrefixed<u8, &'a [u8]>) -> ShortOctets<'a>
+        requires { length prefixed.now ≤ 255 }
+        ensures { result.octets.now ≡ prefixed.entry.now }
+    {
+        ShortOctets {
+            octets: prefixed.into_data(),
+        }
+    }
+
+    /// The same as data behind their number.
+    pub fn prefixed(&self) -> SizePrefixed<u8, &'a [u8]>
+        ensures { result.now ≡ self.now.octets.now }
+    {
+        SizePrefixed::new(self.octets)
+    }
+
+    /// The order of what they are on the wire: the shorter comes first.
+    pub fn compare(&self, other: &ShortOctets<'_>) -> Ordering
+        ensures { result ≡ ordering_then (nat_cmp (length self.now.octets.now) (length other.now.octets.now))
+            (slice_cmp nat_cmp self.now.octets.now other.now.octets.now) }
+    {
+        let sizes = self.octets.len().cmp(&other.octets.len());
+        sizes.then(self.octets.cmp(other.octets))
+    }
+}
+
+impl<'a> ParseBytes<'a> for ShortOctets<'a> {
+    ghost Seen = { List ℕ };
+
+    ghost seen = { λ v. v.octets.now };
+
+    ghost reads = { text };
+
+    ghost reads_at = { plain_at text };
+
+    ghost labels = { λ _. [] };
+
+    fn parse_bytes(bytes: &'a [u8]) -> Result<ShortOctets<'a>, ParseError> {
+        let (value, rest) = ShortOctets::split_bytes(bytes)?;
+        if rest.is_empty() {
+            Ok(value)
+        } else {
+            Err(ParseError)
+        }
+    }
+}
+
+impl<'a> SplitBytes<'a> for ShortOctets<'a> {
+    fn split_bytes(bytes: &'a [u8]) -> Result<(ShortOctets<'a>, &'a [u8]), ParseError> {
+        let [size, behind @ ..] = bytes else {
+            return Err(ParseError);
+        };
+        let size = *size as usize;
+        if behind.len() < size {
+            return Err(ParseError);
+        }
+        let (octets, rest) = behind.split_at(size);
+        Ok((ShortOctets { octets }, rest))
+    }
+}
+
+impl BuildBytes for ShortOctets<'_> {
+    ghost octets = { λ v. length v.octets.now ∷ v.octets.now };
+
+    ghost fits = { λ _. ⊤ };
+
+    fn build_at(&self, bytes: &mut [u8], start: usize) -> Result<usize, TruncationError> {
+        let size = self.octets.len() as u8;
+        let body = size.build_at(bytes, start)?;
+        put(self.octets, bytes, body)
+    }
+
+    fn built_bytes_size(&self) -> usize {
+        1 + self.octets.len()
+    }
+}
