@@ -36,14 +36,14 @@ lowered_octets name octets is whole =
       is_lowered = ap lowered labels ∙ lowered_twice (labels_of name) ∙ sym labels;
     }
 
--- there is room for it over octets that are as many as the name's, and then none of them is left
-pub is_written : {E : Type 0} (labels : List (List ℕ)) (old new : List ℕ) (result : Result ℕ E) → length old ≡ length (wire labels)
-    → Builds ⊤ (wire (lowered labels)) old 0 new result → IsOk result × (new ≡ wire (lowered labels))
-is_written labels old new (Ok end) long built =
+-- there is room for octets over others that are as many, and then none of these is left
+pub is_written : {E : Type 0} (octets old new : List ℕ) (result : Result ℕ E) → length old ≡ length octets
+    → Builds ⊤ octets old 0 new result → IsOk result × (new ≡ octets)
+is_written octets old new (Ok end) long built =
     let stands = built.ok.1 in
-    let none : drop end old ≡ [] = drop_all end old (omega (arith, long, lowered_long labels, stands.end_is)) in
-    (refl, stands.new_is ∙ ap (λ (rest : List ℕ). wire (lowered labels) ++ rest) none ∙ append-nil (wire (lowered labels)))
-is_written labels old new (Err e) long built = absurd (omega (arith, built.err.2 tt, long, lowered_long labels))
+    let none : drop end old ≡ [] = drop_all end old (omega (arith, long, stands.end_is)) in
+    (refl, stands.new_is ∙ ap (λ (rest : List ℕ). octets ++ rest) none ∙ append-nil octets)
+is_written octets old new (Err e) long built = absurd (omega (arith, built.err.2 tt, long))
 
 -- it fills a vector that is as long as the name
 pub is_kept_whole : (name new items : List ℕ) (len : ℕ) → all_of (plain_name name) ≡ Some (labels_of name) → new ≡ wire (lowered (labels_of name)) → len ≡ length (wire (labels_of name))

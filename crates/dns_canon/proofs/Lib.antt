@@ -2,6 +2,7 @@
 pub mod Answering
 pub mod Decoding
 pub mod Exclusive
+pub mod Folded
 pub mod Going
 pub mod Kept
 pub mod NoItem
@@ -10,6 +11,7 @@ pub mod Phrased
 pub mod Sections
 pub mod Short
 pub mod Sorting
+pub mod Standing
 pub mod Transfers
 pub mod Trimming
 pub mod WordLemmas

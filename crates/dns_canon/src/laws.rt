@@ -1,11 +1,14 @@
 //! What follows from the definitions.
 
-ghost use Rattle.std.specs.Prelude.{◌≡◌, ◌≤◌, ◌<◌, ◌⊎◌, ◌↔◌, ◌++◌, ℕ, List, Some, None, true, length, drop, map, filter};
+ghost use Rattle.std.specs.Prelude.{◌≡◌, ◌≤◌, ◌<◌, ◌⊎◌, ◌↔◌, ◌++◌, ℕ, List, Some, None, true, false, length, drop, map, filter};
 ghost use Rattle.std.specs.Cmp.{IsTotalOrder};
 ghost use Rattle.std.specs.List.Sorted.{IsPermutation};
 ghost use Rattle.std.specs.declared.cmp.Ordering.TheVariants.{Equal};
 ghost use Rattle.dns_canon.specs.Canonical.{canon, is_kept};
-ghost use Rattle.dns_canon.specs.Messages.{Item, Rec, item_at, message_reading, Valid, StopsAt};
+ghost use Rattle.dns_record.specs.InPlace.{QuestionAt, RecordAt};
+ghost use Rattle.dns_canon.specs.Data.{is_waiting};
+ghost use Rattle.dns_canon.specs.Messages.{Item, Question, Rec, item_at, message_reading, Valid, StopsAt};
+ghost use Rattle.dns_canon.specs.Messages.Item.{Asked, Told};
 ghost use Rattle.dns_canon.specs.Messages.Reading.{Whole};
 ghost use Rattle.dns_canon.specs.NotBuilt.{not_built_at, StopsNotBuilt, StopsBad};
 ghost use Rattle.dns_canon.specs.Order.{record_cmp, Before, in_order, output};
@@ -30,13 +33,18 @@ pub fn four_kinds_of_messages()
 
 /// The reading of a message in words: it stops at an item exactly where all items that are counted before
 /// stand one after another and none stands at the item's place; it is whole exactly where all counted items
-/// stand one after another. At a place one item is read at the most, and none where a form stands that is
-/// not read yet.
+/// stand one after another. An item of section 0 is a question that stands at its place, and any other a
+/// record that stands there, of a type that is read (RFC 1035 sections 4.1.2 to 4.1.4). At a place one item
+/// is read at the most, and none where a form stands that is not read yet.
 pub fn readings_in_words()
     ensures stops { (m : List ℕ) (s i p : ℕ) → StopsAt m s i p ↔ FailsAt m s i p }
     ensures whole { (m : List ℕ) (items : List Item) (end : ℕ) → (message_reading m ≡ Whole items end) ↔ ReadsWhole m items end }
     ensures one { (section : ℕ) (contents : List ℕ) (at : ℕ) (item other : Item) (end last : ℕ) →
         item_at section contents at ≡ Some (item, end) → item_at section contents at ≡ Some (other, last) → (item ≡ other) × (end ≡ last) }
+    ensures asked { (contents : List ℕ) (at : ℕ) (question : Question) (end : ℕ) →
+        (item_at 0 contents at ≡ Some (Asked question, end)) ↔ QuestionAt contents at question end }
+    ensures told { (section : ℕ) (contents : List ℕ) (at : ℕ) (found : Rec) (end : ℕ) → 0 < section →
+        (item_at section contents at ≡ Some (Told found, end)) ↔ ((is_waiting found.rtype ≡ false) × RecordAt contents at found end) }
     ensures not_built { (section : ℕ) (contents : List ℕ) (at : ℕ) → not_built_at section contents at ≡ true → item_at section contents at ≡ None }
 {}
 

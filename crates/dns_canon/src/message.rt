@@ -5,7 +5,7 @@ ghost use Rattle.dns_canon.specs.Canonical.{is_kept};
 ghost use Rattle.dns_canon.specs.Lists.{RefusedInSection, RefusedOrMemory, refusal_at};
 ghost use Rattle.dns_canon.specs.Messages.{Item, Rec, slots, records_among, Valid};
 ghost use Rattle.dns_canon.specs.Order.{sort_key};
-ghost use Rattle.dns_canon.specs.Seen.{owned_seen, item_seen, HasShortData};
+ghost use Rattle.dns_canon.specs.Seen.{owned_seen, item_seen, HasSoundData};
 ghost use Rattle.dns_canon.specs.Worded.{ItemsAt};
 
 use crate::error::CanonError;
@@ -33,7 +33,7 @@ fn keep(
     item: &MessageItem<'_>,
     records: &mut Vec<OwnedRecord>,
 ) -> Result<(), AllocError>
-    requires { HasShortData item.now }
+    requires { HasSoundData item.now }
     ensures { OnOk result (map owned_seen records.new.items ≡ map owned_seen records.old.items
         ++ map sort_key (filter is_kept (records_among (item_seen item.now ∷ [])))) }
 {

@@ -109,22 +109,24 @@ pub(crate) struct OwnedRecord {
 }
 
 impl OwnedRecord {
-    ghost use Rattle.std.specs.Prelude.{◌^◌};
-    ghost use Rattle.dns_record.specs.Fields.{fields_octets};
     ghost use Rattle.dns_record.specs.Seen.{record_seen};
     ghost use Rattle.dns_canon.specs.Order.{sort_key};
-    ghost use Rattle.dns_canon.specs.Seen.{owned_seen, data_seen};
+    ghost use Rattle.std.specs.Prelude.{◌^◌};
+    ghost use Rattle.dns_record.specs.Fields.{fields_octets};
+    ghost use Rattle.dns_canon.specs.Seen.{owned_seen, data_seen, is_data_of};
 
     /// The parts of a record.
+    #[tactic(auto, using(crate::proofs::Folded::folded_size, crate::proofs::Folded::folded_is))]
     pub fn of(
         alloc: Global,
         record: &Record<NameBuf, RecordData<'_>>,
     ) -> Result<OwnedRecord, AllocError>
-        requires { length (fields_octets (data_seen «record».now.rdata)) < 2 ^ 16 }
+        requires short { length (fields_octets (data_seen «record».now.rdata)) < 2 ^ 16 }
+        requires typed { is_data_of «record».now.rdata «record».now.rtype.code.value }
         ensures { IfOk result (λ parts. owned_seen parts ≡ sort_key (record_seen (λ labels. labels) data_seen «record».now)) }
     {
         let owner = LoweredName::of(alloc, record.rname.as_name())?;
-        let octets = Vec::from_slice(alloc, record.rdata.octets())?;
+        let octets = record.rdata.canonical_octets(alloc)?;
         Ok(OwnedRecord {
             owner,
             class: record.rclass.code.get(),

@@ -4,7 +4,7 @@ ghost use Rattle.std.specs.Prelude.{◌≡◌, ◌≤◌, ◌<◌, ◌^◌, leng
 ghost use Rattle.dns_wire.specs.Reading.{Gives};
 ghost use Rattle.dns_canon.specs.Messages.{item_at};
 ghost use Rattle.dns_canon.specs.NotBuilt.{type_behind_owner, not_built_at};
-ghost use Rattle.dns_canon.specs.Seen.{item_seen, HasShortData};
+ghost use Rattle.dns_canon.specs.Seen.{item_seen, HasSoundData};
 
 use crate::item::MessageItem;
 use crate::record_data::is_waiting;
@@ -22,7 +22,7 @@ pub(crate) fn read_item(
 ) -> Result<(MessageItem<'_>, usize), ParseError>
     ensures exact { Gives (λ x. (item_seen x.0, x.1)) result (item_at section contents.now start) }
     ensures within { IfOk result (λ x. (start ≤ x.1) × (x.1 ≤ length contents.now)) }
-    ensures short { IfOk result (λ x. HasShortData x.0) }
+    ensures sound { IfOk result (λ x. HasSoundData x.0) }
 {
     if section == 0 {
         let (question, end) = Question::split_message_bytes(contents, start)?;

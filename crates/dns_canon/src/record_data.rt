@@ -1,44 +1,79 @@
 //! The record data that are read so far.
 
-ghost use Rattle.std.specs.Prelude.{◌≡◌, ℕ, List};
+ghost use Rattle.std.specs.Prelude.{◌≡◌, ◌≤◌, ◌<◌, ◌^◌, ℕ, List, length, IfOk, ⊤};
+ghost use Rattle.dns_wire.specs.Building.{Builds};
+ghost use Rattle.dns_wire.specs.Reading.{Gives};
 ghost use Rattle.dns_record.specs.Fields.{Field, fields_octets};
 ghost use Rattle.dns_canon.specs.Data.{is_waiting, read_as, read_in};
-ghost use Rattle.dns_canon.specs.Seen.{data_seen};
+ghost use Rattle.dns_canon.specs.Seen.{data_seen, data_folded, is_data_of};
 
-use dns_record::{ParseRecordData, ParseRecordDataBytes, RType};
-use dns_wire::{ParseBytes, ParseError, ParseMessageBytes};
+use dns_basic::{CName, Mx, Ns, Ptr, Rp, Soa};
+use dns_name::NameBuf;
+use dns_nsec::{Nsec, Nsec3, Nsec3Param};
+use dns_plain::{A, Aaaa, DName, HInfo, Srv, Txt};
+use dns_record::{CanonicalRecordData, ParseRecordData, ParseRecordDataBytes, RType};
+use dns_sec::{DNSKey, Ds, Rrsig, ZoneMD};
+use dns_wire::{BuildBytes, ParseBytes, ParseError, ParseMessageBytes, TruncationError, put};
+use std::alloc::{AllocError, Global};
 
-/// The types whose data will have a row of their own, and are not read before.
-const WAITING: [u16; 19] = [
-    2, 5, 6, 12, 13, 15, 16, 17, 28, 33, 39, 41, 43, 46, 47, 48, 50, 51, 63,
-];
-
-/// Whether the type is one whose data are not read yet.
+/// Whether the type is OPT, whose data are not read yet.
 pub(crate) fn is_waiting(rtype: RType) -> bool
     ensures { result ≡ is_waiting rtype.code.value }
 {
-    WAITING.contains(&rtype.code.value)
+    rtype == RType::OPT
+}
+
+/// Writes the canonical octets of data over octets that are as many.
+fn write_canonical(rdata: &RecordData<'_>, octets: &mut [u8])
+    requires { length octets.old ≡ length (fields_octets (data_folded rdata.now)) }
+    ensures { octets.new ≡ fields_octets (data_folded rdata.now) }
+{
+    rdata.build_canonical_at(octets, 0).unwrap();
 }
 
 /// Record data, by their type.
-#[derive(Clone, Copy, Debug)]
+#[derive(Debug, Drop)]
 pub(crate) enum RecordData<'a> {
     /// An address (RFC 1035 section 3.4.1).
-    A([u8; 4]),
+    A(A),
+    /// A name server (RFC 1035 section 3.3.11).
+    Ns(Ns<NameBuf>),
+    /// Another name (RFC 1035 section 3.3.1).
+    CName(CName<NameBuf>),
+    /// The start of a zone (RFC 1035 section 3.3.13).
+    Soa(Soa<NameBuf>),
+    /// A pointer (RFC 1035 section 3.3.12).
+    Ptr(Ptr<NameBuf>),
+    /// A host (RFC 1035 section 3.3.2).
+    HInfo(HInfo<'a>),
+    /// A mail exchange (RFC 1035 section 3.3.9).
+    Mx(Mx<NameBuf>),
+    /// Strings (RFC 1035 section 3.3.14).
+    Txt(Txt<'a>),
+    /// Who is responsible (RFC 1183 section 2.2).
+    Rp(Rp<NameBuf>),
+    /// An address of 16 octets (RFC 3596 section 2.2).
+    Aaaa(Aaaa),
+    /// A service (RFC 2782).
+    Srv(Srv<'a>),
+    /// Another subtree (RFC 6672 section 2.1).
+    DName(DName<'a>),
+    /// The digest of a key (RFC 4034 section 5.1).
+    Ds(Ds<'a>),
+    /// A signature (RFC 4034 section 3.1).
+    Rrsig(Rrsig<'a>),
+    /// The next name (RFC 4034 section 4.1).
+    Nsec(Nsec<'a>),
+    /// A key (RFC 4034 section 2.1).
+    DNSKey(DNSKey<'a>),
+    /// The next hashed name (RFC 5155 section 3.2).
+    Nsec3(Nsec3<'a>),
+    /// How names are hashed (RFC 5155 section 4.2).
+    Nsec3Param(Nsec3Param<'a>),
+    /// The digest of a zone (RFC 8976 section 2.2).
+    ZoneMD(ZoneMD<&'a [u8]>),
     /// Data of a type that has no row of its own (RFC 3597).
     Unknown(&'a [u8]),
-}
-
-impl RecordData<'_> {
-    /// The octets, which are canonical as they stand.
-    pub fn octets(&self) -> &[u8]
-        ensures { result.now ≡ fields_octets (data_seen self.now) }
-    {
-        match self {
-            RecordData::A(octets) => octets,
-            RecordData::Unknown(octets) => octets,
-        }
-    }
 }
 
 impl<'a> ParseRecordDataBytes<'a> for RecordData<'a> {
@@ -50,6 +85,8 @@ impl<'a> ParseRecordDataBytes<'a> for RecordData<'a> {
 
     ghost reads_in = { read_in };
 
+    ghost is_of = { is_data_of };
+
     #[tactic(auto, unfolding(crate::specs::Data::read_as, dns_record::specs::Data::data_as, dns_record::specs::Rows::row))]
     fn parse_record_data_bytes(
         bytes: &'a [u8],
@@ -59,7 +96,25 @@ impl<'a> ParseRecordDataBytes<'a> for RecordData<'a> {
             return Err(ParseError);
         }
         match rtype.code.value {
-            1 => Ok(RecordData::A(ParseBytes::parse_bytes(bytes)?)),
+            1 => Ok(RecordData::A(A::parse_bytes(bytes)?)),
+            2 => Ok(RecordData::Ns(Ns::parse_bytes(bytes)?)),
+            5 => Ok(RecordData::CName(CName::parse_bytes(bytes)?)),
+            6 => Ok(RecordData::Soa(Soa::parse_bytes(bytes)?)),
+            12 => Ok(RecordData::Ptr(Ptr::parse_bytes(bytes)?)),
+            13 => Ok(RecordData::HInfo(HInfo::parse_bytes(bytes)?)),
+            15 => Ok(RecordData::Mx(Mx::parse_bytes(bytes)?)),
+            16 => Ok(RecordData::Txt(Txt::parse_bytes(bytes)?)),
+            17 => Ok(RecordData::Rp(Rp::parse_bytes(bytes)?)),
+            28 => Ok(RecordData::Aaaa(Aaaa::parse_bytes(bytes)?)),
+            33 => Ok(RecordData::Srv(Srv::parse_bytes(bytes)?)),
+            39 => Ok(RecordData::DName(DName::parse_bytes(bytes)?)),
+            43 => Ok(RecordData::Ds(Ds::parse_bytes(bytes)?)),
+            46 => Ok(RecordData::Rrsig(Rrsig::parse_bytes(bytes)?)),
+            47 => Ok(RecordData::Nsec(Nsec::parse_bytes(bytes)?)),
+            48 => Ok(RecordData::DNSKey(DNSKey::parse_bytes(bytes)?)),
+            50 => Ok(RecordData::Nsec3(Nsec3::parse_bytes(bytes)?)),
+            51 => Ok(RecordData::Nsec3Param(Nsec3Param::parse_bytes(bytes)?)),
+            63 => Ok(RecordData::ZoneMD(ZoneMD::parse_bytes(bytes)?)),
             _ => Ok(RecordData::Unknown(bytes)),
         }
     }
@@ -76,14 +131,105 @@ impl<'a> ParseRecordData<'a> for RecordData<'a> {
             return Err(ParseError);
         }
         match rtype.code.value {
-            1 => {
-                let octets = ParseMessageBytes::parse_message_bytes(contents, start)?;
-                Ok(RecordData::A(octets))
-            }
+            1 => Ok(RecordData::A(A::parse_message_bytes(contents, start)?)),
+            2 => Ok(RecordData::Ns(Ns::parse_message_bytes(contents, start)?)),
+            5 => Ok(RecordData::CName(CName::parse_message_bytes(contents, start)?)),
+            6 => Ok(RecordData::Soa(Soa::parse_message_bytes(contents, start)?)),
+            12 => Ok(RecordData::Ptr(Ptr::parse_message_bytes(contents, start)?)),
+            13 => Ok(RecordData::HInfo(HInfo::parse_message_bytes(contents, start)?)),
+            15 => Ok(RecordData::Mx(Mx::parse_message_bytes(contents, start)?)),
+            16 => Ok(RecordData::Txt(Txt::parse_message_bytes(contents, start)?)),
+            17 => Ok(RecordData::Rp(Rp::parse_message_bytes(contents, start)?)),
+            28 => Ok(RecordData::Aaaa(Aaaa::parse_message_bytes(contents, start)?)),
+            33 => Ok(RecordData::Srv(Srv::parse_message_bytes(contents, start)?)),
+            39 => Ok(RecordData::DName(DName::parse_message_bytes(contents, start)?)),
+            43 => Ok(RecordData::Ds(Ds::parse_message_bytes(contents, start)?)),
+            46 => Ok(RecordData::Rrsig(Rrsig::parse_message_bytes(contents, start)?)),
+            47 => Ok(RecordData::Nsec(Nsec::parse_message_bytes(contents, start)?)),
+            48 => Ok(RecordData::DNSKey(DNSKey::parse_message_bytes(contents, start)?)),
+            50 => Ok(RecordData::Nsec3(Nsec3::parse_message_bytes(contents, start)?)),
+            51 => Ok(RecordData::Nsec3Param(Nsec3Param::parse_message_bytes(contents, start)?)),
+            63 => Ok(RecordData::ZoneMD(ZoneMD::parse_message_bytes(contents, start)?)),
             _ => {
                 let octets = ParseMessageBytes::parse_message_bytes(contents, start)?;
                 Ok(RecordData::Unknown(octets))
             }
         }
+    }
+}
+
+impl RecordData<'_> {
+    /// The number of octets, names whole.
+    pub fn size(&self) -> usize
+        requires { length (fields_octets (data_seen self.now)) < 2 ^ 16 }
+        ensures { result ≡ length (fields_octets (data_seen self.now)) }
+    {
+        match self {
+            RecordData::A(v) => v.built_bytes_size(),
+            RecordData::Ns(v) => v.built_bytes_size(),
+            RecordData::CName(v) => v.built_bytes_size(),
+            RecordData::Soa(v) => v.built_bytes_size(),
+            RecordData::Ptr(v) => v.built_bytes_size(),
+            RecordData::HInfo(v) => v.built_bytes_size(),
+            RecordData::Mx(v) => v.built_bytes_size(),
+            RecordData::Txt(v) => v.built_bytes_size(),
+            RecordData::Rp(v) => v.built_bytes_size(),
+            RecordData::Aaaa(v) => v.built_bytes_size(),
+            RecordData::Srv(v) => v.built_bytes_size(),
+            RecordData::DName(v) => v.built_bytes_size(),
+            RecordData::Ds(v) => v.built_bytes_size(),
+            RecordData::Rrsig(v) => v.built_bytes_size(),
+            RecordData::Nsec(v) => v.built_bytes_size(),
+            RecordData::DNSKey(v) => v.built_bytes_size(),
+            RecordData::Nsec3(v) => v.built_bytes_size(),
+            RecordData::Nsec3Param(v) => v.built_bytes_size(),
+            RecordData::ZoneMD(v) => v.built_bytes_size(),
+            RecordData::Unknown(octets) => octets.len(),
+        }
+    }
+
+    /// Writes the canonical octets at a place of the buffer, and gives the place where they end (RFC 4034
+    /// section 6.2). `TruncationError` comes exactly where they are more than the octets from `start` on.
+    pub fn build_canonical_at(
+        &self,
+        bytes: &mut [u8],
+        start: usize,
+    ) -> Result<usize, TruncationError>
+        requires { start ≤ length bytes.old }
+        ensures { Builds ⊤ (fields_octets (data_folded self.now)) bytes.old start bytes.new result }
+    {
+        match self {
+            RecordData::A(v) => v.build_canonical_at(bytes, start),
+            RecordData::Ns(v) => v.build_canonical_at(bytes, start),
+            RecordData::CName(v) => v.build_canonical_at(bytes, start),
+            RecordData::Soa(v) => v.build_canonical_at(bytes, start),
+            RecordData::Ptr(v) => v.build_canonical_at(bytes, start),
+            RecordData::HInfo(v) => v.build_canonical_at(bytes, start),
+            RecordData::Mx(v) => v.build_canonical_at(bytes, start),
+            RecordData::Txt(v) => v.build_canonical_at(bytes, start),
+            RecordData::Rp(v) => v.build_canonical_at(bytes, start),
+            RecordData::Aaaa(v) => v.build_canonical_at(bytes, start),
+            RecordData::Srv(v) => v.build_canonical_at(bytes, start),
+            RecordData::DName(v) => v.build_canonical_at(bytes, start),
+            RecordData::Ds(v) => v.build_canonical_at(bytes, start),
+            RecordData::Rrsig(v) => v.build_canonical_at(bytes, start),
+            RecordData::Nsec(v) => v.build_canonical_at(bytes, start),
+            RecordData::DNSKey(v) => v.build_canonical_at(bytes, start),
+            RecordData::Nsec3(v) => v.build_canonical_at(bytes, start),
+            RecordData::Nsec3Param(v) => v.build_canonical_at(bytes, start),
+            RecordData::ZoneMD(v) => v.build_canonical_at(bytes, start),
+            RecordData::Unknown(octets) => put(octets, bytes, start),
+        }
+    }
+
+    /// The canonical octets.
+    #[tactic(auto, using(crate::proofs::Folded::folded_size))]
+    pub fn canonical_octets(&self, alloc: Global) -> Result<Vec<u8>, AllocError>
+        requires { length (fields_octets (data_seen self.now)) < 2 ^ 16 }
+        ensures { IfOk result (λ octets. octets.items ≡ fields_octets (data_folded self.now)) }
+    {
+        let mut octets = vec![in alloc; 0; self.size()]?;
+        write_canonical(self, &mut octets);
+        Ok(octets)
     }
 }

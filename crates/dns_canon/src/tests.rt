@@ -4,6 +4,8 @@ mod messages;
 mod pointers;
 mod records;
 mod rows;
+mod types;
+mod zones;
 
 use crate::{
     CanonError, LIMIT, Status, Words, canonical_lists, canonicalise, four_kinds_of_messages,
@@ -19,6 +21,8 @@ use std::fs::File;
 use std::io::Read;
 use std::process::Abort;
 use std::test::Fail;
+use types::TYPES;
+use zones::ZONES;
 
 const HEADER: &str = "000000000000000000000000";
 
@@ -115,6 +119,30 @@ fn follows_the_pointers_that_other_software_follows(rt: HostRuntime) -> Result<(
         count = count.saturating_add(1);
     }
     assert_eq!(rt; count, 60);
+    Ok(())
+}
+
+#[test]
+fn reads_the_data_of_each_type(rt: HostRuntime) -> Result<(), Fail> {
+    let alloc = rt.alloc();
+    let mut count = 0u8;
+    for entry in TYPES.lines() {
+        answers_entry(&rt, alloc, entry)?;
+        count = count.saturating_add(1);
+    }
+    assert_eq!(rt; count, 106);
+    Ok(())
+}
+
+#[test]
+fn writes_signed_zones_as_other_software_does(rt: HostRuntime) -> Result<(), Fail> {
+    let alloc = rt.alloc();
+    let mut count = 0u8;
+    for entry in ZONES.lines() {
+        answers_entry(&rt, alloc, entry)?;
+        count = count.saturating_add(1);
+    }
+    assert_eq!(rt; count, 2);
     Ok(())
 }
 

@@ -1,5 +1,6 @@
 use Rattle.dns_canon.proofs.NoItem.{no_item}
 use Rattle.dns_canon.proofs.Phrased.{fails_stops, stops_fails, whole_read, read_whole}
+use Rattle.dns_canon.proofs.Standing.{question_stands, record_stands}
 use Rattle.dns_canon.proofs.laws.readings_in_words.Goals as goal
 
 pub returns-clause-stops : goal.returns-clause-stops
@@ -10,3 +11,9 @@ returns-clause-whole c = λ m items end. (read_whole m items end, whole_read m i
 
 pub returns-clause-not_built : goal.returns-clause-not_built
 returns-clause-not_built c = no_item
+
+pub returns-clause-asked : goal.returns-clause-asked
+returns-clause-asked c = question_stands
+
+pub returns-clause-told : goal.returns-clause-told
+returns-clause-told c = λ section contents at found end. record_stands section contents at found end
