@@ -1,4 +1,5 @@
 -- The crate's own lemmas.
+pub mod AtPlaces
 pub mod Alike
 pub mod Backward
 pub mod Cutting

@@ -4,6 +4,7 @@ pub mod Compression
 pub mod Devices
 pub mod Hexadecimal
 pub mod InMessage
+pub mod Left
 pub mod Lists
 pub mod Names
 pub mod Outside

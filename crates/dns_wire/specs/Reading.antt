@@ -1,6 +1,8 @@
 -- What it means that octets are read, whatever the type.
-use Rattle.std.specs.Prelude.{◌≡◌, ℕ, ◌<◌, ◌-◌, List, [], ◌∷◌, length, take, drop, Option, Some, None, Result, Ok, Err, nat_lt, slice_index, ◌==◌, if◌then◌else◌}
+use Rattle.std.specs.Prelude.{◌≡◌, ℕ, ◌<◌, ◌≤◌, ◌-◌, List, [], ◌∷◌, length, take, drop, Option, Some, None, Result, Ok, Err, nat_lt, slice_index, ◌==◌, if◌then◌else◌}
 use Rattle.std.specs.Int.{Width, byte_len, from_be_bytes}
+use Rattle.dns_wire.specs.declared.error.ParseError.{ParseError}
+use denote.Ref.{Bor}
 
 -- these numbers are octets
 abbrev pub AreOctets : List ℕ → Type 0
@@ -16,6 +18,21 @@ abbrev pub all_of : {Y : Type 0} → Option (Y × List ℕ) → Option Y
 all_of None = None
 all_of (Some (y, [])) = Some y
 all_of (Some (y, x ∷ rest)) = None
+
+-- a value that was read, where no octet is left over
+abbrev pub whole_of : {T : Type 0} → Result (T × Bor (List ℕ)) ParseError → Result T ParseError
+whole_of (Err e) = Err e
+whole_of (Ok (value, rest)) = elim rest.now [ [] ↦ Ok value | x ∷ more ↦ Err (record {}) ]
+
+-- the rest is what follows: the octets without so many from the front
+pub record Follows (rest bytes : List ℕ) : Type 0 where
+  pub count : ℕ
+  pub within : count ≤ length bytes
+  pub rest_is : rest ≡ drop count bytes
+
+-- what a grammar leaves over is what follows
+abbrev pub LeavesRest : {Y : Type 0} → (List ℕ → Option (Y × List ℕ)) → Type 0
+LeavesRest {Y} grammar = (bytes : List ℕ) (y : Y) (rest : List ℕ) → grammar bytes ≡ Some (y, rest) → Follows rest bytes
 
 -- one octet
 abbrev pub octet : List ℕ → Option (ℕ × List ℕ)
@@ -34,10 +51,19 @@ number w bytes =
 
 -- ---- at a place in the contents of a message, which are its octets behind the header
 
+-- what a grammar reads ends in the contents and not before it begins, so that nothing is read from behind their end
+abbrev pub EndsWithin : {Y : Type 0} → (List ℕ → ℕ → Option (Y × ℕ)) → Type 0
+EndsWithin {Y} grammar = (contents : List ℕ) (at : ℕ) (y : Y) (end : ℕ) → grammar contents at ≡ Some (y, end) → (at ≤ end) × (end ≤ length contents)
+
 -- what is read, where it ends with the contents
 abbrev pub all_at : {Y : Type 0} → List ℕ → Option (Y × ℕ) → Option Y
 all_at contents None = None
 all_at contents (Some (y, end)) = if end == length contents then Some y else None
+
+-- a value that was read, where it ends with the contents
+abbrev pub whole_in : {T : Type 0} → List ℕ → Result (T × ℕ) ParseError → Result T ParseError
+whole_in contents (Err e) = Err e
+whole_in contents (Ok (value, end)) = if end == length contents then Ok value else Err (record {})
 
 -- where in the contents the rest begins
 abbrev pub with_end : {Y : Type 0} → List ℕ → Option (Y × List ℕ) → Option (Y × ℕ)
@@ -48,8 +74,3 @@ with_end contents (Some (y, rest)) = Some (y, length contents - length rest)
 abbrev pub plain_at : {Y : Type 0} → (List ℕ → Option (Y × List ℕ)) → List ℕ → ℕ → Option (Y × ℕ)
 plain_at grammar contents start =
     if nat_lt (length contents) start then None else with_end contents (grammar (drop start contents))
-
--- what a grammar reads that knows no places, where no octet is left over; nothing from a place behind the end
-abbrev pub all_plain_at : {Y : Type 0} → (List ℕ → Option (Y × List ℕ)) → List ℕ → ℕ → Option Y
-all_plain_at grammar contents start =
-    if nat_lt (length contents) start then None else all_of (grammar (drop start contents))

@@ -40,8 +40,8 @@ pub use lowercase::{build_lowercase, compare_lowercase};
 pub use memory::{NullSink, PlainSource, TextSink, TextSource};
 pub use outside::{Failed, Sink, Source};
 pub use parse::{
-    ParseBytes, ParseMessageBytes, SplitBytes, SplitMessageBytes, parse_without_compression,
-    split_without_compression,
+    ParseBytes, ParseMessageBytes, ParseName, SplitBytes, SplitMessageBytes,
+    parse_without_compression, split_without_compression, whole, whole_message,
 };
 pub use press::put_name;
 

@@ -1,7 +1,9 @@
 //! Reading values from octets.
 
-ghost use Rattle.std.specs.Prelude.{◌≤◌, ℕ, List, [], length, Option, Some, IfOk};
-ghost use Rattle.dns_wire.specs.Reading.{Gives, all_of, all_at, plain_at, all_plain_at, octet, octets};
+ghost use Rattle.std.specs.Prelude.{◌≡◌, ◌≤◌, ℕ, List, [], length, Option, Some, IfOk};
+ghost use Rattle.dns_wire.specs.Reading.{Gives, LeavesRest, EndsWithin, all_of, all_at, plain_at, whole_of, whole_in, octet, octets};
+ghost use Rattle.dns_wire.specs.Names.{IsName};
+ghost use Rattle.dns_wire.specs.Left.{octet_leaves, octets_leave, whole_leaves, plain_ends};
 
 use crate::error::ParseError;
 
@@ -19,12 +21,16 @@ pub trait ParseBytes<'a>: Sized + Drop {
     /// The grammar at a place in the contents of a message: what stands there, and where it ends.
     ghost reads_at: { List ℕ → ℕ → Option (Seen × ℕ) };
 
-    /// The labels of what is read where that is a name, and none where it is not.
-    ghost labels: { Seen → List (List ℕ) };
-
     /// Reads the value that all the octets spell. `ParseError` comes exactly where they spell none.
     fn parse_bytes(bytes: &'a [u8]) -> Result<Self, ParseError>
         ensures { Gives seen result (all_of (reads bytes.now)) };
+
+    /// What is left over is what follows: the octets without so many from the front.
+    ghost leaves_rest: { LeavesRest reads };
+
+    /// What is read in a message ends in it and not before its place, so that nothing is read from behind
+    /// the end.
+    ghost ends_within: { EndsWithin reads_at };
 }
 
 /// A type whose values may be followed by other octets.
@@ -54,13 +60,57 @@ pub trait SplitMessageBytes<'a>: SplitBytes<'a> + ParseMessageBytes<'a> {
         ensures within { IfOk result (λ x. (start ≤ x.1) × (x.1 ≤ length contents.now)) };
 }
 
+/// A type whose values are names, in whatever layout, with pointers followed or as they stand.
+pub trait ParseName<'a>: SplitBytes<'a> {
+    /// The labels, without the root; of a name as it stands, those before its pointer.
+    ghost labels: { Self → List (List ℕ) };
+
+    /// How many labels there are, at most 127.
+    fn label_count(&self) -> usize
+        ensures count { result ≡ length (labels self.now) }
+        ensures few { result ≤ 127 };
+
+    /// The labels of what was read are a name (RFC 1035 section 2.3.4).
+    ghost names: { (name : Self) (bytes rest : List ℕ) →
+        Self.reads bytes ≡ Some (Self.seen name, rest) → IsName (labels name) };
+
+    /// The labels of what was read in a message are a name (RFC 1035 section 2.3.4).
+    ghost names_at: { (name : Self) (contents : List ℕ) (at end : ℕ) →
+        Self.reads_at contents at ≡ Some (Self.seen name, end) → IsName (labels name) };
+}
+
+/// The value that was read, where no octet is left over. `ParseError` comes exactly where none was read and
+/// where octets are left over.
+pub fn whole<T: Drop>(read: Result<(T, &[u8]), ParseError>) -> Result<T, ParseError>
+    ensures { result ≡ whole_of read.entry }
+{
+    match read {
+        Ok((value, [])) => Ok(value),
+        _ => Err(ParseError),
+    }
+}
+
+/// The value that was read in a message, where it ends with the contents. `ParseError` comes exactly where
+/// none was read and where it ends before.
+pub fn whole_message<T: Drop>(
+    read: Result<(T, usize), ParseError>,
+    contents: &[u8],
+) -> Result<T, ParseError>
+    ensures { result ≡ whole_in contents.now read }
+{
+    match read {
+        Ok((value, end)) if end == contents.len() => Ok(value),
+        _ => Err(ParseError),
+    }
+}
+
 /// Reads the value that all the octets from the place on spell, with no pointers. `ParseError` comes
 /// exactly where they spell none, and from a place behind the end.
 pub fn parse_without_compression<'a, T: ParseBytes<'a>>(
     contents: &'a [u8],
     start: usize,
 ) -> Result<T, ParseError>
-    ensures { Gives T.seen result (all_plain_at T.reads contents.now start) }
+    ensures { Gives T.seen result (all_at contents.now (plain_at T.reads contents.now start)) }
 {
     if contents.len() < start {
         return Err(ParseError);
@@ -94,7 +144,9 @@ impl<'a> ParseBytes<'a> for u8 {
 
     ghost reads_at = { plain_at octet };
 
-    ghost labels = { λ _. [] };
+    ghost leaves_rest = { octet_leaves };
+
+    ghost ends_within = { plain_ends octet octet_leaves };
 
     fn parse_bytes(bytes: &'a [u8]) -> Result<u8, ParseError> {
         match bytes {
@@ -135,7 +187,9 @@ impl<'a> ParseBytes<'a> for &'a [u8] {
 
     ghost reads_at = { plain_at (λ bytes. Some (bytes, [])) };
 
-    ghost labels = { λ _. [] };
+    ghost leaves_rest = { whole_leaves };
+
+    ghost ends_within = { plain_ends (λ bytes. Some (bytes, [])) whole_leaves };
 
     fn parse_bytes(bytes: &'a [u8]) -> Result<&'a [u8], ParseError> {
         Ok(bytes)
@@ -158,7 +212,9 @@ impl<'a, const N: usize> ParseBytes<'a> for [u8; N] {
 
     ghost reads_at = { plain_at (octets N) };
 
-    ghost labels = { λ _. [] };
+    ghost leaves_rest = { octets_leave N };
+
+    ghost ends_within = { plain_ends (octets N) (octets_leave N) };
 
     fn parse_bytes(bytes: &'a [u8]) -> Result<[u8; N], ParseError> {
         match bytes.split_first_chunk::<N>() {

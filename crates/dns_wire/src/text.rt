@@ -1,9 +1,10 @@
 //! Reading and writing text.
 
-ghost use Rattle.std.specs.Prelude.{◌↔◌, ℕ, List, [], None, IsOk, ⊤};
+ghost use Rattle.std.specs.Prelude.{◌↔◌, ℕ, List, None, IsOk, ⊤};
 ghost use Rattle.std.specs.Str.{IsUtf8};
 ghost use Rattle.dns_wire.specs.Pieces.{whole_presses};
 ghost use Rattle.dns_wire.specs.Reading.{Gives, all_of, plain_at};
+ghost use Rattle.dns_wire.specs.Left.{text_leaves, plain_ends};
 ghost use Rattle.dns_wire.specs.Texts.{text};
 
 use crate::build::{BuildBytes, put};
@@ -22,7 +23,9 @@ impl<'a> ParseBytes<'a> for &'a str {
 
     ghost reads_at = { plain_at text };
 
-    ghost labels = { λ _. [] };
+    ghost leaves_rest = { text_leaves };
+
+    ghost ends_within = { plain_ends text text_leaves };
 
     /// Reads the text that all the octets are. `ParseError` comes exactly where they are not UTF-8
     /// (RFC 3629 section 4).
