@@ -2,5 +2,4 @@
 pub mod Cells
 pub mod Compared
 pub mod Filled
-pub mod Placed
 pub mod Stored

@@ -1,6 +1,7 @@
 -- What the contracts of labels cite.
 pub mod Hashing
 pub mod Labels
+pub mod Left
 pub mod Lends
 pub mod Order
 pub mod Storage

@@ -3,13 +3,15 @@
 ghost use Rattle.std.specs.Prelude.{◌≡◌, ◌≤◌, ◌↔◌, ℕ, List, [], ◌∷◌, length, codes, Option, Some, IsTrue};
 ghost use Rattle.std.proofs.Props.{props};
 ghost use Rattle.dns_wire.specs.Reading.{all_of, plain_at};
+ghost use Rattle.dns_wire.specs.Left.{plain_ends};
+ghost use Rattle.dns_label.specs.Left.{label_leaves};
 ghost use Rattle.dns_label.specs.Labels.{plain_label, contents_of, label_wire};
 
 use crate::label_buf::LabelBuf;
 use dns_wire::{
     AsBytes, BuildBytes, BuildInMessage, NameCompressor, ParseBytes, ParseError, ParseMessageBytes,
     SplitBytes, SplitMessageBytes, TruncationError, build_whole, parse_without_compression, put,
-    split_without_compression,
+    split_without_compression, whole,
 };
 
 /// A label: a length of at most 63, and so many octets (RFC 1035 section 3.1). What contracts see of it
@@ -96,15 +98,12 @@ impl<'a> ParseBytes<'a> for Label<'a> {
 
     ghost reads_at = { plain_at plain_label };
 
-    ghost labels = { λ _. [] };
+    ghost leaves_rest = { label_leaves };
+
+    ghost ends_within = { plain_ends plain_label label_leaves };
 
     fn parse_bytes(bytes: &'a [u8]) -> Result<Label<'a>, ParseError> {
-        let (label, rest) = Label::split_bytes(bytes)?;
-        if rest.is_empty() {
-            Ok(label)
-        } else {
-            Err(ParseError)
-        }
+        whole(Label::split_bytes(bytes))
     }
 }
 

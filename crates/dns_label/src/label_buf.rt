@@ -4,6 +4,8 @@ ghost use Rattle.std.specs.Prelude.{◌≡◌, ◌≤◌, ◌<◌, ◌+◌, ◌�
 ghost use Rattle.std.specs.Borrow.{sem};
 ghost use Rattle.std.specs.Str.{str_to_ascii_lowercase};
 ghost use Rattle.dns_wire.specs.Reading.{plain_at};
+ghost use Rattle.dns_wire.specs.Left.{plain_ends};
+ghost use Rattle.dns_label.specs.Left.{label_leaves};
 ghost use Rattle.dns_label.specs.Labels.{plain_label, contents_of};
 ghost use Rattle.dns_label.specs.Storage.{stored};
 
@@ -170,7 +172,9 @@ impl<'a> ParseBytes<'a> for LabelBuf {
 
     ghost reads_at = { plain_at plain_label };
 
-    ghost labels = { λ _. [] };
+    ghost leaves_rest = { label_leaves };
+
+    ghost ends_within = { plain_ends plain_label label_leaves };
 
     fn parse_bytes(bytes: &'a [u8]) -> Result<LabelBuf, ParseError> {
         let label = Label::parse_bytes(bytes)?;

@@ -2,5 +2,6 @@
 pub mod Cased
 pub mod Composed
 pub mod Hashing
+pub mod Left
 pub mod Order
 pub mod Unparsed

@@ -3,11 +3,15 @@
 ghost use Rattle.std.specs.Prelude.{◌≡◌, ◌≤◌, ◌<◌, ◌^◌, ◌↔◌, ℕ, List, [], ◌∷◌, ◌++◌, length, Option, Some, IfOk, IsTrue, MatchOption};
 ghost use Rattle.std.proofs.Props.{props};
 ghost use Rattle.dns_wire.specs.Reading.{Gives, all_of, plain_at};
+ghost use Rattle.dns_wire.specs.Left.{plain_ends};
+ghost use Rattle.dns_wire.proofs.NamesLeft.{plain_name_leaves, plain_name_names};
 ghost use Rattle.dns_wire.specs.Names.{plain_name, labels_of, wire};
 ghost use Rattle.dns_label.specs.Labels.{contents_of};
 
 use dns_label::{Label, LabelIter};
-use dns_wire::{AsBytes, BuildBytes, ParseBytes, ParseError, SplitBytes, TruncationError, put};
+use dns_wire::{
+    AsBytes, BuildBytes, ParseBytes, ParseError, ParseName, SplitBytes, TruncationError, put, whole,
+};
 
 /// A name without pointers: labels of 1 to 63 octets, each behind its length, and the root's length 0,
 /// at most 255 octets in all (RFC 1035 section 3.1).
@@ -94,15 +98,12 @@ impl<'a> ParseBytes<'a> for Name<'a> {
 
     ghost reads_at = { plain_at plain_name };
 
-    ghost labels = { λ x. x };
+    ghost leaves_rest = { plain_name_leaves };
+
+    ghost ends_within = { plain_ends plain_name plain_name_leaves };
 
     fn parse_bytes(bytes: &'a [u8]) -> Result<Name<'a>, ParseError> {
-        let (name, rest) = Name::split_bytes(bytes)?;
-        if rest.is_empty() {
-            Ok(name)
-        } else {
-            Err(ParseError)
-        }
+        whole(Name::split_bytes(bytes))
     }
 }
 

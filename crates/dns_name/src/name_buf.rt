@@ -2,6 +2,7 @@
 
 ghost use Rattle.std.specs.Prelude.{◌≡◌, ◌+◌, ◌≤◌, ℕ, List, ◌++◌, length, take, IfOk, OnErr, ⊤};
 ghost use Rattle.dns_wire.specs.Reading.{Gives, all_of, all_at};
+ghost use Rattle.dns_wire.proofs.NamesLeft.{plain_name_leaves, name_ends, plain_name_names, name_at_names};
 ghost use Rattle.dns_wire.specs.Names.{plain_name, labels_of};
 ghost use Rattle.dns_wire.specs.Pointers.{NameAt, name_at};
 
@@ -23,7 +24,8 @@ pub struct NameBuf {
 impl Model for NameBuf {
     ghost use Rattle.std.specs.Prelude.{◌≡◌, ◌≤◌, ℕ, List, take, Some};
     ghost use Rattle.dns_wire.specs.Reading.{all_of};
-    ghost use Rattle.dns_wire.specs.Names.{plain_name, labels_of};
+    ghost use Rattle.dns_wire.proofs.NamesLeft.{plain_name_leaves, name_ends, plain_name_names, name_at_names};
+ghost use Rattle.dns_wire.specs.Names.{plain_name, labels_of};
 
     ghost Value = { List (List ℕ) };
 
@@ -122,7 +124,9 @@ impl<'a> ParseBytes<'a> for NameBuf {
 
     ghost reads_at = { name_at };
 
-    ghost labels = { λ x. x };
+    ghost leaves_rest = { plain_name_leaves };
+
+    ghost ends_within = { name_ends };
 
     fn parse_bytes(bytes: &'a [u8]) -> Result<NameBuf, ParseError> {
         let name = Name::parse_bytes(bytes)?;
@@ -171,7 +175,8 @@ impl<'a> SplitMessageBytes<'a> for NameBuf {
 impl BuildBytes for NameBuf {
     ghost use Rattle.std.specs.Prelude.{⊤};
     ghost use Rattle.dns_wire.specs.Building.{Builds};
-    ghost use Rattle.dns_wire.specs.Names.{wire};
+    ghost use Rattle.dns_wire.proofs.NamesLeft.{plain_name_leaves, name_ends, plain_name_names, name_at_names};
+ghost use Rattle.dns_wire.specs.Names.{wire};
 
     ghost octets = { λ v. wire v };
 

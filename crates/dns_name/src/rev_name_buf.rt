@@ -2,6 +2,7 @@
 
 ghost use Rattle.std.specs.Prelude.{◌≡◌, ◌≤◌, ℕ, List, length, IfOk, OnErr, ⊤};
 ghost use Rattle.dns_wire.specs.Reading.{Gives, all_of, all_at};
+ghost use Rattle.dns_wire.proofs.NamesLeft.{plain_name_leaves, name_ends, plain_name_names, name_at_names};
 ghost use Rattle.dns_wire.specs.Names.{plain_name, labels_of, wire};
 ghost use Rattle.dns_wire.specs.Pointers.{NameAt, name_at};
 ghost use Rattle.dns_wire.specs.Reversed.{reversed_labels_of};
@@ -155,7 +156,9 @@ impl<'a> ParseBytes<'a> for RevNameBuf {
 
     ghost reads_at = { name_at };
 
-    ghost labels = { λ x. x };
+    ghost leaves_rest = { plain_name_leaves };
+
+    ghost ends_within = { name_ends };
 
     fn parse_bytes(bytes: &'a [u8]) -> Result<RevNameBuf, ParseError> {
         let name = Name::parse_bytes(bytes)?;

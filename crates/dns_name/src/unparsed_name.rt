@@ -4,12 +4,13 @@ ghost use Rattle.std.specs.Prelude.{◌≡◌, ◌≤◌, ◌<◌, ◌^◌, ◌�
 ghost use Rattle.std.proofs.Props.{props};
 ghost use Rattle.dns_wire.specs.Reading.{Gives, all_of, all_at, plain_at};
 ghost use Rattle.dns_label.specs.Labels.{contents_of};
+ghost use Rattle.dns_name.specs.Left.{unparsed_leaves, unparsed_ends, unparsed_names, unparsed_names_at};
 ghost use Rattle.dns_name.specs.Unparsed.{Unparsed, unparsed_wire, end_offset, alone_offset, unparsed_name, unparsed_of, unparsed_at};
 
 use dns_label::Label;
 use dns_wire::{
     AsBytes, BuildBytes, ParseBytes, ParseError, ParseMessageBytes, SplitBytes, SplitMessageBytes,
-    TruncationError, put,
+    TruncationError, put, whole, whole_message,
 };
 
 /// Labels of 1 to 63 octets, each behind its length, and then the root's length 0 or a pointer, which begin
@@ -134,15 +135,12 @@ impl<'a> ParseBytes<'a> for UnparsedName<'a> {
 
     ghost reads_at = { unparsed_at };
 
-    ghost labels = { λ _. [] };
+    ghost leaves_rest = { unparsed_leaves };
+
+    ghost ends_within = { unparsed_ends };
 
     fn parse_bytes(bytes: &'a [u8]) -> Result<UnparsedName<'a>, ParseError> {
-        let (name, rest) = UnparsedName::split_bytes(bytes)?;
-        if rest.is_empty() {
-            Ok(name)
-        } else {
-            Err(ParseError)
-        }
+        whole(UnparsedName::split_bytes(bytes))
     }
 }
 
@@ -160,12 +158,7 @@ impl<'a> ParseMessageBytes<'a> for UnparsedName<'a> {
         contents: &'a [u8],
         start: usize,
     ) -> Result<UnparsedName<'a>, ParseError> {
-        let (name, end) = UnparsedName::split_message_bytes(contents, start)?;
-        if end == contents.len() {
-            Ok(name)
-        } else {
-            Err(ParseError)
-        }
+        whole_message(UnparsedName::split_message_bytes(contents, start), contents)
     }
 }
 

@@ -1,2 +1,3 @@
 -- What the contracts of wire numbers and of prefixed data cite.
+pub mod Left
 pub mod Prefixed

@@ -6,6 +6,7 @@ ghost use Rattle.std.specs.Fmt.{decimal};
 ghost use Rattle.std.specs.Ordering.{nat_cmp};
 ghost use Rattle.std.specs.Result.{OkIff};
 ghost use Rattle.dns_wire.specs.Pieces.{whole_presses};
+ghost use Rattle.dns_wire.specs.Left.{number_leaves, plain_ends};
 ghost use Rattle.dns_wire.specs.Reading.{number, plain_at};
 
 use dns_wire::{
@@ -117,7 +118,9 @@ impl<'a> ParseBytes<'a> for U16 {
 
     ghost reads_at = { plain_at (number w16) };
 
-    ghost labels = { λ _. [] };
+    ghost leaves_rest = { number_leaves w16 };
+
+    ghost ends_within = { plain_ends (number w16) (number_leaves w16) };
 
     fn parse_bytes(bytes: &'a [u8]) -> Result<U16, ParseError> {
         let (number, rest) = U16::split_bytes(bytes)?;

@@ -5,6 +5,7 @@ ghost use Rattle.std.specs.Int.{w32, to_be_bytes};
 ghost use Rattle.std.specs.Fmt.{decimal};
 ghost use Rattle.std.specs.Ordering.{nat_cmp};
 ghost use Rattle.dns_wire.specs.Pieces.{whole_presses};
+ghost use Rattle.dns_wire.specs.Left.{number_leaves, plain_ends};
 ghost use Rattle.dns_wire.specs.Reading.{number, plain_at};
 
 use dns_wire::{
@@ -95,7 +96,9 @@ impl<'a> ParseBytes<'a> for U32 {
 
     ghost reads_at = { plain_at (number w32) };
 
-    ghost labels = { λ _. [] };
+    ghost leaves_rest = { number_leaves w32 };
+
+    ghost ends_within = { plain_ends (number w32) (number_leaves w32) };
 
     fn parse_bytes(bytes: &'a [u8]) -> Result<U32, ParseError> {
         let (number, rest) = U32::split_bytes(bytes)?;

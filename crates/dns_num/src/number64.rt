@@ -5,6 +5,7 @@ ghost use Rattle.std.specs.Int.{w64, to_be_bytes};
 ghost use Rattle.std.specs.Fmt.{decimal};
 ghost use Rattle.std.specs.Ordering.{nat_cmp};
 ghost use Rattle.dns_wire.specs.Pieces.{whole_presses};
+ghost use Rattle.dns_wire.specs.Left.{number_leaves, plain_ends};
 ghost use Rattle.dns_wire.specs.Reading.{number, plain_at};
 
 use dns_wire::{
@@ -95,7 +96,9 @@ impl<'a> ParseBytes<'a> for U64 {
 
     ghost reads_at = { plain_at (number w64) };
 
-    ghost labels = { λ _. [] };
+    ghost leaves_rest = { number_leaves w64 };
+
+    ghost ends_within = { plain_ends (number w64) (number_leaves w64) };
 
     fn parse_bytes(bytes: &'a [u8]) -> Result<U64, ParseError> {
         let (number, rest) = U64::split_bytes(bytes)?;

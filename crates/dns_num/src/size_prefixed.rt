@@ -1,13 +1,14 @@
 //! Data behind the number of their octets.
 
-ghost use Rattle.std.specs.Prelude.{◌≡◌, ◌<◌, ◌^◌, length, []};
+ghost use Rattle.std.specs.Prelude.{◌≡◌, ◌<◌, ◌^◌, length};
 ghost use Rattle.std.specs.Int.{byte_len};
+ghost use Rattle.dns_num.specs.Left.{prefixed_leaves, prefixed_ends};
 ghost use Rattle.dns_num.specs.Prefixed.{sized, prefixed, prefixed_at};
 
 use crate::size_prefix::{SizePrefix, can_say, split_size};
 use dns_wire::{
     BuildBytes, ParseBytes, ParseError, ParseMessageBytes, SplitBytes, SplitMessageBytes,
-    TruncationError,
+    TruncationError, whole_message,
 };
 use std::marker::{Model, PhantomData};
 
@@ -62,7 +63,9 @@ impl<'a, S: SizePrefix, T: ParseBytes<'a>> ParseBytes<'a> for SizePrefixed<S, T>
 
     ghost reads_at = { prefixed_at S.number_width T.reads_at };
 
-    ghost labels = { λ _. [] };
+    ghost leaves_rest = { prefixed_leaves S.number_width T.reads };
+
+    ghost ends_within = { prefixed_ends S.number_width T.reads_at };
 
     #[tactic(auto, unfolding(crate::specs::Prefixed::prefixed))]
     fn parse_bytes(bytes: &'a [u8]) -> Result<SizePrefixed<S, T>, ParseError> {
@@ -93,12 +96,7 @@ impl<'a, S: SizePrefix, T: ParseMessageBytes<'a>> ParseMessageBytes<'a> for Size
         contents: &'a [u8],
         start: usize,
     ) -> Result<SizePrefixed<S, T>, ParseError> {
-        let (value, end) = SizePrefixed::<S, T>::split_message_bytes(contents, start)?;
-        if end == contents.len() {
-            Ok(value)
-        } else {
-            Err(ParseError)
-        }
+        whole_message(SizePrefixed::split_message_bytes(contents, start), contents)
     }
 }
 

@@ -11,6 +11,7 @@ pub mod Listed
 pub mod Longest
 pub mod Lowered
 pub mod Matching
+pub mod NamesLeft
 pub mod Noting
 pub mod Parts
 pub mod Rereading

@@ -6,7 +6,26 @@ use Rattle.std.proofs.lemmas.Bool.{ltb-false}
 use Rattle.std.proofs.lemmas.List.{drop-drop, drop_all, length-drop}
 use Rattle.std.proofs.lemmas.Option.{some_pair_parts}
 use Rattle.dns_wire.specs.Reading.{Follows, LeavesRest, EndsWithin, octet, octets, number, plain_at, with_end}
+use Rattle.dns_wire.specs.Steps.{◌>>=◌, first_to}
 use Rattle.dns_wire.specs.Texts.{text}
+
+-- ---- reading by steps
+
+-- what two steps read was read by the first, and then by the second with it
+pub then_some : {A B : Type 0} (read : Option A) (more : A → Option B) (b : B) → (read >>= more) ≡ Some b → (a : A) × (read ≡ Some a) × (more a ≡ Some b)
+then_some None more b e = absurd cc
+then_some (Some a) more b e = (a, refl, e)
+
+-- what is put into something was read before
+pub put_some : {A B S : Type 0} (to : A → B) (read : Option (A × S)) (y : B) (rest : S) → first_to to read ≡ Some (y, rest) → (x : A) × (read ≡ Some (x, rest)) × (to x ≡ y)
+put_some to None y rest e = absurd cc
+put_some to (Some (x, later)) y rest e = let same = some_pair_parts (to x) y later rest e in (x, ap (λ r. Some (x, r)) same.1, same.0)
+
+pub put_leaves : {A B : Type 0} (to : A → B) (grammar : List ℕ → Option (A × List ℕ)) → LeavesRest grammar → LeavesRest (λ bytes. first_to to (grammar bytes))
+put_leaves to grammar leaves bytes y rest e = let p = put_some to (grammar bytes) y rest e in leaves bytes p.0 rest p.1
+
+pub put_ends : {A B : Type 0} (to : A → B) (grammar : List ℕ → ℕ → Option (A × ℕ)) → EndsWithin grammar → EndsWithin (λ contents at. first_to to (grammar contents at))
+put_ends to grammar ends contents at y end e = let p = put_some to (grammar contents at) y end e in ends contents at p.0 end p.1
 
 -- ---- one after another
 
