@@ -12,7 +12,7 @@ use Rattle.std.proofs.lemmas.Bool.Decides.{nat_tests}
 use Rattle.dns_wire.specs.Names.{heads, wire, IsLabel, IsName, lowered}
 use Rattle.dns_wire.proofs.Lowered.{name_lowered}
 use Rattle.dns_record.specs.Fields.{Field, field_octets, fields_octets, folded_field}
-use Rattle.dns_record.specs.Fields.Field.{Named, Raw, Sized, Byte, Number}
+use Rattle.dns_record.specs.Fields.FieldOf.{Named, Bare, Raw, Sized, Byte, Number}
 
 pub then_assoc : (a b c : Ordering) → ordering_then (ordering_then a b) c ≡ ordering_then a (ordering_then b c)
 then_assoc Less b c = refl
@@ -99,6 +99,7 @@ kept fold field = cond fold (folded_field field) field
 -- the order of two fields of one kind
 abbrev pub field_cmp : Bool → Field → Field → Ordering
 field_cmp fold (Named n) (Named m) = slice_cmp nat_cmp (wire (cond fold (lowered n) n)) (wire (cond fold (lowered m) m))
+field_cmp fold (Bare n) (Bare m) = slice_cmp nat_cmp (wire (cond fold (lowered n) n)) (wire (cond fold (lowered m) m))
 field_cmp fold (Raw o) (Raw p) = slice_cmp nat_cmp o p
 field_cmp fold (Sized o) (Sized p) = ordering_then (nat_cmp (length o) (length p)) (slice_cmp nat_cmp o p)
 field_cmp fold (Byte a) (Byte b) = nat_cmp a b
@@ -118,6 +119,7 @@ NumbersMeet w v a b = ⊥
 -- two fields of one kind, neither of which begins the other
 abbrev pub FieldsMeet : Field → Field → Type 0
 FieldsMeet (Named n) (Named m) = IsName n × IsName m
+FieldsMeet (Bare n) (Bare m) = IsName n × IsName m
 FieldsMeet (Raw o) (Raw p) = length o ≡ length p
 FieldsMeet (Sized o) (Sized p) = Unit {0}
 FieldsMeet (Byte a) (Byte b) = Unit {0}
@@ -137,6 +139,10 @@ AllMeet fs gs = ⊥
 name_compared : (fold : Bool) (n m : List (List ℕ)) (x y : List ℕ) → IsName n → IsName m → slice_cmp nat_cmp (field_octets (kept fold (Named n)) ++ x) (field_octets (kept fold (Named m)) ++ y) ≡ ordering_then (field_cmp fold (Named n) (Named m)) (slice_cmp nat_cmp x y)
 name_compared true n m x y p q = cmp_folded n m x y p q
 name_compared false n m x y p q = cmp_names n m x y p.sizes q.sizes
+
+bare_compared : (fold : Bool) (n m : List (List ℕ)) (x y : List ℕ) → IsName n → IsName m → slice_cmp nat_cmp (field_octets (kept fold (Bare n)) ++ x) (field_octets (kept fold (Bare m)) ++ y) ≡ ordering_then (field_cmp fold (Bare n) (Bare m)) (slice_cmp nat_cmp x y)
+bare_compared true n m x y p q = cmp_folded n m x y p q
+bare_compared false n m x y p q = cmp_names n m x y p.sizes q.sizes
 
 same_kept : (fold : Bool) (f : Field) → folded_field f ≡ f → kept fold f ≡ f
 same_kept true f e = e
@@ -162,6 +168,7 @@ sized_compared o p x y = elim (cases_lt (length o) (length p)) [
 
 pub field_compared : (fold : Bool) (f g : Field) (x y : List ℕ) → FieldsMeet f g → slice_cmp nat_cmp (field_octets (kept fold f) ++ x) (field_octets (kept fold g) ++ y) ≡ ordering_then (field_cmp fold f g) (slice_cmp nat_cmp x y)
 field_compared fold (Named n) (Named m) x y is = name_compared fold n m x y is.0 is.1
+field_compared fold (Bare n) (Bare m) x y is = bare_compared fold n m x y is.0 is.1
 field_compared fold (Raw o) (Raw p) x y is = plain_compared fold (Raw o) (Raw p) x y _ refl refl (cmp_append nat_cmp o p x y is)
 field_compared fold (Sized o) (Sized p) x y is = plain_compared fold (Sized o) (Sized p) x y _ refl refl (sized_compared o p x y)
 field_compared fold (Byte a) (Byte b) x y is = plain_compared fold (Byte a) (Byte b) x y _ refl refl refl

@@ -4,6 +4,7 @@ pub mod Bitmaps
 pub mod CharStrCells
 pub mod CharStrStored
 pub mod Compared
+pub mod EachRow
 pub mod Places
 pub mod Sizes
 pub mod Strings

@@ -1,24 +1,28 @@
 -- The octets of data that are read, their names whole, are no more than a size can say.
 use Rattle.std.proofs.Common.{◌≡◌, ℕ, ◌+◌, ◌*◌, ◌<◌, ◌≤◌, ◌^◌, ◌⊎◌, inl, inr, Bool, true, false, cond, List, [], ◌∷◌, length, Some, refl, sym, ap, ◌∙◌, arith}
-use Rattle.std.specs.Prelude.{◌==◌, ◌&&◌, map}
+use Rattle.std.specs.Prelude.{◌||◌, ◌&&◌, map, nat_le}
 use Rattle.std.specs.Cmp.{first_so, second_so}
 use Rattle.std.specs.Int.{Width, w8, w16, w32, w64, w128, byte_len, to_be_bytes}
+use Rattle.std.proofs.lemmas.Bool.Decides.{nat_tests}
 use Rattle.std.proofs.lemmas.List.{length-append}
 use Rattle.dns_wire.proofs.Lowered.{lowered_long}
 use Rattle.dns_record.specs.Data.{data_in}
 use Rattle.dns_record.specs.Fields.{Field, field_octets, fields_octets, folded_field}
-use Rattle.dns_record.specs.Fields.Field.{Named, Raw, Sized, Byte, Number}
+use Rattle.dns_record.specs.Fields.FieldOf.{Named, Bare, Raw, Sized, Byte, Number}
 use Rattle.dns_record.specs.InPlace.{FieldAt, FieldsAt, DataAt}
 use Rattle.dns_record.specs.Kinds.{Kind}
 use Rattle.dns_record.specs.Kinds.Kind.{OneByte, OneNumber, SoMany, Pointed, Plain, Text, Texts, Windows, SomeWindows, Rest}
-use Rattle.dns_record.specs.Rows.{row, row_a, row_name, row_soa, row_hinfo, row_mx, row_txt, row_rp, row_aaaa, row_srv, row_dname, row_ds, row_rrsig, row_nsec, row_dnskey, row_nsec3, row_nsec3param, row_zonemd, row_unknown}
+use Rattle.dns_record.specs.Rows.{row}
+use Rattle.dns_record.proofs.EachRow.{of_each_row}
 use Rattle.dns_record.proofs.Bare.{is_bare, all_bare}
-use Rattle.dns_record.proofs.Worded.{pointed, data_is}
+use Rattle.dns_wire.specs.Pointers.{name_at}
+use Rattle.dns_record.proofs.Worded.{data_is}
 
 -- ---- in small letters
 
 pub field_folded_long : (field : Field) → length (field_octets (folded_field field)) ≡ length (field_octets field)
 field_folded_long (Named labels) = lowered_long labels
+field_folded_long (Bare labels) = lowered_long labels
 field_folded_long (Raw octets) = refl
 field_folded_long (Sized octets) = refl
 field_folded_long (Byte b) = refl
@@ -46,7 +50,7 @@ field_long OneByte contents at (Byte b) end bare is = is.end_is
 field_long (OneNumber w) contents at (Number v n) end bare is = omega (arith, is.1.end_is, digits_long v n, ap byte_len is.0)
 field_long (SoMany n) contents at (Raw octets) end bare is = is.1.end_is
 field_long Pointed contents at field end bare is = absurd cc
-field_long Plain contents at (Named labels) end bare is = is.stands.end_is
+field_long Plain contents at (Bare labels) end bare is = is.stands.end_is
 field_long Text contents at (Sized octets) end bare is = is.end_is
 field_long Texts contents at (Raw octets) end bare is = is.1.end_is
 field_long Windows contents at (Raw octets) end bare is = is.1.end_is
@@ -101,35 +105,20 @@ fields_small (kind ∷ kinds) contents at fields end small (field, next, others,
 
 -- ---- rows
 
+abbrev is_measured : List Kind → Bool
+is_measured kinds = all_bare kinds || (all_small kinds && nat_le (length kinds) 7)
+
 abbrev Measured : List Kind → Type 0
 Measured kinds = (all_bare kinds ≡ true) ⊎ ((all_small kinds ≡ true) × (length kinds ≤ 7))
 
-or_else : (b : Bool) (kinds others : List Kind) → Measured kinds → Measured others → Measured (cond b kinds others)
-or_else true kinds others k o = k
-or_else false kinds others k o = o
+measured : (kinds : List Kind) → is_measured kinds ≡ true → Measured kinds
+measured kinds e = by (all_bare kinds) refl e where
+  by : (b : Bool) → all_bare kinds ≡ b → (b || (all_small kinds && nat_le (length kinds) 7)) ≡ true → Measured kinds
+  by true is e = inl is
+  by false is e = let few : nat_le (length kinds) 7 ≡ true = second_so _ _ e in inr (first_so _ _ e, grind (arith, nat_tests))
 
 row_measured : (rtype : ℕ) → Measured (row rtype)
-unfolding row
-row_measured rtype =
-    or_else (rtype == 1) row_a _ (inl refl) (
-    or_else (rtype == 2) row_name _ (inr (refl, omega arith)) (
-    or_else (rtype == 5) row_name _ (inr (refl, omega arith)) (
-    or_else (rtype == 6) row_soa _ (inr (refl, omega arith)) (
-    or_else (rtype == 12) row_name _ (inr (refl, omega arith)) (
-    or_else (rtype == 13) row_hinfo _ (inl refl) (
-    or_else (rtype == 15) row_mx _ (inr (refl, omega arith)) (
-    or_else (rtype == 16) row_txt _ (inl refl) (
-    or_else (rtype == 17) row_rp _ (inr (refl, omega arith)) (
-    or_else (rtype == 28) row_aaaa _ (inl refl) (
-    or_else (rtype == 33) row_srv _ (inl refl) (
-    or_else (rtype == 39) row_dname _ (inl refl) (
-    or_else (rtype == 43) row_ds _ (inl refl) (
-    or_else (rtype == 46) row_rrsig _ (inl refl) (
-    or_else (rtype == 47) row_nsec _ (inl refl) (
-    or_else (rtype == 48) row_dnskey _ (inl refl) (
-    or_else (rtype == 50) row_nsec3 _ (inl refl) (
-    or_else (rtype == 51) row_nsec3param _ (inl refl) (
-    or_else (rtype == 63) row_zonemd row_unknown (inl refl) (inl refl)))))))))))))))))))
+row_measured rtype = measured (row rtype) (of_each_row is_measured refl rtype)
 
 -- ---- data
 
@@ -139,5 +128,5 @@ data_short_at rtype contents at fields short is = elim (row_measured rtype) [
   | inr small ↦ omega (arith, fields_small (row rtype) contents at fields (length contents) small.0 is, small.1)
 ]
 
-pub data_short : (rtype : ℕ) (contents : List ℕ) (at : ℕ) (fields : List Field) → length contents < at + 2 ^ 16 → data_in pointed rtype contents at ≡ Some fields → length (fields_octets fields) < 2 ^ 16
+pub data_short : (rtype : ℕ) (contents : List ℕ) (at : ℕ) (fields : List Field) → length contents < at + 2 ^ 16 → data_in name_at rtype contents at ≡ Some fields → length (fields_octets fields) < 2 ^ 16
 data_short rtype contents at fields short is = data_short_at rtype contents at fields short (data_is rtype contents at fields is)

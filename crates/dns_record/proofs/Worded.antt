@@ -14,9 +14,9 @@ use Rattle.dns_wire.proofs.Following.{name_at_is, name_at_finds}
 use Rattle.dns_wire.proofs.Spelled.{plain_name_takes, plain_name_again}
 use Rattle.dns_record.specs.Data.{data_in}
 use Rattle.dns_record.specs.Fields.{Field}
-use Rattle.dns_record.specs.Fields.Field.{Named, Raw, Sized, Byte, Number}
+use Rattle.dns_record.specs.Fields.FieldOf.{Named, Bare, Raw, Sized, Byte, Number}
 use Rattle.dns_record.specs.InPlace.{OctetsAt, AreTexts, AreWindows, FieldAt, FieldsAt, DataAt, QuestionAt, RecordAt}
-use Rattle.dns_record.specs.Kinds.{Kind, field_in, fields_in, named_in}
+use Rattle.dns_record.specs.Kinds.{Kind, field_in, fields_in}
 use Rattle.dns_record.specs.Kinds.Kind.{OneByte, OneNumber, SoMany, Pointed, Plain, Text, Texts, Windows, SomeWindows, Rest}
 use Rattle.dns_record.specs.Questions.{QuestionOf, question_in}
 use Rattle.dns_record.specs.Records.{RecordOf, record_in, end_of}
@@ -51,10 +51,6 @@ put_in {A} f (Some (x, rest)) y end e =
     record { value = x; first = ap (λ (n : ℕ). Some (x, n)) same.1; is = same.0 }
 
 -- ---- fields
-
--- names with pointers
-abbrev pub pointed : List ℕ → ℕ → Option (Field × ℕ)
-pointed = named_in (λ labels. labels) name_at
 
 rest_spelled : (contents : List ℕ) (at : ℕ) (found : List ℕ) (end : ℕ) → plain_at (λ bytes. Some (bytes, [])) contents at ≡ Some (found, end) → (end ≡ length contents) × OctetsAt contents at found end
 rest_spelled contents at found end e =
@@ -118,7 +114,7 @@ some_found contents at found end whole o is some =
     let long : 1 ≤ length (drop at contents) = omega (arith, some, whole, o.end_is, length-drop at contents) in
     read_placed some_bitmap contents at found end (record { within = p.within; rest = p.rest; read = some_read (drop at contents) long ∙ p.read; end_is = p.end_is })
 
-field_is : (kind : Kind) (contents : List ℕ) (at : ℕ) (field : Field) (end : ℕ) → field_in pointed kind contents at ≡ Some (field, end) → FieldAt kind contents at field end
+field_is : (kind : Kind) (contents : List ℕ) (at : ℕ) (field : Field) (end : ℕ) → field_in name_at kind contents at ≡ Some (field, end) → FieldAt kind contents at field end
 field_is OneByte contents at field end e =
     let p = put_in Byte (plain_at octet contents at) field end e in
     subst (λ (f : Field). FieldAt OneByte contents at f end) p.is (stands_at octet (λ b. b ∷ []) contents at p.value end (λ rest read. octet_spelled (drop at contents) p.value rest read) p.first)
@@ -131,10 +127,10 @@ field_is (SoMany n) contents at field end e =
     subst (λ (f : Field). FieldAt (SoMany n) contents at f end) p.is
     ((octets_spelled n (drop at contents) p.value q.rest q.read).0, stands_at (octets n) (λ o. o) contents at p.value end (λ rest read. (octets_spelled n (drop at contents) p.value rest read).1) p.first)
 field_is Pointed contents at field end e =
-    let p = put_in (λ labels. Named labels) (name_at contents at) field end e in
+    let p = put_in Named (name_at contents at) field end e in
     subst (λ (f : Field). FieldAt Pointed contents at f end) p.is (name_at_is contents at p.value end p.first)
 field_is Plain contents at field end e =
-    let p = put_in Named (plain_at plain_name contents at) field end e in
+    let p = put_in Bare (plain_at plain_name contents at) field end e in
     let q = placed plain_name contents at p.value end p.first in
     subst (λ (f : Field). FieldAt Plain contents at f end) p.is
     (record {
@@ -164,14 +160,14 @@ rest_read contents at found end whole o =
     let last : length contents - 0 ≡ end = omega (arith, whole) in
     rw fits (ap (λ (l : List ℕ). Some (l, length contents - 0)) all ∙ ap (λ (n : ℕ). Some (found, n)) last)
 
-field_found : (kind : Kind) (contents : List ℕ) (at : ℕ) (field : Field) (end : ℕ) → FieldAt kind contents at field end → field_in pointed kind contents at ≡ Some (field, end)
+field_found : (kind : Kind) (contents : List ℕ) (at : ℕ) (field : Field) (end : ℕ) → FieldAt kind contents at field end → field_in name_at kind contents at ≡ Some (field, end)
 field_found OneByte contents at (Byte b) end h = ap (first_to Byte) (read_at octet (λ b. b ∷ []) contents at b end (λ rest. refl) h)
 field_found (OneNumber w) contents at (Number v n) end h =
     let read : first_to (Number w) (plain_at (number w) contents at) ≡ Some (Number w n, end) = ap (first_to (Number w)) (read_number w contents at n end h.1) in
     read ∙ ap (λ (u : Width). Some (Number u n, end)) (sym h.0)
 field_found (SoMany n) contents at (Raw found) end h = ap (first_to Raw) (read_at (octets n) (λ o. o) contents at found end (λ rest. octets_read n found rest h.0) h.1)
-field_found Pointed contents at (Named labels) end h = ap (first_to (λ l. Named l)) (name_at_finds contents at labels end h)
-field_found Plain contents at (Named labels) end h = ap (first_to Named) (read_at plain_name wire contents at labels end (λ rest. plain_name_again (wire labels ++ rest) labels rest h.name refl) h.stands)
+field_found Pointed contents at (Named labels) end h = ap (first_to Named) (name_at_finds contents at labels end h)
+field_found Plain contents at (Bare labels) end h = ap (first_to Bare) (read_at plain_name wire contents at labels end (λ rest. plain_name_again (wire labels ++ rest) labels rest h.name refl) h.stands)
 field_found Text contents at (Sized found) end h = ap (first_to Sized) (read_at text (λ o. length o ∷ o) contents at found end (λ rest. text_read found rest) h)
 field_found Texts contents at (Raw found) end h = ap (first_to Raw) (tested_read is_text_data AreTexts contents at found end h.0 h.1 (are_texts found h.2))
 field_found Windows contents at (Raw found) end h = ap (first_to Raw) (tested_read is_bitmap AreWindows contents at found end h.0 h.1 (is_this_bitmap found h.2))
@@ -181,11 +177,11 @@ field_found kind contents at field end h = absurd h
 
 -- ---- fields one after another
 
-pub fields_are : (kinds : List Kind) (contents : List ℕ) (at : ℕ) (fields : List Field) (end : ℕ) → fields_in pointed kinds contents at ≡ Some (fields, end) → FieldsAt kinds contents at fields end
+pub fields_are : (kinds : List Kind) (contents : List ℕ) (at : ℕ) (fields : List Field) (end : ℕ) → fields_in name_at kinds contents at ≡ Some (fields, end) → FieldsAt kinds contents at fields end
 fields_are [] contents at fields end e = let same = some_pair_parts [] fields at end e in (sym same.0, sym same.1)
 fields_are (kind ∷ kinds) contents at fields end e =
-    let s = stepped (field_in pointed kind contents at) (λ field. ◌>>=◌ {A = List Field × ℕ} {B = List Field × ℕ} (fields_in pointed kinds contents field.1) (λ others. Some (field.0 ∷ others.0, others.1))) (fields, end) e in
-    let t = stepped (fields_in pointed kinds contents s.value.1) (λ others. Some (s.value.0 ∷ others.0, others.1)) (fields, end) s.later in
+    let s = stepped (field_in name_at kind contents at) (λ field. ◌>>=◌ {A = List Field × ℕ} {B = List Field × ℕ} (fields_in name_at kinds contents field.1) (λ others. Some (field.0 ∷ others.0, others.1))) (fields, end) e in
+    let t = stepped (fields_in name_at kinds contents s.value.1) (λ others. Some (s.value.0 ∷ others.0, others.1)) (fields, end) s.later in
     let same = some_pair_parts (s.value.0 ∷ t.value.0) fields t.value.1 end t.later in (
       s.value.0,
       s.value.1,
@@ -195,34 +191,34 @@ fields_are (kind ∷ kinds) contents at fields end e =
       subst (λ (n : ℕ). FieldsAt kinds contents s.value.1 t.value.0 n) same.1 (fields_are kinds contents s.value.1 t.value.0 t.value.1 t.first),
     )
 
-pub fields_found : (kinds : List Kind) (contents : List ℕ) (at : ℕ) (fields : List Field) (end : ℕ) → FieldsAt kinds contents at fields end → fields_in pointed kinds contents at ≡ Some (fields, end)
+pub fields_found : (kinds : List Kind) (contents : List ℕ) (at : ℕ) (fields : List Field) (end : ℕ) → FieldsAt kinds contents at fields end → fields_in name_at kinds contents at ≡ Some (fields, end)
 fields_found [] contents at fields end (none, here) = rw (none, here) refl
 fields_found (kind ∷ kinds) contents at fields end (field, next, others, here, is, later) =
-    let first : field_in pointed kind contents at ≡ Some (field, next) = field_found kind contents at field next here in
-    let rest : fields_in pointed kinds contents next ≡ Some (others, end) = fields_found kinds contents next others end later in
+    let first : field_in name_at kind contents at ≡ Some (field, next) = field_found kind contents at field next here in
+    let rest : fields_in name_at kinds contents next ≡ Some (others, end) = fields_found kinds contents next others end later in
     rw (first, rest, is) refl
 
 -- ---- data
 
-pub data_is : (rtype : ℕ) (contents : List ℕ) (at : ℕ) (fields : List Field) → data_in pointed rtype contents at ≡ Some fields → DataAt rtype contents at fields
+pub data_is : (rtype : ℕ) (contents : List ℕ) (at : ℕ) (fields : List Field) → data_in name_at rtype contents at ≡ Some fields → DataAt rtype contents at fields
 unfolding data_in
-data_is rtype contents at fields e = by (fields_in pointed (row rtype) contents at) refl e where
-  whole : (found : List Field) (end : ℕ) → fields_in pointed (row rtype) contents at ≡ Some (found, end) → (b : Bool) → (end == length contents) ≡ b → cond b (Some found) None ≡ Some fields → DataAt rtype contents at fields
+data_is rtype contents at fields e = by (fields_in name_at (row rtype) contents at) refl e where
+  whole : (found : List Field) (end : ℕ) → fields_in name_at (row rtype) contents at ≡ Some (found, end) → (b : Bool) → (end == length contents) ≡ b → cond b (Some found) None ≡ Some fields → DataAt rtype contents at fields
   whole found end is false ends h = absurd cc
   whole found end is true ends h =
       let same : found ≡ fields = cc in
       let last : end ≡ length contents = grind (arith, nat_tests, ends) in
       subst (λ (l : List Field). FieldsAt (row rtype) contents at l (length contents)) same (subst (λ (n : ℕ). FieldsAt (row rtype) contents at found n) last (fields_are (row rtype) contents at found end is))
 
-  by : (read : Option (List Field × ℕ)) → fields_in pointed (row rtype) contents at ≡ read → all_at contents read ≡ Some fields → DataAt rtype contents at fields
+  by : (read : Option (List Field × ℕ)) → fields_in name_at (row rtype) contents at ≡ read → all_at contents read ≡ Some fields → DataAt rtype contents at fields
   by None is h = absurd cc
   by (Some (found, end)) is h = whole found end is (end == length contents) refl h
 
-pub data_found : (rtype : ℕ) (contents : List ℕ) (at : ℕ) (fields : List Field) → DataAt rtype contents at fields → data_in pointed rtype contents at ≡ Some fields
+pub data_found : (rtype : ℕ) (contents : List ℕ) (at : ℕ) (fields : List Field) → DataAt rtype contents at fields → data_in name_at rtype contents at ≡ Some fields
 unfolding data_in
 data_found rtype contents at fields h =
     let ends : (length contents == length contents) ≡ true = grind (arith, nat_tests) in
-    let read : all_at contents (fields_in pointed (row rtype) contents at) ≡ all_at contents (Some (fields, length contents)) = ap (all_at contents) (fields_found (row rtype) contents at fields (length contents) h) in
+    let read : all_at contents (fields_in name_at (row rtype) contents at) ≡ all_at contents (Some (fields, length contents)) = ap (all_at contents) (fields_found (row rtype) contents at fields (length contents) h) in
     read ∙ rw ends refl
 
 -- ---- questions
@@ -262,7 +258,7 @@ Rec = RecordOf (List (List ℕ)) (List Field)
 -- what is read behind the owner, the type, the class, the time to live, the size, and up to the end
 abbrev to_content : List ℕ → List (List ℕ) → ℕ → ℕ → ℕ → ℕ → ℕ → Option (Rec × ℕ)
 to_content contents owner rtype class ttl body end =
-    ◌>>=◌ {A = List Field} {B = Rec × ℕ} (data_in pointed rtype (take end contents) body) (λ content. Some (record { owner = owner; rtype = rtype; class = class; ttl = ttl; content = content }, end))
+    ◌>>=◌ {A = List Field} {B = Rec × ℕ} (data_in name_at rtype (take end contents) body) (λ content. Some (record { owner = owner; rtype = rtype; class = class; ttl = ttl; content = content }, end))
 
 abbrev to_end : List ℕ → List (List ℕ) → ℕ → ℕ → ℕ → ℕ × ℕ → Option (Rec × ℕ)
 to_end contents owner rtype class ttl size = ◌>>=◌ {A = ℕ} {B = Rec × ℕ} (end_of contents size.1 size.0) (λ end. to_content contents owner rtype class ttl size.1 end)
@@ -291,7 +287,7 @@ ends contents at size end e = by (ltb (length contents) (at + size)) refl e wher
       let same : at + size ≡ end = cc in
       record { is = sym same; within = subst (λ (n : ℕ). n ≤ length contents) same (ltb-false (length contents) (at + size) le) }
 
-pub record_is : (contents : List ℕ) (at : ℕ) (r : Rec) (end : ℕ) → record_in name_at (data_in pointed) contents at ≡ Some (r, end) → RecordAt contents at r end
+pub record_is : (contents : List ℕ) (at : ℕ) (r : Rec) (end : ℕ) → record_in name_at (data_in name_at) contents at ≡ Some (r, end) → RecordAt contents at r end
 unfolding record_in
 record_is contents at r end e =
     let a = stepped {B = Rec × ℕ} (name_at contents at) (to_type contents) (r, end) e in
@@ -300,7 +296,7 @@ record_is contents at r end e =
     let d = stepped {B = Rec × ℕ} (plain_at (number w32) contents c.value.1) (to_size contents a.value.0 b.value.0 c.value.0) (r, end) c.later in
     let f = stepped {B = Rec × ℕ} (plain_at (number w16) contents d.value.1) (to_end contents a.value.0 b.value.0 c.value.0 d.value.0) (r, end) d.later in
     let g = stepped {B = Rec × ℕ} (end_of contents f.value.1 f.value.0) (to_content contents a.value.0 b.value.0 c.value.0 d.value.0 f.value.1) (r, end) f.later in
-    let h = stepped {A = List Field} {B = Rec × ℕ} (data_in pointed b.value.0 (take g.value contents) f.value.1) (λ content. Some (record { owner = a.value.0; rtype = b.value.0; class = c.value.0; ttl = d.value.0; content = content }, g.value)) (r, end) g.later in
+    let h = stepped {A = List Field} {B = Rec × ℕ} (data_in name_at b.value.0 (take g.value contents) f.value.1) (λ content. Some (record { owner = a.value.0; rtype = b.value.0; class = c.value.0; ttl = d.value.0; content = content }, g.value)) (r, end) g.later in
     let same = some_pair_parts (record { owner = a.value.0; rtype = b.value.0; class = c.value.0; ttl = d.value.0; content = h.value }) r g.value end h.later in
     let last = ends contents f.value.1 f.value.0 g.value g.first in
     subst (λ (found : Rec). RecordAt contents at found end) same.0
@@ -322,7 +318,7 @@ record_is contents at r end e =
       content = data_is b.value.0 (take g.value contents) f.value.1 h.value h.first;
     }))
 
-pub record_found : (contents : List ℕ) (at : ℕ) (r : Rec) (end : ℕ) → RecordAt contents at r end → record_in name_at (data_in pointed) contents at ≡ Some (r, end)
+pub record_found : (contents : List ℕ) (at : ℕ) (r : Rec) (end : ℕ) → RecordAt contents at r end → record_in name_at (data_in name_at) contents at ≡ Some (r, end)
 unfolding record_in
 record_found contents at r end q =
     let owner = name_at_finds contents at r.owner q.owner_end q.owner in

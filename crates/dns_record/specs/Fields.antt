@@ -1,19 +1,38 @@
 -- The fields of record data, whatever their type (RFC 1035 section 3.3).
-use Rattle.std.specs.Prelude.{ℕ, List, [], ◌∷◌, ◌++◌, length}
+use Rattle.std.specs.Prelude.{ℕ, List, [], ◌∷◌, ◌++◌, length, map, if◌then◌else◌}
 use Rattle.std.specs.Int.{Width, to_be_bytes}
 use Rattle.dns_wire.specs.Names.{wire, lowered}
+use Rattle.dns_record.specs.Types.{is_lowercased}
 
--- a name, octets, octets behind an octet with their number, one octet, or a number of so many bits
-pub data Field : Type 0 where
-  Named : List (List ℕ) → Field
-  Raw : List ℕ → Field
-  Sized : List ℕ → Field
-  Byte : ℕ → Field
-  Number : Width → ℕ → Field
+-- A name that in a message may have pointers, which is seen as its type sees it; a name without pointers, by its labels;
+-- octets, octets behind an octet with their number, one octet, or a number of so many bits.
+pub data FieldOf (N : Type 0) : Type 0 where
+  Named : N → FieldOf N
+  Bare : List (List ℕ) → FieldOf N
+  Raw : List ℕ → FieldOf N
+  Sized : List ℕ → FieldOf N
+  Byte : ℕ → FieldOf N
+  Number : Width → ℕ → FieldOf N
+
+-- fields whose names are seen as their labels
+abbrev pub Field : Type 0
+Field = FieldOf (List (List ℕ))
+
+-- the field with what is seen of its name
+abbrev pub named_by : {N S : Type 0} → (N → S) → FieldOf N → FieldOf S
+named_by name (Named n) = Named (name n)
+named_by name (Bare labels) = Bare labels
+named_by name (Raw octets) = Raw octets
+named_by name (Sized octets) = Sized octets
+named_by name (Byte b) = Byte b
+named_by name (Number w n) = Number w n
+
+-- ---- octets
 
 -- a field's octets, a name whole
 abbrev pub field_octets : Field → List ℕ
 field_octets (Named labels) = wire labels
+field_octets (Bare labels) = wire labels
 field_octets (Raw octets) = octets
 field_octets (Sized octets) = length octets ∷ octets
 field_octets (Byte b) = b ∷ []
@@ -24,10 +43,21 @@ abbrev pub fields_octets : List Field → List ℕ
 fields_octets [] = []
 fields_octets (field ∷ fields) = field_octets field ++ fields_octets fields
 
+-- ---- in canonical form (RFC 4034 section 6.2, RFC 6840 section 5.1)
+
 -- a name in small letters; any other field stays
 abbrev pub folded_field : Field → Field
 folded_field (Named labels) = Named (lowered labels)
+folded_field (Bare labels) = Bare (lowered labels)
 folded_field (Raw octets) = Raw octets
 folded_field (Sized octets) = Sized octets
 folded_field (Byte b) = Byte b
 folded_field (Number w n) = Number w n
+
+-- the fields, with names in small letters where the type is one of the nine
+abbrev pub canonical_fields : ℕ → List Field → List Field
+canonical_fields rtype fields = if is_lowercased rtype then map folded_field fields else fields
+
+-- the canonical octets of data of a type
+abbrev pub canonical_octets : ℕ → List Field → List ℕ
+canonical_octets rtype fields = fields_octets (canonical_fields rtype fields)

@@ -5,7 +5,7 @@ use Rattle.std.specs.Int.{Width, w16, w32, byte_len, from_be_bytes}
 use Rattle.dns_wire.specs.Names.{IsName, wire}
 use Rattle.dns_wire.specs.Pointers.{NameAt}
 use Rattle.dns_record.specs.Fields.{Field}
-use Rattle.dns_record.specs.Fields.Field.{Named, Raw, Sized, Byte, Number}
+use Rattle.dns_record.specs.Fields.FieldOf.{Named, Bare, Raw, Sized, Byte, Number}
 use Rattle.dns_record.specs.Kinds.{Kind}
 use Rattle.dns_record.specs.Kinds.Kind.{OneByte, OneNumber, SoMany, Pointed, Plain, Text, Texts, Windows, SomeWindows, Rest}
 use Rattle.dns_record.specs.Questions.{QuestionOf}
@@ -65,7 +65,7 @@ FieldAt OneByte contents at (Byte b) end = OctetsAt contents at (b ∷ []) end
 FieldAt (OneNumber w) contents at (Number v n) end = (v ≡ w) × NumberAt contents at w n end
 FieldAt (SoMany n) contents at (Raw octets) end = (length octets ≡ n) × OctetsAt contents at octets end
 FieldAt Pointed contents at (Named labels) end = NameAt contents at labels end
-FieldAt Plain contents at (Named labels) end = PlainNameAt contents at labels end
+FieldAt Plain contents at (Bare labels) end = PlainNameAt contents at labels end
 FieldAt Text contents at (Sized octets) end = OctetsAt contents at (length octets ∷ octets) end
 FieldAt Texts contents at (Raw octets) end = (end ≡ length contents) × OctetsAt contents at octets end × AreTexts octets
 FieldAt Windows contents at (Raw octets) end = (end ≡ length contents) × OctetsAt contents at octets end × AreWindows octets

@@ -4,8 +4,8 @@ use Rattle.std.specs.Prelude.{ℕ, List, [], ◌∷◌, Option, Some, None}
 use Rattle.std.specs.Int.{Width}
 use Rattle.dns_wire.specs.Names.{plain_name}
 use Rattle.dns_wire.specs.Reading.{octet, octets, number, plain_at}
-use Rattle.dns_record.specs.Fields.{Field}
-use Rattle.dns_record.specs.Fields.Field.{Named, Raw, Sized, Byte, Number}
+use Rattle.dns_record.specs.Fields.{FieldOf}
+use Rattle.dns_record.specs.Fields.FieldOf.{Named, Bare, Raw, Sized, Byte, Number}
 use Rattle.dns_record.specs.Texts.{text, texts}
 use Rattle.dns_record.specs.Windows.{bitmap, some_bitmap}
 use Rattle.dns_wire.specs.Steps.{◌>>=◌, first_to}
@@ -24,60 +24,49 @@ pub data Kind : Type 0 where
 
 -- ---- at the front of octets
 
-abbrev pub field_of : (List ℕ → Option (Field × List ℕ)) → Kind → List ℕ → Option (Field × List ℕ)
-field_of pointed OneByte bytes = first_to Byte (octet bytes)
-field_of pointed (OneNumber w) bytes = first_to (Number w) (number w bytes)
-field_of pointed (SoMany n) bytes = first_to Raw (octets n bytes)
-field_of pointed Pointed bytes = pointed bytes
-field_of pointed Plain bytes = first_to Named (plain_name bytes)
-field_of pointed Text bytes = first_to Sized (text bytes)
-field_of pointed Texts bytes = first_to Raw (texts bytes)
-field_of pointed Windows bytes = first_to Raw (bitmap bytes)
-field_of pointed SomeWindows bytes = first_to Raw (some_bitmap bytes)
-field_of pointed Rest bytes = Some (Raw bytes, [])
+abbrev pub field_of : {N : Type 0} → (List ℕ → Option (N × List ℕ)) → Kind → List ℕ → Option (FieldOf N × List ℕ)
+field_of name OneByte bytes = first_to Byte (octet bytes)
+field_of name (OneNumber w) bytes = first_to (Number w) (number w bytes)
+field_of name (SoMany n) bytes = first_to Raw (octets n bytes)
+field_of name Pointed bytes = first_to Named (name bytes)
+field_of name Plain bytes = first_to Bare (plain_name bytes)
+field_of name Text bytes = first_to Sized (text bytes)
+field_of name Texts bytes = first_to Raw (texts bytes)
+field_of name Windows bytes = first_to Raw (bitmap bytes)
+field_of name SomeWindows bytes = first_to Raw (some_bitmap bytes)
+field_of name Rest bytes = Some (Raw bytes, [])
 
 -- the fields of these kinds, one after another, and the octets behind them
-abbrev pub fields_of : (List ℕ → Option (Field × List ℕ)) → List Kind → List ℕ → Option (List Field × List ℕ)
-fields_of pointed [] bytes = Some ([], bytes)
-fields_of pointed (kind ∷ kinds) bytes = do
-  field ← field_of pointed kind bytes
-  others ← fields_of pointed kinds field.1
+abbrev pub fields_of : {N : Type 0} → (List ℕ → Option (N × List ℕ)) → List Kind → List ℕ → Option (List (FieldOf N) × List ℕ)
+fields_of name [] bytes = Some ([], bytes)
+fields_of name (kind ∷ kinds) bytes = do
+  field ← field_of name kind bytes
+  others ← fields_of name kinds field.1
   Some (field.0 ∷ others.0, others.1)
 
 -- ---- at a place in the contents of a message
 
-abbrev pub field_in : (List ℕ → ℕ → Option (Field × ℕ)) → Kind → List ℕ → ℕ → Option (Field × ℕ)
-field_in pointed OneByte contents at = first_to Byte (plain_at octet contents at)
-field_in pointed (OneNumber w) contents at = first_to (Number w) (plain_at (number w) contents at)
-field_in pointed (SoMany n) contents at = first_to Raw (plain_at (octets n) contents at)
-field_in pointed Pointed contents at = pointed contents at
-field_in pointed Plain contents at = first_to Named (plain_at plain_name contents at)
-field_in pointed Text contents at = first_to Sized (plain_at text contents at)
-field_in pointed Texts contents at = first_to Raw (plain_at texts contents at)
-field_in pointed Windows contents at = first_to Raw (plain_at bitmap contents at)
-field_in pointed SomeWindows contents at = first_to Raw (plain_at some_bitmap contents at)
-field_in pointed Rest contents at = first_to Raw (plain_at (λ bytes. Some (bytes, [])) contents at)
+abbrev pub field_in : {N : Type 0} → (List ℕ → ℕ → Option (N × ℕ)) → Kind → List ℕ → ℕ → Option (FieldOf N × ℕ)
+field_in name OneByte contents at = first_to Byte (plain_at octet contents at)
+field_in name (OneNumber w) contents at = first_to (Number w) (plain_at (number w) contents at)
+field_in name (SoMany n) contents at = first_to Raw (plain_at (octets n) contents at)
+field_in name Pointed contents at = first_to Named (name contents at)
+field_in name Plain contents at = first_to Bare (plain_at plain_name contents at)
+field_in name Text contents at = first_to Sized (plain_at text contents at)
+field_in name Texts contents at = first_to Raw (plain_at texts contents at)
+field_in name Windows contents at = first_to Raw (plain_at bitmap contents at)
+field_in name SomeWindows contents at = first_to Raw (plain_at some_bitmap contents at)
+field_in name Rest contents at = first_to Raw (plain_at (λ bytes. Some (bytes, [])) contents at)
 
 -- the fields of these kinds, one after another, and where the last ends
-abbrev pub fields_in : (List ℕ → ℕ → Option (Field × ℕ)) → List Kind → List ℕ → ℕ → Option (List Field × ℕ)
-fields_in pointed [] contents at = Some ([], at)
-fields_in pointed (kind ∷ kinds) contents at = do
-  field ← field_in pointed kind contents at
-  others ← fields_in pointed kinds contents field.1
+abbrev pub fields_in : {N : Type 0} → (List ℕ → ℕ → Option (N × ℕ)) → List Kind → List ℕ → ℕ → Option (List (FieldOf N) × ℕ)
+fields_in name [] contents at = Some ([], at)
+fields_in name (kind ∷ kinds) contents at = do
+  field ← field_in name kind contents at
+  others ← fields_in name kinds contents field.1
   Some (field.0 ∷ others.0, others.1)
 
--- ---- names as fields
+-- ---- data in which no name may have pointers
 
--- a name that a grammar reads, as a field
-abbrev pub named : {N : Type 0} → (N → List (List ℕ)) → (List ℕ → Option (N × List ℕ)) → List ℕ → Option (Field × List ℕ)
-named labels name bytes = first_to (λ x. Named (labels x)) (name bytes)
-
-abbrev pub named_in : {N : Type 0} → (N → List (List ℕ)) → (List ℕ → ℕ → Option (N × ℕ)) → List ℕ → ℕ → Option (Field × ℕ)
-named_in labels name contents at = first_to (λ x. Named (labels x)) (name contents at)
-
--- where no such name is among the kinds
-abbrev pub no_name : List ℕ → Option (Field × List ℕ)
+abbrev pub no_name : List ℕ → Option (List (List ℕ) × List ℕ)
 no_name bytes = None
-
-abbrev pub no_name_in : List ℕ → ℕ → Option (Field × ℕ)
-no_name_in contents at = None

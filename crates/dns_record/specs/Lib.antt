@@ -9,6 +9,7 @@ pub mod Data
 pub mod Fields
 pub mod InPlace
 pub mod Kinds
+pub mod Left
 pub mod Questions
 pub mod Records
 pub mod Rows

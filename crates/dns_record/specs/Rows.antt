@@ -1,5 +1,5 @@
 -- The one table of record data: which kinds of fields the data of each type have.
-use Rattle.std.specs.Prelude.{ℕ, List, [], ◌∷◌, ◌==◌, if◌then◌else◌}
+use Rattle.std.specs.Prelude.{ℕ, List, [], ◌∷◌, Bool, Option, Some, None, unwrap_or, is_some, ◌==◌, if◌then◌else◌}
 use Rattle.std.specs.Int.{w16, w32}
 use Rattle.dns_record.specs.Kinds.{Kind}
 use Rattle.dns_record.specs.Kinds.Kind.{OneByte, OneNumber, SoMany, Pointed, Plain, Text, Texts, Windows, SomeWindows, Rest}
@@ -77,26 +77,39 @@ row_zonemd = OneNumber w32 ∷ OneByte ∷ OneByte ∷ Rest ∷ []
 abbrev pub row_unknown : List Kind
 row_unknown = Rest ∷ []
 
+-- the types that have a row, by their numbers (IANA, DNS Resource Record (RR) TYPEs)
+abbrev pub rows : List (ℕ × List Kind)
+rows =
+    (1, row_a)
+    ∷ (2, row_name)
+    ∷ (5, row_name)
+    ∷ (6, row_soa)
+    ∷ (12, row_name)
+    ∷ (13, row_hinfo)
+    ∷ (15, row_mx)
+    ∷ (16, row_txt)
+    ∷ (17, row_rp)
+    ∷ (28, row_aaaa)
+    ∷ (33, row_srv)
+    ∷ (39, row_dname)
+    ∷ (43, row_ds)
+    ∷ (46, row_rrsig)
+    ∷ (47, row_nsec)
+    ∷ (48, row_dnskey)
+    ∷ (50, row_nsec3)
+    ∷ (51, row_nsec3param)
+    ∷ (63, row_zonemd)
+    ∷ []
+
+-- the row that stands under a number
+abbrev pub row_under : List (ℕ × List Kind) → ℕ → Option (List Kind)
+row_under [] rtype = None
+row_under (first ∷ others) rtype = if rtype == first.0 then Some first.1 else row_under others rtype
+
+-- whether a type has a row
+abbrev pub has_row : ℕ → Bool
+has_row rtype = is_some (row_under rows rtype)
+
 -- the row of a type number
-unfoldable pub row : ℕ → List Kind
-row rtype =
-    if rtype == 1 then row_a
-    else if rtype == 2 then row_name
-    else if rtype == 5 then row_name
-    else if rtype == 6 then row_soa
-    else if rtype == 12 then row_name
-    else if rtype == 13 then row_hinfo
-    else if rtype == 15 then row_mx
-    else if rtype == 16 then row_txt
-    else if rtype == 17 then row_rp
-    else if rtype == 28 then row_aaaa
-    else if rtype == 33 then row_srv
-    else if rtype == 39 then row_dname
-    else if rtype == 43 then row_ds
-    else if rtype == 46 then row_rrsig
-    else if rtype == 47 then row_nsec
-    else if rtype == 48 then row_dnskey
-    else if rtype == 50 then row_nsec3
-    else if rtype == 51 then row_nsec3param
-    else if rtype == 63 then row_zonemd
-    else row_unknown
+abbrev pub row : ℕ → List Kind
+row rtype = unwrap_or (row_under rows rtype) row_unknown

@@ -6,6 +6,8 @@ ghost use Rattle.std.specs.Cmp.{on_equiv, partial_equiv_from_equiv};
 ghost use Rattle.std.specs.Cmp.Lexicographic.{on_texts_equal};
 ghost use Rattle.std.specs.Ordering.{on};
 ghost use Rattle.std.specs.Str.{str_to_ascii_lowercase};
+ghost use Rattle.dns_wire.specs.Left.{plain_ends};
+ghost use Rattle.dns_record.specs.Left.{text_leaves};
 ghost use Rattle.dns_wire.specs.Pieces.{whole_presses};
 ghost use Rattle.dns_wire.specs.Reading.{all_of, plain_at};
 ghost use Rattle.dns_record.specs.CharStrs.{charstr_wire, octets_of, same_charstr};
@@ -16,7 +18,7 @@ use crate::charstr_buf::CharStrBuf;
 use dns_wire::{
     BuildBytes, BuildInMessage, NameCompressor, ParseBytes, ParseError, ParseMessageBytes,
     SplitBytes, SplitMessageBytes, TruncationError, build_whole, parse_without_compression, put,
-    split_without_compression,
+    split_without_compression, whole,
 };
 use std::hash::{Hash, Hasher};
 
@@ -72,15 +74,12 @@ impl<'a> ParseBytes<'a> for CharStr<'a> {
 
     ghost reads_at = { plain_at text };
 
-    ghost labels = { λ _. [] };
+    ghost leaves_rest = { text_leaves };
+
+    ghost ends_within = { plain_ends text text_leaves };
 
     fn parse_bytes(bytes: &'a [u8]) -> Result<CharStr<'a>, ParseError> {
-        let (charstr, rest) = CharStr::split_bytes(bytes)?;
-        if rest.is_empty() {
-            Ok(charstr)
-        } else {
-            Err(ParseError)
-        }
+        whole(CharStr::split_bytes(bytes))
     }
 }
 

@@ -1,5 +1,7 @@
 //! A character string with its octets.
 
+ghost use Rattle.dns_wire.specs.Left.{plain_ends};
+ghost use Rattle.dns_record.specs.Left.{text_leaves};
 ghost use Rattle.std.specs.Prelude.{◌≡◌, ◌≤◌, ℕ, List, [], length, None, ⊤};
 ghost use Rattle.std.specs.Borrow.{sem};
 ghost use Rattle.std.specs.Cmp.{partial_equiv_from_equiv};
@@ -135,7 +137,9 @@ impl<'a> ParseBytes<'a> for CharStrBuf {
 
     ghost reads_at = { plain_at text };
 
-    ghost labels = { λ _. [] };
+    ghost leaves_rest = { text_leaves };
+
+    ghost ends_within = { plain_ends text text_leaves };
 
     fn parse_bytes(bytes: &'a [u8]) -> Result<CharStrBuf, ParseError> {
         let charstr = CharStr::parse_bytes(bytes)?;

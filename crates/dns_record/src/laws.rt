@@ -4,7 +4,7 @@ ghost use Rattle.std.specs.Prelude.{◌≡◌, ◌↔◌, ◌<◌, ◌+◌, ◌^
 ghost use Rattle.dns_wire.specs.Pointers.{name_at};
 ghost use Rattle.dns_record.specs.Fields.{Field, fields_octets};
 ghost use Rattle.dns_record.specs.InPlace.{FieldsAt, DataAt, QuestionAt, RecordAt};
-ghost use Rattle.dns_record.specs.Kinds.{Kind, fields_in, named_in};
+ghost use Rattle.dns_record.specs.Kinds.{Kind, fields_in};
 ghost use Rattle.dns_record.specs.Data.{data_in};
 ghost use Rattle.dns_record.specs.Questions.{QuestionOf, question_in};
 ghost use Rattle.dns_record.specs.Records.{RecordOf, record_in};
@@ -14,13 +14,13 @@ ghost use Rattle.dns_record.specs.Records.{RecordOf, record_in};
 /// record (RFC 1035 sections 3.3, 4.1.2 and 4.1.3).
 pub fn items_in_words()
     ensures fields { (kinds : List Kind) (contents : List ℕ) (at : ℕ) (fields : List Field) (end : ℕ) →
-        (fields_in (named_in (λ labels. labels) name_at) kinds contents at ≡ Some (fields, end)) ↔ FieldsAt kinds contents at fields end }
+        (fields_in name_at kinds contents at ≡ Some (fields, end)) ↔ FieldsAt kinds contents at fields end }
     ensures content { (rtype : ℕ) (contents : List ℕ) (at : ℕ) (fields : List Field) →
-        (data_in (named_in (λ labels. labels) name_at) rtype contents at ≡ Some fields) ↔ DataAt rtype contents at fields }
+        (data_in name_at rtype contents at ≡ Some fields) ↔ DataAt rtype contents at fields }
     ensures question { (contents : List ℕ) (at : ℕ) (question : QuestionOf (List (List ℕ))) (end : ℕ) →
         (question_in name_at contents at ≡ Some (question, end)) ↔ QuestionAt contents at question end }
     ensures whole { (contents : List ℕ) (at : ℕ) (found : RecordOf (List (List ℕ)) (List Field)) (end : ℕ) →
-        (record_in name_at (data_in (named_in (λ labels. labels) name_at)) contents at ≡ Some (found, end)) ↔ RecordAt contents at found end }
+        (record_in name_at (data_in name_at) contents at ≡ Some (found, end)) ↔ RecordAt contents at found end }
 {}
 
 /// Data that stand in fewer than 65,536 octets have fewer than 65,536 octets when their names are written

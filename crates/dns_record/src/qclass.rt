@@ -1,5 +1,6 @@
 //! Classes that a question asks for.
 
+ghost use Rattle.dns_wire.specs.Left.{number_leaves, plain_ends};
 ghost use Rattle.std.specs.Prelude.{◌≡◌, ℕ, [], None, ⊤};
 ghost use Rattle.std.specs.Int.{w16, to_be_bytes};
 ghost use Rattle.dns_wire.specs.Pieces.{whole_presses};
@@ -40,7 +41,9 @@ impl<'a> ParseBytes<'a> for QClass {
 
     ghost reads_at = { plain_at (number w16) };
 
-    ghost labels = { λ _. [] };
+    ghost leaves_rest = { number_leaves w16 };
+
+    ghost ends_within = { plain_ends (number w16) (number_leaves w16) };
 
     fn parse_bytes(bytes: &'a [u8]) -> Result<QClass, ParseError> {
         let code = U16::parse_bytes(bytes)?;

@@ -1,5 +1,6 @@
 //! Questions.
 
+ghost use Rattle.dns_record.specs.Left.{question_leaves, question_ends};
 ghost use Rattle.std.specs.Prelude.{◌≡◌, [], ◌++◌, length};
 ghost use Rattle.std.specs.Int.{w16, to_be_bytes};
 ghost use Rattle.std.specs.Fn.{FnOnceTakesAt, FnOnceReturnsAt};
@@ -10,7 +11,7 @@ use crate::qclass::QClass;
 use crate::qtype::QType;
 use dns_wire::{
     BuildBytes, ParseBytes, ParseError, ParseMessageBytes, SplitBytes, SplitMessageBytes,
-    TruncationError,
+    TruncationError, whole, whole_message,
 };
 
 /// A question of a message: a name, a type and a class (RFC 1035 section 4.1.2).
@@ -72,15 +73,12 @@ impl<'a, N: SplitBytes<'a>> ParseBytes<'a> for Question<N> {
 
     ghost reads_at = { question_in N.reads_at };
 
-    ghost labels = { λ _. [] };
+    ghost leaves_rest = { question_leaves N.reads N.leaves_rest };
+
+    ghost ends_within = { question_ends N.reads_at N.ends_within };
 
     fn parse_bytes(bytes: &'a [u8]) -> Result<Question<N>, ParseError> {
-        let (question, rest) = Question::split_bytes(bytes)?;
-        if rest.is_empty() {
-            Ok(question)
-        } else {
-            Err(ParseError)
-        }
+        whole(Question::split_bytes(bytes))
     }
 }
 
@@ -101,12 +99,7 @@ impl<'a, N: SplitBytes<'a>> SplitBytes<'a> for Question<N> {
 
 impl<'a, N: SplitMessageBytes<'a>> ParseMessageBytes<'a> for Question<N> {
     fn parse_message_bytes(contents: &'a [u8], start: usize) -> Result<Question<N>, ParseError> {
-        let (question, end) = Question::split_message_bytes(contents, start)?;
-        if end == contents.len() {
-            Ok(question)
-        } else {
-            Err(ParseError)
-        }
+        whole_message(Question::split_message_bytes(contents, start), contents)
     }
 }
 

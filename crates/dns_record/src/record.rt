@@ -1,5 +1,6 @@
 //! Records.
 
+ghost use Rattle.dns_record.specs.Left.{record_leaves, record_ends};
 ghost use Rattle.std.specs.Prelude.{◌≡◌, ◌≤◌, ◌<◌, ◌^◌, [], length, IfOk};
 ghost use Rattle.std.specs.Fn.{FnOnceTakesAt, FnOnceReturnsAt};
 ghost use Rattle.dns_wire.specs.Reading.{Gives, octets};
@@ -13,7 +14,7 @@ use crate::ttl::TTL;
 use dns_num::{SizePrefixed, U16};
 use dns_wire::{
     BuildBytes, ParseBytes, ParseError, ParseMessageBytes, SplitBytes, SplitMessageBytes,
-    TruncationError,
+    TruncationError, whole, whole_message,
 };
 
 /// A record: an owner, a type, a class, a time to live, and data (RFC 1035 section 4.1.3).
@@ -107,15 +108,12 @@ impl<'a, N: SplitBytes<'a>, D: ParseRecordDataBytes<'a>> ParseBytes<'a> for Reco
 
     ghost reads_at = { record_in N.reads_at D.reads_in };
 
-    ghost labels = { λ _. [] };
+    ghost leaves_rest = { record_leaves N.reads D.reads_as N.leaves_rest };
+
+    ghost ends_within = { record_ends N.reads_at D.reads_in N.ends_within };
 
     fn parse_bytes(bytes: &'a [u8]) -> Result<Record<N, D>, ParseError> {
-        let (value, rest) = Record::split_bytes(bytes)?;
-        if rest.is_empty() {
-            Ok(value)
-        } else {
-            Err(ParseError)
-        }
+        whole(Record::split_bytes(bytes))
     }
 }
 
@@ -149,12 +147,7 @@ impl<'a, N: SplitBytes<'a>, D: ParseRecordDataBytes<'a>> SplitBytes<'a> for Reco
 
 impl<'a, N: SplitMessageBytes<'a>, D: ParseRecordData<'a>> ParseMessageBytes<'a> for Record<N, D> {
     fn parse_message_bytes(contents: &'a [u8], start: usize) -> Result<Record<N, D>, ParseError> {
-        let (value, end) = Record::split_message_bytes(contents, start)?;
-        if end == contents.len() {
-            Ok(value)
-        } else {
-            Err(ParseError)
-        }
+        whole_message(Record::split_message_bytes(contents, start), contents)
     }
 }
 

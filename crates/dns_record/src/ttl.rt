@@ -1,5 +1,6 @@
 //! Times to live.
 
+ghost use Rattle.dns_wire.specs.Left.{number_leaves, plain_ends};
 ghost use Rattle.std.specs.Prelude.{◌≡◌, ℕ, [], None, ⊤};
 ghost use Rattle.std.specs.Int.{w32, to_be_bytes};
 ghost use Rattle.dns_wire.specs.Pieces.{whole_presses};
@@ -55,7 +56,9 @@ impl<'a> ParseBytes<'a> for TTL {
 
     ghost reads_at = { plain_at (number w32) };
 
-    ghost labels = { λ _. [] };
+    ghost leaves_rest = { number_leaves w32 };
+
+    ghost ends_within = { plain_ends (number w32) (number_leaves w32) };
 
     fn parse_bytes(bytes: &'a [u8]) -> Result<TTL, ParseError> {
         let value = U32::parse_bytes(bytes)?;
