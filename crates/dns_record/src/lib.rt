@@ -30,7 +30,7 @@ pub use qtype::QType;
 pub use question::Question;
 pub use rclass::RClass;
 pub use record::Record;
-pub use record_data::{ParseRecordData, ParseRecordDataBytes};
+pub use record_data::{DataOfType, ParseRecordData, ParseRecordDataBytes};
 pub use rtype::RType;
 pub use serial::Serial;
 pub use ttl::TTL;

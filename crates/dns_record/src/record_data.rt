@@ -1,10 +1,11 @@
 //! Data of records, whose grammar depends on the type.
 
 ghost use Rattle.std.specs.Prelude.{◌≡◌, ℕ, List, Option, IfOk};
-ghost use Rattle.dns_wire.specs.Reading.{Gives};
+ghost use Rattle.dns_wire.specs.Reading.{Gives, all_of, all_at};
+ghost use Rattle.dns_record.specs.Data.{of_type};
 
 use crate::rtype::RType;
-use dns_wire::ParseError;
+use dns_wire::{ParseBytes, ParseError, ParseMessageBytes};
 
 /// Data that are read for a type of record.
 pub trait ParseRecordDataBytes<'a>: Sized + Drop {
@@ -37,4 +38,45 @@ pub trait ParseRecordData<'a>: ParseRecordDataBytes<'a> {
     fn parse_record_data(contents: &'a [u8], start: usize, rtype: RType) -> Result<Self, ParseError>
         ensures exact { Gives Self.seen result (Self.reads_in rtype.code.value contents.now start) }
         ensures typed { IfOk result (λ v. Self.is_of v rtype.code.value) };
+}
+
+/// Data of one type of record alone, which are read for its number and for no other.
+pub trait DataOfType<'a>: ParseBytes<'a> {
+    /// The number of the type.
+    ghost number: { ℕ };
+
+    /// The type.
+    fn rtype() -> RType
+        ensures { result.code.value ≡ number };
+}
+
+/// Any other type's number is `ParseError`.
+impl<'a, T: DataOfType<'a>> ParseRecordDataBytes<'a> for T {
+    ghost Seen = { T.Seen };
+
+    ghost seen = { T.seen };
+
+    ghost reads_as = { λ rtype bytes. of_type T.number rtype (all_of (T.reads bytes)) };
+
+    ghost reads_in = { λ rtype contents at. of_type T.number rtype (all_at contents (T.reads_at contents at)) };
+
+    ghost is_of = { λ _ rtype. rtype ≡ T.number };
+
+    fn parse_record_data_bytes(bytes: &'a [u8], rtype: RType) -> Result<T, ParseError> {
+        if rtype == T::rtype() {
+            T::parse_bytes(bytes)
+        } else {
+            Err(ParseError)
+        }
+    }
+}
+
+impl<'a, T: DataOfType<'a> + ParseMessageBytes<'a>> ParseRecordData<'a> for T {
+    fn parse_record_data(contents: &'a [u8], start: usize, rtype: RType) -> Result<T, ParseError> {
+        if rtype == T::rtype() {
+            T::parse_message_bytes(contents, start)
+        } else {
+            Err(ParseError)
+        }
+    }
 }
