@@ -4,17 +4,18 @@ ghost use Rattle.std.specs.Prelude.{◌≡◌, ◌≤◌, ◌<◌, ◌^◌, ℕ,
 ghost use Rattle.std.specs.Fn.{FnOnceTakesAt, FnOnceReturnsAt};
 ghost use Rattle.dns_wire.specs.Reading.{Gives, all_of, all_at};
 ghost use Rattle.dns_record.specs.Canonical.{ranked_cmp};
-ghost use Rattle.dns_record.specs.Data.{of_type};
-ghost use Rattle.dns_record.specs.Fields.{Field, fields_octets, folded_field};
-ghost use Rattle.dns_record.specs.Kinds.{fields_of, fields_in, named, named_in};
-ghost use Rattle.dns_record.specs.Rows.{row_name};
+ghost use Rattle.dns_record.specs.Fields.{FieldOf, named_by, canonical_octets};
+ghost use Rattle.dns_record.specs.Kinds.{fields_of, fields_in};
+ghost use Rattle.dns_record.specs.Kinds.Kind.{Pointed};
+ghost use Rattle.dns_record.specs.Left.{fields_leave, fields_end};
+ghost use Rattle.dns_record.specs.Rows.{row};
 ghost use Rattle.dns_basic.specs.Types.{cname_fields};
 
 use dns_name::{CanonicalName, Lowercased};
-use dns_record::{CanonicalRecordData, ParseRecordData, ParseRecordDataBytes, RType};
+use dns_record::{CanonicalRecordData, DataOfType, RType};
 use dns_wire::{
-    BuildBytes, ParseBytes, ParseError, ParseMessageBytes, SplitBytes, SplitMessageBytes,
-    TruncationError,
+    BuildBytes, ParseBytes, ParseError, ParseMessageBytes, ParseName, SplitBytes,
+    SplitMessageBytes, TruncationError, whole, whole_message,
 };
 use std::cmp::Ordering;
 
@@ -45,28 +46,25 @@ impl<N> CName<N> {
     }
 }
 
-impl<'a, N: SplitBytes<'a>> ParseBytes<'a> for CName<N> {
-    ghost Seen = { List Field };
+impl<'a, N: ParseName<'a>> ParseBytes<'a> for CName<N> {
+    ghost Seen = { List (FieldOf N.Seen) };
 
-    ghost seen = { cname_fields (λ n. N.labels (N.seen n)) };
+    ghost seen = { λ v. map (named_by N.seen) (cname_fields v) };
 
-    ghost reads = { fields_of (named N.labels N.reads) row_name };
+    ghost reads = { fields_of N.reads (row 5) };
 
-    ghost reads_at = { fields_in (named_in N.labels N.reads_at) row_name };
+    ghost reads_at = { fields_in N.reads_at (row 5) };
 
-    ghost labels = { λ _. [] };
+    ghost leaves_rest = { fields_leave N.reads N.leaves_rest (row 5) };
+
+    ghost ends_within = { fields_end N.reads_at N.ends_within Pointed [] };
 
     fn parse_bytes(bytes: &'a [u8]) -> Result<CName<N>, ParseError> {
-        let (value, rest) = CName::split_bytes(bytes)?;
-        if rest.is_empty() {
-            Ok(value)
-        } else {
-            Err(ParseError)
-        }
+        whole(CName::split_bytes(bytes))
     }
 }
 
-impl<'a, N: SplitBytes<'a>> SplitBytes<'a> for CName<N> {
+impl<'a, N: ParseName<'a>> SplitBytes<'a> for CName<N> {
     fn split_bytes(bytes: &'a [u8]) -> Result<(CName<N>, &'a [u8]), ParseError> {
         let (name, rest) = N::split_bytes(bytes)?;
         let value = CName { name };
@@ -74,18 +72,13 @@ impl<'a, N: SplitBytes<'a>> SplitBytes<'a> for CName<N> {
     }
 }
 
-impl<'a, N: SplitMessageBytes<'a>> ParseMessageBytes<'a> for CName<N> {
+impl<'a, N: ParseName<'a> + SplitMessageBytes<'a>> ParseMessageBytes<'a> for CName<N> {
     fn parse_message_bytes(contents: &'a [u8], start: usize) -> Result<CName<N>, ParseError> {
-        let (value, end) = CName::split_message_bytes(contents, start)?;
-        if end == contents.len() {
-            Ok(value)
-        } else {
-            Err(ParseError)
-        }
+        whole_message(CName::split_message_bytes(contents, start), contents)
     }
 }
 
-impl<'a, N: SplitMessageBytes<'a>> SplitMessageBytes<'a> for CName<N> {
+impl<'a, N: ParseName<'a> + SplitMessageBytes<'a>> SplitMessageBytes<'a> for CName<N> {
     fn split_message_bytes(
         contents: &'a [u8],
         start: usize,
@@ -96,36 +89,11 @@ impl<'a, N: SplitMessageBytes<'a>> SplitMessageBytes<'a> for CName<N> {
     }
 }
 
-/// Any other type's number is `ParseError`.
-impl<'a, N: SplitBytes<'a>> ParseRecordDataBytes<'a> for CName<N> {
-    ghost Seen = { List Field };
+impl<'a, N: ParseName<'a>> DataOfType<'a> for CName<N> {
+    ghost number = { 5 };
 
-    ghost seen = { cname_fields (λ n. N.labels (N.seen n)) };
-
-    ghost reads_as = { λ rtype bytes. of_type 5 rtype (all_of (fields_of (named N.labels N.reads) row_name bytes)) };
-
-    ghost reads_in = { λ rtype contents at. of_type 5 rtype (all_at contents (fields_in (named_in N.labels N.reads_at) row_name contents at)) };
-
-    ghost is_of = { λ _ rtype. rtype ≡ 5 };
-
-    fn parse_record_data_bytes(bytes: &'a [u8], rtype: RType) -> Result<CName<N>, ParseError> {
-        match rtype.code.value {
-            5 => CName::parse_bytes(bytes),
-            _ => Err(ParseError),
-        }
-    }
-}
-
-impl<'a, N: SplitMessageBytes<'a>> ParseRecordData<'a> for CName<N> {
-    fn parse_record_data(
-        contents: &'a [u8],
-        start: usize,
-        rtype: RType,
-    ) -> Result<CName<N>, ParseError> {
-        match rtype.code.value {
-            5 => CName::parse_message_bytes(contents, start),
-            _ => Err(ParseError),
-        }
+    fn rtype() -> RType {
+        RType::CNAME
     }
 }
 
@@ -145,7 +113,7 @@ impl<N: BuildBytes> BuildBytes for CName<N> {
 
 /// The fields in order, the name in small letters.
 impl<N: CanonicalName> CanonicalRecordData for CName<N> {
-    ghost canonical = { λ v. fields_octets (map folded_field (cname_fields N.name v)) };
+    ghost canonical = { λ v. canonical_octets 5 (map (named_by N.name) (cname_fields v)) };
 
     ghost rank = { λ _. 0 };
 

@@ -5,18 +5,19 @@ ghost use Rattle.std.specs.Int.{w16, to_be_bytes};
 ghost use Rattle.std.specs.Fn.{FnOnceTakesAt, FnOnceReturnsAt};
 ghost use Rattle.dns_wire.specs.Reading.{Gives, all_of, all_at};
 ghost use Rattle.dns_record.specs.Canonical.{ranked_cmp};
-ghost use Rattle.dns_record.specs.Data.{of_type};
-ghost use Rattle.dns_record.specs.Fields.{Field, fields_octets, folded_field};
-ghost use Rattle.dns_record.specs.Kinds.{fields_of, fields_in, named, named_in};
-ghost use Rattle.dns_record.specs.Rows.{row_mx};
+ghost use Rattle.dns_record.specs.Fields.{FieldOf, named_by, canonical_octets};
+ghost use Rattle.dns_record.specs.Kinds.{fields_of, fields_in};
+ghost use Rattle.dns_record.specs.Kinds.Kind.{OneNumber, Pointed};
+ghost use Rattle.dns_record.specs.Left.{fields_leave, fields_end};
+ghost use Rattle.dns_record.specs.Rows.{row};
 ghost use Rattle.dns_basic.specs.Types.{mx_fields};
 
 use dns_name::{CanonicalName, Lowercased};
 use dns_num::U16;
-use dns_record::{CanonicalRecordData, ParseRecordData, ParseRecordDataBytes, RType};
+use dns_record::{CanonicalRecordData, DataOfType, RType};
 use dns_wire::{
-    BuildBytes, ParseBytes, ParseError, ParseMessageBytes, SplitBytes, SplitMessageBytes,
-    TruncationError,
+    BuildBytes, ParseBytes, ParseError, ParseMessageBytes, ParseName, SplitBytes,
+    SplitMessageBytes, TruncationError, whole, whole_message,
 };
 use std::cmp::Ordering;
 
@@ -55,28 +56,25 @@ impl<N> Mx<N> {
     }
 }
 
-impl<'a, N: SplitBytes<'a>> ParseBytes<'a> for Mx<N> {
-    ghost Seen = { List Field };
+impl<'a, N: ParseName<'a>> ParseBytes<'a> for Mx<N> {
+    ghost Seen = { List (FieldOf N.Seen) };
 
-    ghost seen = { mx_fields (λ n. N.labels (N.seen n)) };
+    ghost seen = { λ v. map (named_by N.seen) (mx_fields v) };
 
-    ghost reads = { fields_of (named N.labels N.reads) row_mx };
+    ghost reads = { fields_of N.reads (row 15) };
 
-    ghost reads_at = { fields_in (named_in N.labels N.reads_at) row_mx };
+    ghost reads_at = { fields_in N.reads_at (row 15) };
 
-    ghost labels = { λ _. [] };
+    ghost leaves_rest = { fields_leave N.reads N.leaves_rest (row 15) };
+
+    ghost ends_within = { fields_end N.reads_at N.ends_within (OneNumber w16) (Pointed ∷ []) };
 
     fn parse_bytes(bytes: &'a [u8]) -> Result<Mx<N>, ParseError> {
-        let (value, rest) = Mx::split_bytes(bytes)?;
-        if rest.is_empty() {
-            Ok(value)
-        } else {
-            Err(ParseError)
-        }
+        whole(Mx::split_bytes(bytes))
     }
 }
 
-impl<'a, N: SplitBytes<'a>> SplitBytes<'a> for Mx<N> {
+impl<'a, N: ParseName<'a>> SplitBytes<'a> for Mx<N> {
     fn split_bytes(bytes: &'a [u8]) -> Result<(Mx<N>, &'a [u8]), ParseError> {
         let (preference, rest) = U16::split_bytes(bytes)?;
         let (exchange, rest) = N::split_bytes(rest)?;
@@ -88,18 +86,13 @@ impl<'a, N: SplitBytes<'a>> SplitBytes<'a> for Mx<N> {
     }
 }
 
-impl<'a, N: SplitMessageBytes<'a>> ParseMessageBytes<'a> for Mx<N> {
+impl<'a, N: ParseName<'a> + SplitMessageBytes<'a>> ParseMessageBytes<'a> for Mx<N> {
     fn parse_message_bytes(contents: &'a [u8], start: usize) -> Result<Mx<N>, ParseError> {
-        let (value, end) = Mx::split_message_bytes(contents, start)?;
-        if end == contents.len() {
-            Ok(value)
-        } else {
-            Err(ParseError)
-        }
+        whole_message(Mx::split_message_bytes(contents, start), contents)
     }
 }
 
-impl<'a, N: SplitMessageBytes<'a>> SplitMessageBytes<'a> for Mx<N> {
+impl<'a, N: ParseName<'a> + SplitMessageBytes<'a>> SplitMessageBytes<'a> for Mx<N> {
     fn split_message_bytes(contents: &'a [u8], start: usize) -> Result<(Mx<N>, usize), ParseError> {
         let (preference, at) = U16::split_message_bytes(contents, start)?;
         let (exchange, end) = N::split_message_bytes(contents, at)?;
@@ -111,36 +104,11 @@ impl<'a, N: SplitMessageBytes<'a>> SplitMessageBytes<'a> for Mx<N> {
     }
 }
 
-/// Any other type's number is `ParseError`.
-impl<'a, N: SplitBytes<'a>> ParseRecordDataBytes<'a> for Mx<N> {
-    ghost Seen = { List Field };
+impl<'a, N: ParseName<'a>> DataOfType<'a> for Mx<N> {
+    ghost number = { 15 };
 
-    ghost seen = { mx_fields (λ n. N.labels (N.seen n)) };
-
-    ghost reads_as = { λ rtype bytes. of_type 15 rtype (all_of (fields_of (named N.labels N.reads) row_mx bytes)) };
-
-    ghost reads_in = { λ rtype contents at. of_type 15 rtype (all_at contents (fields_in (named_in N.labels N.reads_at) row_mx contents at)) };
-
-    ghost is_of = { λ _ rtype. rtype ≡ 15 };
-
-    fn parse_record_data_bytes(bytes: &'a [u8], rtype: RType) -> Result<Mx<N>, ParseError> {
-        match rtype.code.value {
-            15 => Mx::parse_bytes(bytes),
-            _ => Err(ParseError),
-        }
-    }
-}
-
-impl<'a, N: SplitMessageBytes<'a>> ParseRecordData<'a> for Mx<N> {
-    fn parse_record_data(
-        contents: &'a [u8],
-        start: usize,
-        rtype: RType,
-    ) -> Result<Mx<N>, ParseError> {
-        match rtype.code.value {
-            15 => Mx::parse_message_bytes(contents, start),
-            _ => Err(ParseError),
-        }
+    fn rtype() -> RType {
+        RType::MX
     }
 }
 
@@ -160,7 +128,7 @@ impl<N: BuildBytes> BuildBytes for Mx<N> {
 
 /// The fields in order, the name in small letters.
 impl<N: CanonicalName> CanonicalRecordData for Mx<N> {
-    ghost canonical = { λ v. fields_octets (map folded_field (mx_fields N.name v)) };
+    ghost canonical = { λ v. canonical_octets 15 (map (named_by N.name) (mx_fields v)) };
 
     ghost rank = { λ _. 0 };
 

@@ -4,17 +4,18 @@ ghost use Rattle.std.specs.Prelude.{◌≡◌, ◌≤◌, ◌<◌, ◌^◌, ℕ,
 ghost use Rattle.std.specs.Fn.{FnOnceTakesAt, FnOnceReturnsAt};
 ghost use Rattle.dns_wire.specs.Reading.{Gives, all_of, all_at};
 ghost use Rattle.dns_record.specs.Canonical.{ranked_cmp};
-ghost use Rattle.dns_record.specs.Data.{of_type};
-ghost use Rattle.dns_record.specs.Fields.{Field, fields_octets, folded_field};
-ghost use Rattle.dns_record.specs.Kinds.{fields_of, fields_in, named, named_in};
-ghost use Rattle.dns_record.specs.Rows.{row_name};
+ghost use Rattle.dns_record.specs.Fields.{FieldOf, named_by, canonical_octets};
+ghost use Rattle.dns_record.specs.Kinds.{fields_of, fields_in};
+ghost use Rattle.dns_record.specs.Kinds.Kind.{Pointed};
+ghost use Rattle.dns_record.specs.Left.{fields_leave, fields_end};
+ghost use Rattle.dns_record.specs.Rows.{row};
 ghost use Rattle.dns_basic.specs.Types.{ns_fields};
 
 use dns_name::{CanonicalName, Lowercased};
-use dns_record::{CanonicalRecordData, ParseRecordData, ParseRecordDataBytes, RType};
+use dns_record::{CanonicalRecordData, DataOfType, RType};
 use dns_wire::{
-    BuildBytes, ParseBytes, ParseError, ParseMessageBytes, SplitBytes, SplitMessageBytes,
-    TruncationError,
+    BuildBytes, ParseBytes, ParseError, ParseMessageBytes, ParseName, SplitBytes,
+    SplitMessageBytes, TruncationError, whole, whole_message,
 };
 use std::cmp::Ordering;
 
@@ -47,28 +48,25 @@ impl<N> Ns<N> {
     }
 }
 
-impl<'a, N: SplitBytes<'a>> ParseBytes<'a> for Ns<N> {
-    ghost Seen = { List Field };
+impl<'a, N: ParseName<'a>> ParseBytes<'a> for Ns<N> {
+    ghost Seen = { List (FieldOf N.Seen) };
 
-    ghost seen = { ns_fields (λ n. N.labels (N.seen n)) };
+    ghost seen = { λ v. map (named_by N.seen) (ns_fields v) };
 
-    ghost reads = { fields_of (named N.labels N.reads) row_name };
+    ghost reads = { fields_of N.reads (row 2) };
 
-    ghost reads_at = { fields_in (named_in N.labels N.reads_at) row_name };
+    ghost reads_at = { fields_in N.reads_at (row 2) };
 
-    ghost labels = { λ _. [] };
+    ghost leaves_rest = { fields_leave N.reads N.leaves_rest (row 2) };
+
+    ghost ends_within = { fields_end N.reads_at N.ends_within Pointed [] };
 
     fn parse_bytes(bytes: &'a [u8]) -> Result<Ns<N>, ParseError> {
-        let (value, rest) = Ns::split_bytes(bytes)?;
-        if rest.is_empty() {
-            Ok(value)
-        } else {
-            Err(ParseError)
-        }
+        whole(Ns::split_bytes(bytes))
     }
 }
 
-impl<'a, N: SplitBytes<'a>> SplitBytes<'a> for Ns<N> {
+impl<'a, N: ParseName<'a>> SplitBytes<'a> for Ns<N> {
     fn split_bytes(bytes: &'a [u8]) -> Result<(Ns<N>, &'a [u8]), ParseError> {
         let (server, rest) = N::split_bytes(bytes)?;
         let value = Ns { server };
@@ -76,18 +74,13 @@ impl<'a, N: SplitBytes<'a>> SplitBytes<'a> for Ns<N> {
     }
 }
 
-impl<'a, N: SplitMessageBytes<'a>> ParseMessageBytes<'a> for Ns<N> {
+impl<'a, N: ParseName<'a> + SplitMessageBytes<'a>> ParseMessageBytes<'a> for Ns<N> {
     fn parse_message_bytes(contents: &'a [u8], start: usize) -> Result<Ns<N>, ParseError> {
-        let (value, end) = Ns::split_message_bytes(contents, start)?;
-        if end == contents.len() {
-            Ok(value)
-        } else {
-            Err(ParseError)
-        }
+        whole_message(Ns::split_message_bytes(contents, start), contents)
     }
 }
 
-impl<'a, N: SplitMessageBytes<'a>> SplitMessageBytes<'a> for Ns<N> {
+impl<'a, N: ParseName<'a> + SplitMessageBytes<'a>> SplitMessageBytes<'a> for Ns<N> {
     fn split_message_bytes(contents: &'a [u8], start: usize) -> Result<(Ns<N>, usize), ParseError> {
         let (server, end) = N::split_message_bytes(contents, start)?;
         let value = Ns { server };
@@ -95,36 +88,11 @@ impl<'a, N: SplitMessageBytes<'a>> SplitMessageBytes<'a> for Ns<N> {
     }
 }
 
-/// Any other type's number is `ParseError`.
-impl<'a, N: SplitBytes<'a>> ParseRecordDataBytes<'a> for Ns<N> {
-    ghost Seen = { List Field };
+impl<'a, N: ParseName<'a>> DataOfType<'a> for Ns<N> {
+    ghost number = { 2 };
 
-    ghost seen = { ns_fields (λ n. N.labels (N.seen n)) };
-
-    ghost reads_as = { λ rtype bytes. of_type 2 rtype (all_of (fields_of (named N.labels N.reads) row_name bytes)) };
-
-    ghost reads_in = { λ rtype contents at. of_type 2 rtype (all_at contents (fields_in (named_in N.labels N.reads_at) row_name contents at)) };
-
-    ghost is_of = { λ _ rtype. rtype ≡ 2 };
-
-    fn parse_record_data_bytes(bytes: &'a [u8], rtype: RType) -> Result<Ns<N>, ParseError> {
-        match rtype.code.value {
-            2 => Ns::parse_bytes(bytes),
-            _ => Err(ParseError),
-        }
-    }
-}
-
-impl<'a, N: SplitMessageBytes<'a>> ParseRecordData<'a> for Ns<N> {
-    fn parse_record_data(
-        contents: &'a [u8],
-        start: usize,
-        rtype: RType,
-    ) -> Result<Ns<N>, ParseError> {
-        match rtype.code.value {
-            2 => Ns::parse_message_bytes(contents, start),
-            _ => Err(ParseError),
-        }
+    fn rtype() -> RType {
+        RType::NS
     }
 }
 
@@ -144,7 +112,7 @@ impl<N: BuildBytes> BuildBytes for Ns<N> {
 
 /// The fields in order, the name in small letters.
 impl<N: CanonicalName> CanonicalRecordData for Ns<N> {
-    ghost canonical = { λ v. fields_octets (map folded_field (ns_fields N.name v)) };
+    ghost canonical = { λ v. canonical_octets 2 (map (named_by N.name) (ns_fields v)) };
 
     ghost rank = { λ _. 0 };
 

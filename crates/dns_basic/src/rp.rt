@@ -4,18 +4,19 @@ ghost use Rattle.std.specs.Prelude.{◌≡◌, ◌≤◌, ◌<◌, ◌^◌, ℕ,
 ghost use Rattle.std.specs.Fn.{CalledAt, TakesAt};
 ghost use Rattle.dns_wire.specs.Reading.{Gives, all_of, all_at};
 ghost use Rattle.dns_record.specs.Canonical.{ranked_cmp};
-ghost use Rattle.dns_record.specs.Data.{of_type};
-ghost use Rattle.dns_record.specs.Fields.{Field, fields_octets, folded_field};
-ghost use Rattle.dns_record.specs.Kinds.{fields_of, fields_in, named, named_in};
-ghost use Rattle.dns_record.specs.Rows.{row_rp};
+ghost use Rattle.dns_record.specs.Fields.{FieldOf, named_by, canonical_octets};
+ghost use Rattle.dns_record.specs.Kinds.{fields_of, fields_in};
+ghost use Rattle.dns_record.specs.Kinds.Kind.{Pointed};
+ghost use Rattle.dns_record.specs.Left.{fields_leave, fields_end};
+ghost use Rattle.dns_record.specs.Rows.{row};
 ghost use Rattle.dns_basic.specs.Calls.{TakesNextAt};
 ghost use Rattle.dns_basic.specs.Types.{rp_fields};
 
 use dns_name::{CanonicalName, Lowercased};
-use dns_record::{CanonicalRecordData, ParseRecordData, ParseRecordDataBytes, RType};
+use dns_record::{CanonicalRecordData, DataOfType, RType};
 use dns_wire::{
-    BuildBytes, ParseBytes, ParseError, ParseMessageBytes, SplitBytes, SplitMessageBytes,
-    TruncationError,
+    BuildBytes, ParseBytes, ParseError, ParseMessageBytes, ParseName, SplitBytes,
+    SplitMessageBytes, TruncationError, whole, whole_message,
 };
 use std::cmp::Ordering;
 
@@ -52,28 +53,25 @@ impl<N> Rp<N> {
     }
 }
 
-impl<'a, N: SplitBytes<'a>> ParseBytes<'a> for Rp<N> {
-    ghost Seen = { List Field };
+impl<'a, N: ParseName<'a>> ParseBytes<'a> for Rp<N> {
+    ghost Seen = { List (FieldOf N.Seen) };
 
-    ghost seen = { rp_fields (λ n. N.labels (N.seen n)) };
+    ghost seen = { λ v. map (named_by N.seen) (rp_fields v) };
 
-    ghost reads = { fields_of (named N.labels N.reads) row_rp };
+    ghost reads = { fields_of N.reads (row 17) };
 
-    ghost reads_at = { fields_in (named_in N.labels N.reads_at) row_rp };
+    ghost reads_at = { fields_in N.reads_at (row 17) };
 
-    ghost labels = { λ _. [] };
+    ghost leaves_rest = { fields_leave N.reads N.leaves_rest (row 17) };
+
+    ghost ends_within = { fields_end N.reads_at N.ends_within Pointed (Pointed ∷ []) };
 
     fn parse_bytes(bytes: &'a [u8]) -> Result<Rp<N>, ParseError> {
-        let (value, rest) = Rp::split_bytes(bytes)?;
-        if rest.is_empty() {
-            Ok(value)
-        } else {
-            Err(ParseError)
-        }
+        whole(Rp::split_bytes(bytes))
     }
 }
 
-impl<'a, N: SplitBytes<'a>> SplitBytes<'a> for Rp<N> {
+impl<'a, N: ParseName<'a>> SplitBytes<'a> for Rp<N> {
     fn split_bytes(bytes: &'a [u8]) -> Result<(Rp<N>, &'a [u8]), ParseError> {
         let (mailbox, rest) = N::split_bytes(bytes)?;
         let (texts, rest) = N::split_bytes(rest)?;
@@ -82,18 +80,13 @@ impl<'a, N: SplitBytes<'a>> SplitBytes<'a> for Rp<N> {
     }
 }
 
-impl<'a, N: SplitMessageBytes<'a>> ParseMessageBytes<'a> for Rp<N> {
+impl<'a, N: ParseName<'a> + SplitMessageBytes<'a>> ParseMessageBytes<'a> for Rp<N> {
     fn parse_message_bytes(contents: &'a [u8], start: usize) -> Result<Rp<N>, ParseError> {
-        let (value, end) = Rp::split_message_bytes(contents, start)?;
-        if end == contents.len() {
-            Ok(value)
-        } else {
-            Err(ParseError)
-        }
+        whole_message(Rp::split_message_bytes(contents, start), contents)
     }
 }
 
-impl<'a, N: SplitMessageBytes<'a>> SplitMessageBytes<'a> for Rp<N> {
+impl<'a, N: ParseName<'a> + SplitMessageBytes<'a>> SplitMessageBytes<'a> for Rp<N> {
     fn split_message_bytes(contents: &'a [u8], start: usize) -> Result<(Rp<N>, usize), ParseError> {
         let (mailbox, at) = N::split_message_bytes(contents, start)?;
         let (texts, end) = N::split_message_bytes(contents, at)?;
@@ -102,36 +95,11 @@ impl<'a, N: SplitMessageBytes<'a>> SplitMessageBytes<'a> for Rp<N> {
     }
 }
 
-/// Any other type's number is `ParseError`.
-impl<'a, N: SplitBytes<'a>> ParseRecordDataBytes<'a> for Rp<N> {
-    ghost Seen = { List Field };
+impl<'a, N: ParseName<'a>> DataOfType<'a> for Rp<N> {
+    ghost number = { 17 };
 
-    ghost seen = { rp_fields (λ n. N.labels (N.seen n)) };
-
-    ghost reads_as = { λ rtype bytes. of_type 17 rtype (all_of (fields_of (named N.labels N.reads) row_rp bytes)) };
-
-    ghost reads_in = { λ rtype contents at. of_type 17 rtype (all_at contents (fields_in (named_in N.labels N.reads_at) row_rp contents at)) };
-
-    ghost is_of = { λ _ rtype. rtype ≡ 17 };
-
-    fn parse_record_data_bytes(bytes: &'a [u8], rtype: RType) -> Result<Rp<N>, ParseError> {
-        match rtype.code.value {
-            17 => Rp::parse_bytes(bytes),
-            _ => Err(ParseError),
-        }
-    }
-}
-
-impl<'a, N: SplitMessageBytes<'a>> ParseRecordData<'a> for Rp<N> {
-    fn parse_record_data(
-        contents: &'a [u8],
-        start: usize,
-        rtype: RType,
-    ) -> Result<Rp<N>, ParseError> {
-        match rtype.code.value {
-            17 => Rp::parse_message_bytes(contents, start),
-            _ => Err(ParseError),
-        }
+    fn rtype() -> RType {
+        RType::RP
     }
 }
 
@@ -151,7 +119,7 @@ impl<N: BuildBytes> BuildBytes for Rp<N> {
 
 /// The fields in order, the names in small letters.
 impl<N: CanonicalName> CanonicalRecordData for Rp<N> {
-    ghost canonical = { λ v. fields_octets (map folded_field (rp_fields N.name v)) };
+    ghost canonical = { λ v. canonical_octets 17 (map (named_by N.name) (rp_fields v)) };
 
     ghost rank = { λ _. 0 };
 

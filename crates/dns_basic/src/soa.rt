@@ -5,19 +5,20 @@ ghost use Rattle.std.specs.Int.{w32, to_be_bytes};
 ghost use Rattle.std.specs.Fn.{CalledAt, TakesAt};
 ghost use Rattle.dns_wire.specs.Reading.{Gives, all_of, all_at};
 ghost use Rattle.dns_record.specs.Canonical.{ranked_cmp};
-ghost use Rattle.dns_record.specs.Data.{of_type};
-ghost use Rattle.dns_record.specs.Fields.{Field, fields_octets, folded_field};
-ghost use Rattle.dns_record.specs.Kinds.{fields_of, fields_in, named, named_in};
-ghost use Rattle.dns_record.specs.Rows.{row_soa};
+ghost use Rattle.dns_record.specs.Fields.{FieldOf, named_by, canonical_octets};
+ghost use Rattle.dns_record.specs.Kinds.{fields_of, fields_in};
+ghost use Rattle.dns_record.specs.Kinds.Kind.{OneNumber, Pointed};
+ghost use Rattle.dns_record.specs.Left.{fields_leave, fields_end};
+ghost use Rattle.dns_record.specs.Rows.{row};
 ghost use Rattle.dns_basic.specs.Calls.{TakesNextAt};
 ghost use Rattle.dns_basic.specs.Types.{soa_fields};
 
 use dns_name::{CanonicalName, Lowercased};
 use dns_num::U32;
-use dns_record::{CanonicalRecordData, ParseRecordData, ParseRecordDataBytes, RType, Serial};
+use dns_record::{CanonicalRecordData, DataOfType, RType, Serial};
 use dns_wire::{
-    BuildBytes, ParseBytes, ParseError, ParseMessageBytes, SplitBytes, SplitMessageBytes,
-    TruncationError,
+    BuildBytes, ParseBytes, ParseError, ParseMessageBytes, ParseName, SplitBytes,
+    SplitMessageBytes, TruncationError, whole, whole_message,
 };
 use std::cmp::Ordering;
 
@@ -82,28 +83,25 @@ impl<N> Soa<N> {
     }
 }
 
-impl<'a, N: SplitBytes<'a>> ParseBytes<'a> for Soa<N> {
-    ghost Seen = { List Field };
+impl<'a, N: ParseName<'a>> ParseBytes<'a> for Soa<N> {
+    ghost Seen = { List (FieldOf N.Seen) };
 
-    ghost seen = { soa_fields (λ n. N.labels (N.seen n)) };
+    ghost seen = { λ v. map (named_by N.seen) (soa_fields v) };
 
-    ghost reads = { fields_of (named N.labels N.reads) row_soa };
+    ghost reads = { fields_of N.reads (row 6) };
 
-    ghost reads_at = { fields_in (named_in N.labels N.reads_at) row_soa };
+    ghost reads_at = { fields_in N.reads_at (row 6) };
 
-    ghost labels = { λ _. [] };
+    ghost leaves_rest = { fields_leave N.reads N.leaves_rest (row 6) };
+
+    ghost ends_within = { fields_end N.reads_at N.ends_within Pointed (Pointed ∷ OneNumber w32 ∷ OneNumber w32 ∷ OneNumber w32 ∷ OneNumber w32 ∷ OneNumber w32 ∷ []) };
 
     fn parse_bytes(bytes: &'a [u8]) -> Result<Soa<N>, ParseError> {
-        let (value, rest) = Soa::split_bytes(bytes)?;
-        if rest.is_empty() {
-            Ok(value)
-        } else {
-            Err(ParseError)
-        }
+        whole(Soa::split_bytes(bytes))
     }
 }
 
-impl<'a, N: SplitBytes<'a>> SplitBytes<'a> for Soa<N> {
+impl<'a, N: ParseName<'a>> SplitBytes<'a> for Soa<N> {
     fn split_bytes(bytes: &'a [u8]) -> Result<(Soa<N>, &'a [u8]), ParseError> {
         let (mname, rest) = N::split_bytes(bytes)?;
         let (rname, rest) = N::split_bytes(rest)?;
@@ -125,18 +123,13 @@ impl<'a, N: SplitBytes<'a>> SplitBytes<'a> for Soa<N> {
     }
 }
 
-impl<'a, N: SplitMessageBytes<'a>> ParseMessageBytes<'a> for Soa<N> {
+impl<'a, N: ParseName<'a> + SplitMessageBytes<'a>> ParseMessageBytes<'a> for Soa<N> {
     fn parse_message_bytes(contents: &'a [u8], start: usize) -> Result<Soa<N>, ParseError> {
-        let (value, end) = Soa::split_message_bytes(contents, start)?;
-        if end == contents.len() {
-            Ok(value)
-        } else {
-            Err(ParseError)
-        }
+        whole_message(Soa::split_message_bytes(contents, start), contents)
     }
 }
 
-impl<'a, N: SplitMessageBytes<'a>> SplitMessageBytes<'a> for Soa<N> {
+impl<'a, N: ParseName<'a> + SplitMessageBytes<'a>> SplitMessageBytes<'a> for Soa<N> {
     fn split_message_bytes(
         contents: &'a [u8],
         start: usize,
@@ -161,36 +154,11 @@ impl<'a, N: SplitMessageBytes<'a>> SplitMessageBytes<'a> for Soa<N> {
     }
 }
 
-/// Any other type's number is `ParseError`.
-impl<'a, N: SplitBytes<'a>> ParseRecordDataBytes<'a> for Soa<N> {
-    ghost Seen = { List Field };
+impl<'a, N: ParseName<'a>> DataOfType<'a> for Soa<N> {
+    ghost number = { 6 };
 
-    ghost seen = { soa_fields (λ n. N.labels (N.seen n)) };
-
-    ghost reads_as = { λ rtype bytes. of_type 6 rtype (all_of (fields_of (named N.labels N.reads) row_soa bytes)) };
-
-    ghost reads_in = { λ rtype contents at. of_type 6 rtype (all_at contents (fields_in (named_in N.labels N.reads_at) row_soa contents at)) };
-
-    ghost is_of = { λ _ rtype. rtype ≡ 6 };
-
-    fn parse_record_data_bytes(bytes: &'a [u8], rtype: RType) -> Result<Soa<N>, ParseError> {
-        match rtype.code.value {
-            6 => Soa::parse_bytes(bytes),
-            _ => Err(ParseError),
-        }
-    }
-}
-
-impl<'a, N: SplitMessageBytes<'a>> ParseRecordData<'a> for Soa<N> {
-    fn parse_record_data(
-        contents: &'a [u8],
-        start: usize,
-        rtype: RType,
-    ) -> Result<Soa<N>, ParseError> {
-        match rtype.code.value {
-            6 => Soa::parse_message_bytes(contents, start),
-            _ => Err(ParseError),
-        }
+    fn rtype() -> RType {
+        RType::SOA
     }
 }
 
@@ -212,7 +180,7 @@ impl<N: BuildBytes> BuildBytes for Soa<N> {
 
 /// The fields in order, the names in small letters.
 impl<N: CanonicalName> CanonicalRecordData for Soa<N> {
-    ghost canonical = { λ v. fields_octets (map folded_field (soa_fields N.name v)) };
+    ghost canonical = { λ v. canonical_octets 6 (map (named_by N.name) (soa_fields v)) };
 
     ghost rank = { λ _. 0 };
 
