@@ -1,5 +1,7 @@
 //! Bitmaps of types.
 
+ghost use Rattle.dns_wire.specs.Left.{plain_ends};
+ghost use Rattle.dns_record.specs.Left.{bitmap_leaves};
 ghost use Rattle.std.specs.Prelude.{◌≡◌, ◌↔◌, ◌∷◌, IsTrue, Contains, ℕ, List, [], true, length, ◌≤◌, ◌<◌, IfSome, MatchOption, ⊤};
 ghost use Rattle.std.proofs.Props.{props};
 ghost use Rattle.dns_wire.specs.Reading.{plain_at};
@@ -83,7 +85,9 @@ impl<'a> ParseBytes<'a> for TypeBitmaps<'a> {
 
     ghost reads_at = { plain_at bitmap };
 
-    ghost labels = { λ _. [] };
+    ghost leaves_rest = { bitmap_leaves };
+
+    ghost ends_within = { plain_ends bitmap bitmap_leaves };
 
     fn parse_bytes(bytes: &'a [u8]) -> Result<TypeBitmaps<'a>, ParseError> {
         let mut rest = bytes;

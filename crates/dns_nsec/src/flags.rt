@@ -1,5 +1,6 @@
 //! Flags of hashed owners.
 
+ghost use Rattle.dns_wire.specs.Left.{octet_leaves, plain_ends};
 ghost use Rattle.std.specs.Prelude.{◌≡◌, ◌≢◌, ◌↔◌, ◌∷◌, if◌then◌else◌, ℕ, [], None, IsTrue, ⊤};
 ghost use Rattle.std.specs.Int.{bit_at};
 ghost use Rattle.dns_wire.specs.Pieces.{whole_presses};
@@ -55,7 +56,9 @@ impl<'a> ParseBytes<'a> for Nsec3Flags {
 
     ghost reads_at = { plain_at octet };
 
-    ghost labels = { λ _. [] };
+    ghost leaves_rest = { octet_leaves };
+
+    ghost ends_within = { plain_ends octet octet_leaves };
 
     fn parse_bytes(bytes: &'a [u8]) -> Result<Nsec3Flags, ParseError> {
         let bits = u8::parse_bytes(bytes)?;

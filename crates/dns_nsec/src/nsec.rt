@@ -6,21 +6,21 @@ ghost use Rattle.dns_wire.specs.Building.{Builds};
 ghost use Rattle.dns_wire.specs.Compression.{FitsIn};
 ghost use Rattle.dns_wire.specs.InMessage.{BuildsIn};
 ghost use Rattle.dns_wire.specs.Pieces.{whole_presses};
-ghost use Rattle.dns_wire.specs.Reading.{Gives, all_of, all_at};
+ghost use Rattle.dns_wire.specs.Reading.{Gives, all_of, all_at, plain_at};
 ghost use Rattle.dns_record.specs.Canonical.{ranked_cmp};
-ghost use Rattle.dns_record.specs.Data.{of_type};
-ghost use Rattle.dns_record.specs.Fields.{Field, fields_octets};
-ghost use Rattle.dns_record.specs.Kinds.{fields_of, fields_in, no_name, no_name_in};
-ghost use Rattle.dns_record.specs.Rows.{row_nsec};
+ghost use Rattle.dns_record.specs.Fields.{Field, fields_octets, canonical_octets};
+ghost use Rattle.dns_record.specs.Kinds.{fields_of, no_name};
+ghost use Rattle.dns_record.specs.Left.{bare_leave, bare_end};
+ghost use Rattle.dns_record.specs.Rows.{row};
 ghost use Rattle.dns_record.specs.Whole.{whole_pieces, told_whole};
 ghost use Rattle.dns_nsec.specs.Types.{nsec_fields};
 
 use crate::bitmaps::TypeBitmaps;
 use dns_name::{CanonicalName, Name};
-use dns_record::{CanonicalRecordData, ParseRecordData, ParseRecordDataBytes, RType};
+use dns_record::{CanonicalRecordData, DataOfType, RType};
 use dns_wire::{
     BuildBytes, BuildInMessage, NameCompressor, ParseBytes, ParseError, ParseMessageBytes,
-    SplitBytes, TruncationError, build_whole, parse_without_compression,
+    SplitBytes, TruncationError, build_whole, parse_without_compression, whole,
 };
 use std::cmp::Ordering;
 
@@ -62,11 +62,13 @@ impl<'a> ParseBytes<'a> for Nsec<'a> {
 
     ghost seen = { nsec_fields };
 
-    ghost reads = { fields_of no_name row_nsec };
+    ghost reads = { fields_of no_name (row 47) };
 
-    ghost reads_at = { fields_in no_name_in row_nsec };
+    ghost reads_at = { plain_at (fields_of no_name (row 47)) };
 
-    ghost labels = { λ _. [] };
+    ghost leaves_rest = { bare_leave (row 47) };
+
+    ghost ends_within = { bare_end (row 47) };
 
     /// Data without a window are `ParseError`.
     fn parse_bytes(bytes: &'a [u8]) -> Result<Nsec<'a>, ParseError> {
@@ -85,36 +87,13 @@ impl<'a> ParseMessageBytes<'a> for Nsec<'a> {
     }
 }
 
-/// Any other type's number is `ParseError`.
-impl<'a> ParseRecordDataBytes<'a> for Nsec<'a> {
-    ghost Seen = { List Field };
+impl<'a> DataOfType<'a> for Nsec<'a> {
+    ghost number = { 47 };
 
-    ghost seen = { nsec_fields };
-
-    ghost reads_as = { λ rtype bytes. of_type 47 rtype (all_of (fields_of no_name row_nsec bytes)) };
-
-    ghost reads_in = { λ rtype contents at. of_type 47 rtype (all_at contents (fields_in no_name_in row_nsec contents at)) };
-
-    ghost is_of = { λ _ rtype. rtype ≡ 47 };
-
-    fn parse_record_data_bytes(bytes: &'a [u8], rtype: RType) -> Result<Nsec<'a>, ParseError> {
-        match rtype.code.value {
-            47 => Nsec::parse_bytes(bytes),
-            _ => Err(ParseError),
-        }
-    }
-}
-
-impl<'a> ParseRecordData<'a> for Nsec<'a> {
-    fn parse_record_data(
-        contents: &'a [u8],
-        start: usize,
-        rtype: RType,
-    ) -> Result<Nsec<'a>, ParseError> {
-        match rtype.code.value {
-            47 => Nsec::parse_message_bytes(contents, start),
-            _ => Err(ParseError),
-        }
+    fn rtype() -> RType
+        ensures { result.code.value ≡ 47 }
+    {
+        RType::NSEC
     }
 }
 
@@ -153,7 +132,7 @@ impl BuildInMessage for Nsec<'_> {
 }
 
 impl CanonicalRecordData for Nsec<'_> {
-    ghost canonical = { λ v. fields_octets (nsec_fields v) };
+    ghost canonical = { λ v. canonical_octets 47 (nsec_fields v) };
 
     ghost rank = { λ _. 0 };
 

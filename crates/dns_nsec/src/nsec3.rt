@@ -6,12 +6,12 @@ ghost use Rattle.dns_wire.specs.Building.{Builds};
 ghost use Rattle.dns_wire.specs.Compression.{FitsIn};
 ghost use Rattle.dns_wire.specs.InMessage.{BuildsIn};
 ghost use Rattle.dns_wire.specs.Pieces.{whole_presses};
-ghost use Rattle.dns_wire.specs.Reading.{Gives, all_of, all_at};
+ghost use Rattle.dns_wire.specs.Reading.{Gives, all_of, all_at, plain_at};
 ghost use Rattle.dns_record.specs.Canonical.{ranked_cmp};
-ghost use Rattle.dns_record.specs.Data.{of_type};
-ghost use Rattle.dns_record.specs.Fields.{Field, fields_octets};
-ghost use Rattle.dns_record.specs.Kinds.{fields_of, fields_in, no_name, no_name_in};
-ghost use Rattle.dns_record.specs.Rows.{row_nsec3};
+ghost use Rattle.dns_record.specs.Fields.{Field, fields_octets, canonical_octets};
+ghost use Rattle.dns_record.specs.Kinds.{fields_of, no_name};
+ghost use Rattle.dns_record.specs.Left.{bare_leave, bare_end};
+ghost use Rattle.dns_record.specs.Rows.{row};
 ghost use Rattle.dns_record.specs.Whole.{whole_pieces, told_whole};
 ghost use Rattle.dns_nsec.specs.Flags.{flag_bits};
 ghost use Rattle.dns_nsec.specs.Hashed.{algorithm_of, flags_of, iterations_of, salt_of, next_owner_of, types_of};
@@ -22,10 +22,10 @@ use crate::flags::Nsec3Flags;
 use crate::hash_algorithm::Nsec3HashAlgorithm;
 use crate::short_octets::ShortOctets;
 use dns_num::{SizePrefixed, U16};
-use dns_record::{CanonicalRecordData, ParseRecordData, ParseRecordDataBytes, RType};
+use dns_record::{CanonicalRecordData, DataOfType, RType};
 use dns_wire::{
     BuildBytes, BuildInMessage, NameCompressor, ParseBytes, ParseError, ParseMessageBytes,
-    SplitBytes, TruncationError, build_whole, parse_without_compression,
+    SplitBytes, TruncationError, build_whole, parse_without_compression, whole,
 };
 use std::cmp::Ordering;
 
@@ -121,11 +121,13 @@ impl<'a> ParseBytes<'a> for Nsec3<'a> {
 
     ghost seen = { nsec3_fields };
 
-    ghost reads = { fields_of no_name row_nsec3 };
+    ghost reads = { fields_of no_name (row 50) };
 
-    ghost reads_at = { fields_in no_name_in row_nsec3 };
+    ghost reads_at = { plain_at (fields_of no_name (row 50)) };
 
-    ghost labels = { λ _. [] };
+    ghost leaves_rest = { bare_leave (row 50) };
+
+    ghost ends_within = { bare_end (row 50) };
 
     fn parse_bytes(bytes: &'a [u8]) -> Result<Nsec3<'a>, ParseError> {
         let (algorithm, rest) = Nsec3HashAlgorithm::split_bytes(bytes)?;
@@ -151,36 +153,13 @@ impl<'a> ParseMessageBytes<'a> for Nsec3<'a> {
     }
 }
 
-/// Any other type's number is `ParseError`.
-impl<'a> ParseRecordDataBytes<'a> for Nsec3<'a> {
-    ghost Seen = { List Field };
+impl<'a> DataOfType<'a> for Nsec3<'a> {
+    ghost number = { 50 };
 
-    ghost seen = { nsec3_fields };
-
-    ghost reads_as = { λ rtype bytes. of_type 50 rtype (all_of (fields_of no_name row_nsec3 bytes)) };
-
-    ghost reads_in = { λ rtype contents at. of_type 50 rtype (all_at contents (fields_in no_name_in row_nsec3 contents at)) };
-
-    ghost is_of = { λ _ rtype. rtype ≡ 50 };
-
-    fn parse_record_data_bytes(bytes: &'a [u8], rtype: RType) -> Result<Nsec3<'a>, ParseError> {
-        match rtype.code.value {
-            50 => Nsec3::parse_bytes(bytes),
-            _ => Err(ParseError),
-        }
-    }
-}
-
-impl<'a> ParseRecordData<'a> for Nsec3<'a> {
-    fn parse_record_data(
-        contents: &'a [u8],
-        start: usize,
-        rtype: RType,
-    ) -> Result<Nsec3<'a>, ParseError> {
-        match rtype.code.value {
-            50 => Nsec3::parse_message_bytes(contents, start),
-            _ => Err(ParseError),
-        }
+    fn rtype() -> RType
+        ensures { result.code.value ≡ 50 }
+    {
+        RType::NSEC3
     }
 }
 
@@ -234,7 +213,7 @@ impl BuildInMessage for Nsec3<'_> {
 }
 
 impl CanonicalRecordData for Nsec3<'_> {
-    ghost canonical = { λ v. fields_octets (nsec3_fields v) };
+    ghost canonical = { λ v. canonical_octets 50 (nsec3_fields v) };
 
     ghost rank = { λ _. 0 };
 

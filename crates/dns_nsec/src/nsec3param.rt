@@ -6,12 +6,12 @@ ghost use Rattle.dns_wire.specs.Building.{Builds};
 ghost use Rattle.dns_wire.specs.Compression.{FitsIn};
 ghost use Rattle.dns_wire.specs.InMessage.{BuildsIn};
 ghost use Rattle.dns_wire.specs.Pieces.{whole_presses};
-ghost use Rattle.dns_wire.specs.Reading.{Gives, all_of, all_at};
+ghost use Rattle.dns_wire.specs.Reading.{Gives, all_of, all_at, plain_at};
 ghost use Rattle.dns_record.specs.Canonical.{ranked_cmp};
-ghost use Rattle.dns_record.specs.Data.{of_type};
-ghost use Rattle.dns_record.specs.Fields.{Field, fields_octets};
-ghost use Rattle.dns_record.specs.Kinds.{fields_of, fields_in, no_name, no_name_in};
-ghost use Rattle.dns_record.specs.Rows.{row_nsec3param};
+ghost use Rattle.dns_record.specs.Fields.{Field, fields_octets, canonical_octets};
+ghost use Rattle.dns_record.specs.Kinds.{fields_of, no_name};
+ghost use Rattle.dns_record.specs.Left.{bare_leave, bare_end};
+ghost use Rattle.dns_record.specs.Rows.{row};
 ghost use Rattle.dns_record.specs.Whole.{whole_pieces, told_whole};
 ghost use Rattle.dns_nsec.specs.Flags.{flag_bits};
 ghost use Rattle.dns_nsec.specs.Hashed.{param_algorithm_of, param_flags_of, param_iterations_of, param_salt_of};
@@ -21,11 +21,11 @@ use crate::flags::Nsec3Flags;
 use crate::hash_algorithm::Nsec3HashAlgorithm;
 use crate::short_octets::ShortOctets;
 use dns_num::{SizePrefixed, U16};
-use dns_record::{CanonicalRecordData, ParseRecordData, ParseRecordDataBytes, RType};
+use dns_record::{CanonicalRecordData, DataOfType, RType};
 use dns_wire::{
     BuildBytes, BuildInMessage, NameCompressor, ParseBytes, ParseError, ParseMessageBytes,
     SplitBytes, SplitMessageBytes, TruncationError, build_whole, parse_without_compression,
-    split_without_compression,
+    split_without_compression, whole,
 };
 use std::cmp::Ordering;
 
@@ -103,19 +103,16 @@ impl<'a> ParseBytes<'a> for Nsec3Param<'a> {
 
     ghost seen = { nsec3param_fields };
 
-    ghost reads = { fields_of no_name row_nsec3param };
+    ghost reads = { fields_of no_name (row 51) };
 
-    ghost reads_at = { fields_in no_name_in row_nsec3param };
+    ghost reads_at = { plain_at (fields_of no_name (row 51)) };
 
-    ghost labels = { λ _. [] };
+    ghost leaves_rest = { bare_leave (row 51) };
+
+    ghost ends_within = { bare_end (row 51) };
 
     fn parse_bytes(bytes: &'a [u8]) -> Result<Nsec3Param<'a>, ParseError> {
-        let (value, rest) = Nsec3Param::split_bytes(bytes)?;
-        if rest.is_empty() {
-            Ok(value)
-        } else {
-            Err(ParseError)
-        }
+        whole(Nsec3Param::split_bytes(bytes))
     }
 }
 
@@ -150,39 +147,13 @@ impl<'a> SplitMessageBytes<'a> for Nsec3Param<'a> {
     }
 }
 
-/// Any other type's number is `ParseError`.
-impl<'a> ParseRecordDataBytes<'a> for Nsec3Param<'a> {
-    ghost Seen = { List Field };
+impl<'a> DataOfType<'a> for Nsec3Param<'a> {
+    ghost number = { 51 };
 
-    ghost seen = { nsec3param_fields };
-
-    ghost reads_as = { λ rtype bytes. of_type 51 rtype (all_of (fields_of no_name row_nsec3param bytes)) };
-
-    ghost reads_in = { λ rtype contents at. of_type 51 rtype (all_at contents (fields_in no_name_in row_nsec3param contents at)) };
-
-    ghost is_of = { λ _ rtype. rtype ≡ 51 };
-
-    fn parse_record_data_bytes(
-        bytes: &'a [u8],
-        rtype: RType,
-    ) -> Result<Nsec3Param<'a>, ParseError> {
-        match rtype.code.value {
-            51 => Nsec3Param::parse_bytes(bytes),
-            _ => Err(ParseError),
-        }
-    }
-}
-
-impl<'a> ParseRecordData<'a> for Nsec3Param<'a> {
-    fn parse_record_data(
-        contents: &'a [u8],
-        start: usize,
-        rtype: RType,
-    ) -> Result<Nsec3Param<'a>, ParseError> {
-        match rtype.code.value {
-            51 => Nsec3Param::parse_message_bytes(contents, start),
-            _ => Err(ParseError),
-        }
+    fn rtype() -> RType
+        ensures { result.code.value ≡ 51 }
+    {
+        RType::NSEC3PARAM
     }
 }
 
@@ -228,7 +199,7 @@ impl BuildInMessage for Nsec3Param<'_> {
 }
 
 impl CanonicalRecordData for Nsec3Param<'_> {
-    ghost canonical = { λ v. fields_octets (nsec3param_fields v) };
+    ghost canonical = { λ v. canonical_octets 51 (nsec3param_fields v) };
 
     ghost rank = { λ _. 0 };
 

@@ -1,5 +1,7 @@
 //! Octets that one octet can count.
 
+ghost use Rattle.dns_wire.specs.Left.{plain_ends};
+ghost use Rattle.dns_record.specs.Left.{text_leaves};
 ghost use Rattle.std.specs.Prelude.{◌≡◌, ◌≤◌, ◌∷◌, ℕ, List, [], length, ⊤};
 ghost use Rattle.std.specs.Ordering.{nat_cmp, ordering_then};
 ghost use Rattle.std.specs.Cmp.Lexicographic.{slice_cmp};
@@ -7,7 +9,7 @@ ghost use Rattle.dns_wire.specs.Reading.{plain_at};
 ghost use Rattle.dns_record.specs.Texts.{text};
 
 use dns_num::SizePrefixed;
-use dns_wire::{BuildBytes, ParseBytes, ParseError, SplitBytes, TruncationError, put};
+use dns_wire::{BuildBytes, ParseBytes, ParseError, SplitBytes, TruncationError, put, whole};
 use std::cmp::Ordering;
 
 /// At most 255 octets. On the wire they stand behind an octet with their number (RFC 5155 section 3.2).
@@ -55,15 +57,12 @@ impl<'a> ParseBytes<'a> for ShortOctets<'a> {
 
     ghost reads_at = { plain_at text };
 
-    ghost labels = { λ _. [] };
+    ghost leaves_rest = { text_leaves };
+
+    ghost ends_within = { plain_ends text text_leaves };
 
     fn parse_bytes(bytes: &'a [u8]) -> Result<ShortOctets<'a>, ParseError> {
-        let (value, rest) = ShortOctets::split_bytes(bytes)?;
-        if rest.is_empty() {
-            Ok(value)
-        } else {
-            Err(ParseError)
-        }
+        whole(ShortOctets::split_bytes(bytes))
     }
 }
 

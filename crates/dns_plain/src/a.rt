@@ -7,19 +7,19 @@ ghost use Rattle.dns_wire.specs.InMessage.{BuildsIn};
 ghost use Rattle.dns_wire.specs.Pieces.{whole_presses};
 ghost use Rattle.dns_wire.specs.Pieces.Piece.{Whole};
 ghost use Rattle.dns_wire.specs.Told.{told_piece};
-ghost use Rattle.dns_wire.specs.Reading.{Gives, all_of, all_at};
+ghost use Rattle.dns_wire.specs.Reading.{Gives, all_of, all_at, plain_at};
 ghost use Rattle.dns_record.specs.Canonical.{ranked_cmp};
-ghost use Rattle.dns_record.specs.Data.{of_type};
-ghost use Rattle.dns_record.specs.Fields.{Field};
-ghost use Rattle.dns_record.specs.Kinds.{fields_of, fields_in, no_name, no_name_in};
-ghost use Rattle.dns_record.specs.Rows.{row_a};
+ghost use Rattle.dns_record.specs.Fields.{Field, canonical_octets};
+ghost use Rattle.dns_record.specs.Kinds.{fields_of, no_name};
+ghost use Rattle.dns_record.specs.Left.{bare_leave, bare_end};
+ghost use Rattle.dns_record.specs.Rows.{row};
 ghost use Rattle.dns_plain.specs.Types.{a_fields};
 
-use dns_record::{CanonicalRecordData, ParseRecordData, ParseRecordDataBytes, RType};
+use dns_record::{CanonicalRecordData, DataOfType, RType};
 use dns_wire::{
     AsBytes, BuildBytes, BuildInMessage, NameCompressor, ParseBytes, ParseError, ParseMessageBytes,
     SplitBytes, SplitMessageBytes, TruncationError, build_whole, parse_without_compression, put,
-    split_without_compression,
+    split_without_compression, whole,
 };
 use std::cmp::Ordering;
 
@@ -43,19 +43,16 @@ impl<'a> ParseBytes<'a> for A {
 
     ghost seen = { a_fields };
 
-    ghost reads = { fields_of no_name row_a };
+    ghost reads = { fields_of no_name (row 1) };
 
-    ghost reads_at = { fields_in no_name_in row_a };
+    ghost reads_at = { plain_at (fields_of no_name (row 1)) };
 
-    ghost labels = { λ _. [] };
+    ghost leaves_rest = { bare_leave (row 1) };
+
+    ghost ends_within = { bare_end (row 1) };
 
     fn parse_bytes(bytes: &'a [u8]) -> Result<A, ParseError> {
-        let (value, rest) = A::split_bytes(bytes)?;
-        if rest.is_empty() {
-            Ok(value)
-        } else {
-            Err(ParseError)
-        }
+        whole(A::split_bytes(bytes))
     }
 }
 
@@ -79,32 +76,11 @@ impl<'a> SplitMessageBytes<'a> for A {
     }
 }
 
-/// Any other type's number is `ParseError`.
-impl<'a> ParseRecordDataBytes<'a> for A {
-    ghost Seen = { List Field };
+impl<'a> DataOfType<'a> for A {
+    ghost number = { 1 };
 
-    ghost seen = { a_fields };
-
-    ghost reads_as = { λ rtype bytes. of_type 1 rtype (all_of (fields_of no_name row_a bytes)) };
-
-    ghost reads_in = { λ rtype contents at. of_type 1 rtype (all_at contents (fields_in no_name_in row_a contents at)) };
-
-    ghost is_of = { λ _ rtype. rtype ≡ 1 };
-
-    fn parse_record_data_bytes(bytes: &'a [u8], rtype: RType) -> Result<A, ParseError> {
-        match rtype.code.value {
-            1 => A::parse_bytes(bytes),
-            _ => Err(ParseError),
-        }
-    }
-}
-
-impl<'a> ParseRecordData<'a> for A {
-    fn parse_record_data(contents: &'a [u8], start: usize, rtype: RType) -> Result<A, ParseError> {
-        match rtype.code.value {
-            1 => A::parse_message_bytes(contents, start),
-            _ => Err(ParseError),
-        }
+    fn rtype() -> RType {
+        RType::A
     }
 }
 
@@ -143,7 +119,7 @@ impl BuildInMessage for A {
 }
 
 impl CanonicalRecordData for A {
-    ghost canonical = { λ v. v.octets };
+    ghost canonical = { λ v. canonical_octets 1 (a_fields v) };
 
     ghost rank = { λ _. 0 };
 

@@ -7,19 +7,19 @@ ghost use Rattle.dns_wire.specs.InMessage.{BuildsIn};
 ghost use Rattle.dns_wire.specs.Pieces.{whole_presses};
 ghost use Rattle.dns_wire.specs.Pieces.Piece.{Whole};
 ghost use Rattle.dns_wire.specs.Told.{told_piece};
-ghost use Rattle.dns_wire.specs.Reading.{Gives, all_of, all_at};
+ghost use Rattle.dns_wire.specs.Reading.{Gives, all_of, all_at, plain_at};
 ghost use Rattle.dns_record.specs.Canonical.{ranked_cmp};
-ghost use Rattle.dns_record.specs.Data.{of_type};
-ghost use Rattle.dns_record.specs.Fields.{Field};
-ghost use Rattle.dns_record.specs.Kinds.{fields_of, fields_in, no_name, no_name_in};
-ghost use Rattle.dns_record.specs.Rows.{row_aaaa};
+ghost use Rattle.dns_record.specs.Fields.{Field, canonical_octets};
+ghost use Rattle.dns_record.specs.Kinds.{fields_of, no_name};
+ghost use Rattle.dns_record.specs.Left.{bare_leave, bare_end};
+ghost use Rattle.dns_record.specs.Rows.{row};
 ghost use Rattle.dns_plain.specs.Types.{aaaa_fields};
 
-use dns_record::{CanonicalRecordData, ParseRecordData, ParseRecordDataBytes, RType};
+use dns_record::{CanonicalRecordData, DataOfType, RType};
 use dns_wire::{
     AsBytes, BuildBytes, BuildInMessage, NameCompressor, ParseBytes, ParseError, ParseMessageBytes,
     SplitBytes, SplitMessageBytes, TruncationError, build_whole, parse_without_compression, put,
-    split_without_compression,
+    split_without_compression, whole,
 };
 use std::cmp::Ordering;
 
@@ -43,19 +43,16 @@ impl<'a> ParseBytes<'a> for Aaaa {
 
     ghost seen = { aaaa_fields };
 
-    ghost reads = { fields_of no_name row_aaaa };
+    ghost reads = { fields_of no_name (row 28) };
 
-    ghost reads_at = { fields_in no_name_in row_aaaa };
+    ghost reads_at = { plain_at (fields_of no_name (row 28)) };
 
-    ghost labels = { λ _. [] };
+    ghost leaves_rest = { bare_leave (row 28) };
+
+    ghost ends_within = { bare_end (row 28) };
 
     fn parse_bytes(bytes: &'a [u8]) -> Result<Aaaa, ParseError> {
-        let (value, rest) = Aaaa::split_bytes(bytes)?;
-        if rest.is_empty() {
-            Ok(value)
-        } else {
-            Err(ParseError)
-        }
+        whole(Aaaa::split_bytes(bytes))
     }
 }
 
@@ -79,36 +76,11 @@ impl<'a> SplitMessageBytes<'a> for Aaaa {
     }
 }
 
-/// Any other type's number is `ParseError`.
-impl<'a> ParseRecordDataBytes<'a> for Aaaa {
-    ghost Seen = { List Field };
+impl<'a> DataOfType<'a> for Aaaa {
+    ghost number = { 28 };
 
-    ghost seen = { aaaa_fields };
-
-    ghost reads_as = { λ rtype bytes. of_type 28 rtype (all_of (fields_of no_name row_aaaa bytes)) };
-
-    ghost reads_in = { λ rtype contents at. of_type 28 rtype (all_at contents (fields_in no_name_in row_aaaa contents at)) };
-
-    ghost is_of = { λ _ rtype. rtype ≡ 28 };
-
-    fn parse_record_data_bytes(bytes: &'a [u8], rtype: RType) -> Result<Aaaa, ParseError> {
-        match rtype.code.value {
-            28 => Aaaa::parse_bytes(bytes),
-            _ => Err(ParseError),
-        }
-    }
-}
-
-impl<'a> ParseRecordData<'a> for Aaaa {
-    fn parse_record_data(
-        contents: &'a [u8],
-        start: usize,
-        rtype: RType,
-    ) -> Result<Aaaa, ParseError> {
-        match rtype.code.value {
-            28 => Aaaa::parse_message_bytes(contents, start),
-            _ => Err(ParseError),
-        }
+    fn rtype() -> RType {
+        RType::AAAA
     }
 }
 
@@ -147,7 +119,7 @@ impl BuildInMessage for Aaaa {
 }
 
 impl CanonicalRecordData for Aaaa {
-    ghost canonical = { λ v. v.octets };
+    ghost canonical = { λ v. canonical_octets 28 (aaaa_fields v) };
 
     ghost rank = { λ _. 0 };
 

@@ -5,21 +5,21 @@ ghost use Rattle.dns_wire.specs.Building.{Builds};
 ghost use Rattle.dns_wire.specs.Compression.{FitsIn};
 ghost use Rattle.dns_wire.specs.InMessage.{BuildsIn};
 ghost use Rattle.dns_wire.specs.Pieces.{whole_presses};
-ghost use Rattle.dns_wire.specs.Reading.{Gives, all_of, all_at};
+ghost use Rattle.dns_wire.specs.Reading.{Gives, all_of, all_at, plain_at};
 ghost use Rattle.dns_record.specs.Canonical.{ranked_cmp};
-ghost use Rattle.dns_record.specs.Data.{of_type};
-ghost use Rattle.dns_record.specs.Fields.{Field, fields_octets, folded_field};
-ghost use Rattle.dns_record.specs.Kinds.{fields_of, fields_in, no_name, no_name_in};
-ghost use Rattle.dns_record.specs.Rows.{row_dname};
+ghost use Rattle.dns_record.specs.Fields.{Field, fields_octets, canonical_octets};
+ghost use Rattle.dns_record.specs.Kinds.{fields_of, no_name};
+ghost use Rattle.dns_record.specs.Left.{bare_leave, bare_end};
+ghost use Rattle.dns_record.specs.Rows.{row};
 ghost use Rattle.dns_record.specs.Whole.{whole_pieces, told_whole};
 ghost use Rattle.dns_plain.specs.Types.{dname_fields};
 
 use dns_name::{CanonicalName, Lowercased, Name};
-use dns_record::{CanonicalRecordData, ParseRecordData, ParseRecordDataBytes, RType};
+use dns_record::{CanonicalRecordData, DataOfType, RType};
 use dns_wire::{
     BuildBytes, BuildInMessage, NameCompressor, ParseBytes, ParseError, ParseMessageBytes,
     SplitBytes, SplitMessageBytes, TruncationError, build_whole, parse_without_compression,
-    split_without_compression,
+    split_without_compression, whole,
 };
 use std::cmp::Ordering;
 
@@ -44,19 +44,16 @@ impl<'a> ParseBytes<'a> for DName<'a> {
 
     ghost seen = { dname_fields };
 
-    ghost reads = { fields_of no_name row_dname };
+    ghost reads = { fields_of no_name (row 39) };
 
-    ghost reads_at = { fields_in no_name_in row_dname };
+    ghost reads_at = { plain_at (fields_of no_name (row 39)) };
 
-    ghost labels = { λ _. [] };
+    ghost leaves_rest = { bare_leave (row 39) };
+
+    ghost ends_within = { bare_end (row 39) };
 
     fn parse_bytes(bytes: &'a [u8]) -> Result<DName<'a>, ParseError> {
-        let (value, rest) = DName::split_bytes(bytes)?;
-        if rest.is_empty() {
-            Ok(value)
-        } else {
-            Err(ParseError)
-        }
+        whole(DName::split_bytes(bytes))
     }
 }
 
@@ -83,36 +80,13 @@ impl<'a> SplitMessageBytes<'a> for DName<'a> {
     }
 }
 
-/// Any other type's number is `ParseError`.
-impl<'a> ParseRecordDataBytes<'a> for DName<'a> {
-    ghost Seen = { List Field };
+impl<'a> DataOfType<'a> for DName<'a> {
+    ghost number = { 39 };
 
-    ghost seen = { dname_fields };
-
-    ghost reads_as = { λ rtype bytes. of_type 39 rtype (all_of (fields_of no_name row_dname bytes)) };
-
-    ghost reads_in = { λ rtype contents at. of_type 39 rtype (all_at contents (fields_in no_name_in row_dname contents at)) };
-
-    ghost is_of = { λ _ rtype. rtype ≡ 39 };
-
-    fn parse_record_data_bytes(bytes: &'a [u8], rtype: RType) -> Result<DName<'a>, ParseError> {
-        match rtype.code.value {
-            39 => DName::parse_bytes(bytes),
-            _ => Err(ParseError),
-        }
-    }
-}
-
-impl<'a> ParseRecordData<'a> for DName<'a> {
-    fn parse_record_data(
-        contents: &'a [u8],
-        start: usize,
-        rtype: RType,
-    ) -> Result<DName<'a>, ParseError> {
-        match rtype.code.value {
-            39 => DName::parse_message_bytes(contents, start),
-            _ => Err(ParseError),
-        }
+    fn rtype() -> RType
+        ensures { result.code.value ≡ 39 }
+    {
+        RType::DNAME
     }
 }
 
@@ -151,7 +125,7 @@ impl BuildInMessage for DName<'_> {
 }
 
 impl CanonicalRecordData for DName<'_> {
-    ghost canonical = { λ v. fields_octets (map folded_field (dname_fields v)) };
+    ghost canonical = { λ v. canonical_octets 39 (dname_fields v) };
 
     ghost rank = { λ _. 0 };
 

@@ -7,21 +7,21 @@ ghost use Rattle.dns_wire.specs.Building.{Builds};
 ghost use Rattle.dns_wire.specs.Compression.{FitsIn};
 ghost use Rattle.dns_wire.specs.InMessage.{BuildsIn};
 ghost use Rattle.dns_wire.specs.Pieces.{whole_presses};
-ghost use Rattle.dns_wire.specs.Reading.{Gives, all_of, all_at};
+ghost use Rattle.dns_wire.specs.Reading.{Gives, all_of, all_at, plain_at};
 ghost use Rattle.dns_record.specs.Canonical.{ranked_cmp};
 ghost use Rattle.dns_record.specs.CharStrs.{octets_of};
-ghost use Rattle.dns_record.specs.Data.{of_type};
-ghost use Rattle.dns_record.specs.Fields.{Field, fields_octets};
-ghost use Rattle.dns_record.specs.Kinds.{fields_of, fields_in, no_name, no_name_in};
-ghost use Rattle.dns_record.specs.Rows.{row_hinfo};
+ghost use Rattle.dns_record.specs.Fields.{Field, fields_octets, canonical_octets};
+ghost use Rattle.dns_record.specs.Kinds.{fields_of, no_name};
+ghost use Rattle.dns_record.specs.Left.{bare_leave, bare_end};
+ghost use Rattle.dns_record.specs.Rows.{row};
 ghost use Rattle.dns_record.specs.Whole.{whole_pieces, told_whole};
 ghost use Rattle.dns_plain.specs.Types.{hinfo_fields};
 
-use dns_record::{CanonicalRecordData, CharStr, ParseRecordData, ParseRecordDataBytes, RType};
+use dns_record::{CanonicalRecordData, CharStr, DataOfType, RType};
 use dns_wire::{
     BuildBytes, BuildInMessage, NameCompressor, ParseBytes, ParseError, ParseMessageBytes,
     SplitBytes, SplitMessageBytes, TruncationError, build_whole, parse_without_compression,
-    split_without_compression,
+    split_without_compression, whole,
 };
 use std::cmp::Ordering;
 
@@ -48,19 +48,16 @@ impl<'a> ParseBytes<'a> for HInfo<'a> {
 
     ghost seen = { hinfo_fields };
 
-    ghost reads = { fields_of no_name row_hinfo };
+    ghost reads = { fields_of no_name (row 13) };
 
-    ghost reads_at = { fields_in no_name_in row_hinfo };
+    ghost reads_at = { plain_at (fields_of no_name (row 13)) };
 
-    ghost labels = { λ _. [] };
+    ghost leaves_rest = { bare_leave (row 13) };
+
+    ghost ends_within = { bare_end (row 13) };
 
     fn parse_bytes(bytes: &'a [u8]) -> Result<HInfo<'a>, ParseError> {
-        let (value, rest) = HInfo::split_bytes(bytes)?;
-        if rest.is_empty() {
-            Ok(value)
-        } else {
-            Err(ParseError)
-        }
+        whole(HInfo::split_bytes(bytes))
     }
 }
 
@@ -88,36 +85,13 @@ impl<'a> SplitMessageBytes<'a> for HInfo<'a> {
     }
 }
 
-/// Any other type's number is `ParseError`.
-impl<'a> ParseRecordDataBytes<'a> for HInfo<'a> {
-    ghost Seen = { List Field };
+impl<'a> DataOfType<'a> for HInfo<'a> {
+    ghost number = { 13 };
 
-    ghost seen = { hinfo_fields };
-
-    ghost reads_as = { λ rtype bytes. of_type 13 rtype (all_of (fields_of no_name row_hinfo bytes)) };
-
-    ghost reads_in = { λ rtype contents at. of_type 13 rtype (all_at contents (fields_in no_name_in row_hinfo contents at)) };
-
-    ghost is_of = { λ _ rtype. rtype ≡ 13 };
-
-    fn parse_record_data_bytes(bytes: &'a [u8], rtype: RType) -> Result<HInfo<'a>, ParseError> {
-        match rtype.code.value {
-            13 => HInfo::parse_bytes(bytes),
-            _ => Err(ParseError),
-        }
-    }
-}
-
-impl<'a> ParseRecordData<'a> for HInfo<'a> {
-    fn parse_record_data(
-        contents: &'a [u8],
-        start: usize,
-        rtype: RType,
-    ) -> Result<HInfo<'a>, ParseError> {
-        match rtype.code.value {
-            13 => HInfo::parse_message_bytes(contents, start),
-            _ => Err(ParseError),
-        }
+    fn rtype() -> RType
+        ensures { result.code.value ≡ 13 }
+    {
+        RType::HINFO
     }
 }
 
@@ -156,7 +130,7 @@ impl BuildInMessage for HInfo<'_> {
 }
 
 impl CanonicalRecordData for HInfo<'_> {
-    ghost canonical = { λ v. fields_octets (hinfo_fields v) };
+    ghost canonical = { λ v. canonical_octets 13 (hinfo_fields v) };
 
     ghost rank = { λ _. 0 };
 

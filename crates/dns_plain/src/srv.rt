@@ -6,22 +6,22 @@ ghost use Rattle.dns_wire.specs.Building.{Builds};
 ghost use Rattle.dns_wire.specs.Compression.{FitsIn};
 ghost use Rattle.dns_wire.specs.InMessage.{BuildsIn};
 ghost use Rattle.dns_wire.specs.Pieces.{whole_presses};
-ghost use Rattle.dns_wire.specs.Reading.{Gives, all_of, all_at};
+ghost use Rattle.dns_wire.specs.Reading.{Gives, all_of, all_at, plain_at};
 ghost use Rattle.dns_record.specs.Canonical.{ranked_cmp};
-ghost use Rattle.dns_record.specs.Data.{of_type};
-ghost use Rattle.dns_record.specs.Fields.{Field, fields_octets, folded_field};
-ghost use Rattle.dns_record.specs.Kinds.{fields_of, fields_in, no_name, no_name_in};
-ghost use Rattle.dns_record.specs.Rows.{row_srv};
+ghost use Rattle.dns_record.specs.Fields.{Field, fields_octets, canonical_octets};
+ghost use Rattle.dns_record.specs.Kinds.{fields_of, no_name};
+ghost use Rattle.dns_record.specs.Left.{bare_leave, bare_end};
+ghost use Rattle.dns_record.specs.Rows.{row};
 ghost use Rattle.dns_record.specs.Whole.{whole_pieces, told_whole};
 ghost use Rattle.dns_plain.specs.Types.{srv_fields};
 
 use dns_name::{CanonicalName, Lowercased, Name};
 use dns_num::U16;
-use dns_record::{CanonicalRecordData, ParseRecordData, ParseRecordDataBytes, RType};
+use dns_record::{CanonicalRecordData, DataOfType, RType};
 use dns_wire::{
     BuildBytes, BuildInMessage, NameCompressor, ParseBytes, ParseError, ParseMessageBytes,
     SplitBytes, SplitMessageBytes, TruncationError, build_whole, parse_without_compression,
-    split_without_compression,
+    split_without_compression, whole,
 };
 use std::cmp::Ordering;
 
@@ -43,19 +43,16 @@ impl<'a> ParseBytes<'a> for Srv<'a> {
 
     ghost seen = { srv_fields };
 
-    ghost reads = { fields_of no_name row_srv };
+    ghost reads = { fields_of no_name (row 33) };
 
-    ghost reads_at = { fields_in no_name_in row_srv };
+    ghost reads_at = { plain_at (fields_of no_name (row 33)) };
 
-    ghost labels = { λ _. [] };
+    ghost leaves_rest = { bare_leave (row 33) };
+
+    ghost ends_within = { bare_end (row 33) };
 
     fn parse_bytes(bytes: &'a [u8]) -> Result<Srv<'a>, ParseError> {
-        let (value, rest) = Srv::split_bytes(bytes)?;
-        if rest.is_empty() {
-            Ok(value)
-        } else {
-            Err(ParseError)
-        }
+        whole(Srv::split_bytes(bytes))
     }
 }
 
@@ -90,36 +87,13 @@ impl<'a> SplitMessageBytes<'a> for Srv<'a> {
     }
 }
 
-/// Any other type's number is `ParseError`.
-impl<'a> ParseRecordDataBytes<'a> for Srv<'a> {
-    ghost Seen = { List Field };
+impl<'a> DataOfType<'a> for Srv<'a> {
+    ghost number = { 33 };
 
-    ghost seen = { srv_fields };
-
-    ghost reads_as = { λ rtype bytes. of_type 33 rtype (all_of (fields_of no_name row_srv bytes)) };
-
-    ghost reads_in = { λ rtype contents at. of_type 33 rtype (all_at contents (fields_in no_name_in row_srv contents at)) };
-
-    ghost is_of = { λ _ rtype. rtype ≡ 33 };
-
-    fn parse_record_data_bytes(bytes: &'a [u8], rtype: RType) -> Result<Srv<'a>, ParseError> {
-        match rtype.code.value {
-            33 => Srv::parse_bytes(bytes),
-            _ => Err(ParseError),
-        }
-    }
-}
-
-impl<'a> ParseRecordData<'a> for Srv<'a> {
-    fn parse_record_data(
-        contents: &'a [u8],
-        start: usize,
-        rtype: RType,
-    ) -> Result<Srv<'a>, ParseError> {
-        match rtype.code.value {
-            33 => Srv::parse_message_bytes(contents, start),
-            _ => Err(ParseError),
-        }
+    fn rtype() -> RType
+        ensures { result.code.value ≡ 33 }
+    {
+        RType::SRV
     }
 }
 
@@ -165,7 +139,7 @@ impl BuildInMessage for Srv<'_> {
 }
 
 impl CanonicalRecordData for Srv<'_> {
-    ghost canonical = { λ v. fields_octets (map folded_field (srv_fields v)) };
+    ghost canonical = { λ v. canonical_octets 33 (srv_fields v) };
 
     ghost rank = { λ _. 0 };
 

@@ -12,22 +12,22 @@ ghost use Rattle.dns_wire.specs.InMessage.{BuildsIn};
 ghost use Rattle.dns_wire.specs.Pieces.{whole_presses};
 ghost use Rattle.dns_wire.specs.Pieces.Piece.{Whole};
 ghost use Rattle.dns_wire.specs.Told.{told_piece};
-ghost use Rattle.dns_wire.specs.Reading.{Gives, all_of, all_at};
+ghost use Rattle.dns_wire.specs.Reading.{Gives, all_of, all_at, plain_at};
 ghost use Rattle.dns_record.specs.Canonical.{ranked_cmp};
 ghost use Rattle.dns_record.specs.CharStrs.{same_charstr};
-ghost use Rattle.dns_record.specs.Data.{of_type};
-ghost use Rattle.dns_record.specs.Fields.{Field};
-ghost use Rattle.dns_record.specs.Kinds.{fields_of, fields_in, no_name, no_name_in};
-ghost use Rattle.dns_record.specs.Rows.{row_txt};
+ghost use Rattle.dns_record.specs.Fields.{Field, canonical_octets};
+ghost use Rattle.dns_record.specs.Kinds.{fields_of, no_name};
+ghost use Rattle.dns_record.specs.Left.{bare_leave, bare_end};
+ghost use Rattle.dns_record.specs.Rows.{row};
 ghost use Rattle.dns_record.specs.Texts.{is_text_data, texts_octets};
 ghost use Rattle.dns_plain.specs.Strings.{strings_in, same_strings, strings_writes, same_strings_alike};
 ghost use Rattle.dns_plain.specs.Types.{txt_fields};
 
 use crate::txt_iter::TxtIter;
-use dns_record::{CanonicalRecordData, CharStr, ParseRecordData, ParseRecordDataBytes, RType};
+use dns_record::{CanonicalRecordData, CharStr, DataOfType, RType};
 use dns_wire::{
     AsBytes, BuildBytes, BuildInMessage, NameCompressor, ParseBytes, ParseError, ParseMessageBytes,
-    SplitBytes, TruncationError, build_whole, parse_without_compression, put,
+    SplitBytes, TruncationError, build_whole, parse_without_compression, put, whole,
 };
 use std::cmp::Ordering;
 use std::hash::{Hash, Hasher};
@@ -82,11 +82,13 @@ impl<'a> ParseBytes<'a> for Txt<'a> {
 
     ghost seen = { λ v. txt_fields v.slice.now };
 
-    ghost reads = { fields_of no_name row_txt };
+    ghost reads = { fields_of no_name (row 16) };
 
-    ghost reads_at = { fields_in no_name_in row_txt };
+    ghost reads_at = { plain_at (fields_of no_name (row 16)) };
 
-    ghost labels = { λ _. [] };
+    ghost leaves_rest = { bare_leave (row 16) };
+
+    ghost ends_within = { bare_end (row 16) };
 
     fn parse_bytes(bytes: &'a [u8]) -> Result<Txt<'a>, ParseError> {
         if are_texts(bytes) {
@@ -103,36 +105,13 @@ impl<'a> ParseMessageBytes<'a> for Txt<'a> {
     }
 }
 
-/// Any other type's number is `ParseError`.
-impl<'a> ParseRecordDataBytes<'a> for Txt<'a> {
-    ghost Seen = { List Field };
+impl<'a> DataOfType<'a> for Txt<'a> {
+    ghost number = { 16 };
 
-    ghost seen = { λ v. txt_fields v.slice.now };
-
-    ghost reads_as = { λ rtype bytes. of_type 16 rtype (all_of (fields_of no_name row_txt bytes)) };
-
-    ghost reads_in = { λ rtype contents at. of_type 16 rtype (all_at contents (fields_in no_name_in row_txt contents at)) };
-
-    ghost is_of = { λ _ rtype. rtype ≡ 16 };
-
-    fn parse_record_data_bytes(bytes: &'a [u8], rtype: RType) -> Result<Txt<'a>, ParseError> {
-        match rtype.code.value {
-            16 => Txt::parse_bytes(bytes),
-            _ => Err(ParseError),
-        }
-    }
-}
-
-impl<'a> ParseRecordData<'a> for Txt<'a> {
-    fn parse_record_data(
-        contents: &'a [u8],
-        start: usize,
-        rtype: RType,
-    ) -> Result<Txt<'a>, ParseError> {
-        match rtype.code.value {
-            16 => Txt::parse_message_bytes(contents, start),
-            _ => Err(ParseError),
-        }
+    fn rtype() -> RType
+        ensures { result.code.value ≡ 16 }
+    {
+        RType::TXT
     }
 }
 
@@ -171,7 +150,7 @@ impl BuildInMessage for Txt<'_> {
 }
 
 impl CanonicalRecordData for Txt<'_> {
-    ghost canonical = { λ v. v.slice.now };
+    ghost canonical = { λ v. canonical_octets 16 (txt_fields v.slice.now) };
 
     ghost rank = { λ _. 0 };
 

@@ -10,7 +10,7 @@ use Rattle.dns_wire.specs.Reading.{Follows, LeavesRest, EndsWithin, octet, octet
 use Rattle.dns_wire.specs.Steps.{◌>>=◌, first_to}
 use Rattle.dns_record.specs.Fields.{FieldOf}
 use Rattle.dns_record.specs.Fields.FieldOf.{Named, Bare, Raw, Sized, Byte, Number}
-use Rattle.dns_record.specs.Kinds.{Kind, field_of, fields_of, field_in, fields_in}
+use Rattle.dns_record.specs.Kinds.{Kind, field_of, fields_of, field_in, fields_in, no_name}
 use Rattle.dns_record.specs.Kinds.Kind.{OneByte, OneNumber, SoMany, Pointed, Plain, Text, Texts, Windows, SomeWindows, Rest}
 use Rattle.dns_record.specs.Questions.{QuestionOf, question_at, question_in}
 use Rattle.dns_record.specs.Records.{RecordOf, record_at, record_in, end_of}
@@ -89,6 +89,16 @@ fields_end name ends kind kinds contents at fields end e =
     let front = field_ends name ends kind contents at first.0.0 first.0.1 first.1 in
     let behind = fields_end_from name ends kinds contents first.0.1 later.0.0 later.0.1 front.1 later.1 in
     (omega (arith, front.0, behind.0, same.1), omega (arith, behind.1, same.1))
+
+-- data in which no name may have pointers
+no_name_leaves : LeavesRest no_name
+no_name_leaves bytes labels rest e = absurd cc
+
+pub bare_leave : (kinds : List Kind) → LeavesRest (fields_of no_name kinds)
+bare_leave kinds = fields_leave no_name no_name_leaves kinds
+
+pub bare_end : (kinds : List Kind) → EndsWithin (plain_at (fields_of no_name kinds))
+bare_end kinds = plain_ends (fields_of no_name kinds) (bare_leave kinds)
 
 -- ---- questions
 

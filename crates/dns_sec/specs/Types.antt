@@ -3,7 +3,7 @@ use Rattle.std.specs.Prelude.{ℕ, List, [], ◌∷◌}
 use Rattle.std.specs.Int.{w16, w32}
 use Rattle.dns_wire.specs.Names.{labels_of}
 use Rattle.dns_record.specs.Fields.{Field}
-use Rattle.dns_record.specs.Fields.Field.{Named, Raw, Byte, Number}
+use Rattle.dns_record.specs.Fields.FieldOf.{Bare, Raw, Byte, Number}
 use Rattle.dns_sec.specs.Flags.{flag_bits}
 use Rattle.dns_sec.specs.declared.dnskey.DNSKey.{DNSKey}
 use Rattle.dns_sec.specs.declared.ds.Ds.{Ds}
@@ -20,7 +20,7 @@ abbrev pub rrsig_fields : Rrsig → List Field
 rrsig_fields v =
     Number w16 v.rtype.code.value ∷ Byte v.algorithm.code ∷ Byte v.labels ∷ Number w32 v.ttl.value.value
     ∷ Number w32 v.expiration.0.value ∷ Number w32 v.inception.0.value ∷ Number w16 v.keytag.value
-    ∷ Named (labels_of v.signer.slice.now) ∷ Raw v.signature.now ∷ []
+    ∷ Bare (labels_of v.signer.slice.now) ∷ Raw v.signature.now ∷ []
 
 -- the digest by its octets
 abbrev pub zonemd_fields : {D : Type 0} → (D → List ℕ) → ZoneMD D → List Field

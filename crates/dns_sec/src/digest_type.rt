@@ -1,5 +1,6 @@
 //! Digests of keys.
 
+ghost use Rattle.dns_wire.specs.Left.{octet_leaves, plain_ends};
 ghost use Rattle.std.specs.Prelude.{◌≡◌, ℕ, [], ◌∷◌, None, ⊤};
 ghost use Rattle.dns_wire.specs.Pieces.{whole_presses};
 ghost use Rattle.dns_wire.specs.Reading.{octet, plain_at};
@@ -31,7 +32,9 @@ impl<'a> ParseBytes<'a> for DigestType {
 
     ghost reads_at = { plain_at octet };
 
-    ghost labels = { λ _. [] };
+    ghost leaves_rest = { octet_leaves };
+
+    ghost ends_within = { plain_ends octet octet_leaves };
 
     fn parse_bytes(bytes: &'a [u8]) -> Result<DigestType, ParseError> {
         let code = u8::parse_bytes(bytes)?;

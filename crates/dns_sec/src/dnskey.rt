@@ -5,21 +5,21 @@ ghost use Rattle.dns_wire.specs.Building.{Builds};
 ghost use Rattle.dns_wire.specs.Compression.{FitsIn};
 ghost use Rattle.dns_wire.specs.InMessage.{BuildsIn};
 ghost use Rattle.dns_wire.specs.Pieces.{whole_presses};
-ghost use Rattle.dns_wire.specs.Reading.{Gives, all_of, all_at};
+ghost use Rattle.dns_wire.specs.Reading.{Gives, all_of, all_at, plain_at};
 ghost use Rattle.dns_record.specs.Canonical.{ranked_cmp};
-ghost use Rattle.dns_record.specs.Data.{of_type};
-ghost use Rattle.dns_record.specs.Fields.{Field, fields_octets};
-ghost use Rattle.dns_record.specs.Kinds.{fields_of, fields_in, no_name, no_name_in};
-ghost use Rattle.dns_record.specs.Rows.{row_dnskey};
+ghost use Rattle.dns_record.specs.Fields.{Field, fields_octets, canonical_octets};
+ghost use Rattle.dns_record.specs.Kinds.{fields_of, no_name};
+ghost use Rattle.dns_record.specs.Left.{bare_leave, bare_end};
+ghost use Rattle.dns_record.specs.Rows.{row};
 ghost use Rattle.dns_record.specs.Whole.{whole_pieces, told_whole};
 ghost use Rattle.dns_sec.specs.Types.{dnskey_fields};
 
 use crate::dnskey_flags::DNSKeyFlags;
 use crate::sec_alg::SecAlg;
-use dns_record::{CanonicalRecordData, ParseRecordData, ParseRecordDataBytes, RType};
+use dns_record::{CanonicalRecordData, DataOfType, RType};
 use dns_wire::{
     BuildBytes, BuildInMessage, NameCompressor, ParseBytes, ParseError, ParseMessageBytes,
-    SplitBytes, TruncationError, build_whole, parse_without_compression,
+    SplitBytes, TruncationError, build_whole, parse_without_compression, whole,
 };
 use std::cmp::Ordering;
 
@@ -41,11 +41,13 @@ impl<'a> ParseBytes<'a> for DNSKey<'a> {
 
     ghost seen = { dnskey_fields };
 
-    ghost reads = { fields_of no_name row_dnskey };
+    ghost reads = { fields_of no_name (row 48) };
 
-    ghost reads_at = { fields_in no_name_in row_dnskey };
+    ghost reads_at = { plain_at (fields_of no_name (row 48)) };
 
-    ghost labels = { λ _. [] };
+    ghost leaves_rest = { bare_leave (row 48) };
+
+    ghost ends_within = { bare_end (row 48) };
 
     fn parse_bytes(bytes: &'a [u8]) -> Result<DNSKey<'a>, ParseError> {
         let (flags, rest) = DNSKeyFlags::split_bytes(bytes)?;
@@ -66,36 +68,13 @@ impl<'a> ParseMessageBytes<'a> for DNSKey<'a> {
     }
 }
 
-/// Any other type's number is `ParseError`.
-impl<'a> ParseRecordDataBytes<'a> for DNSKey<'a> {
-    ghost Seen = { List Field };
+impl<'a> DataOfType<'a> for DNSKey<'a> {
+    ghost number = { 48 };
 
-    ghost seen = { dnskey_fields };
-
-    ghost reads_as = { λ rtype bytes. of_type 48 rtype (all_of (fields_of no_name row_dnskey bytes)) };
-
-    ghost reads_in = { λ rtype contents at. of_type 48 rtype (all_at contents (fields_in no_name_in row_dnskey contents at)) };
-
-    ghost is_of = { λ _ rtype. rtype ≡ 48 };
-
-    fn parse_record_data_bytes(bytes: &'a [u8], rtype: RType) -> Result<DNSKey<'a>, ParseError> {
-        match rtype.code.value {
-            48 => DNSKey::parse_bytes(bytes),
-            _ => Err(ParseError),
-        }
-    }
-}
-
-impl<'a> ParseRecordData<'a> for DNSKey<'a> {
-    fn parse_record_data(
-        contents: &'a [u8],
-        start: usize,
-        rtype: RType,
-    ) -> Result<DNSKey<'a>, ParseError> {
-        match rtype.code.value {
-            48 => DNSKey::parse_message_bytes(contents, start),
-            _ => Err(ParseError),
-        }
+    fn rtype() -> RType
+        ensures { result.code.value ≡ 48 }
+    {
+        RType::DNSKEY
     }
 }
 
@@ -136,7 +115,7 @@ impl BuildInMessage for DNSKey<'_> {
 }
 
 impl CanonicalRecordData for DNSKey<'_> {
-    ghost canonical = { λ v. fields_octets (dnskey_fields v) };
+    ghost canonical = { λ v. canonical_octets 48 (dnskey_fields v) };
 
     ghost rank = { λ _. 0 };
 

@@ -1,5 +1,6 @@
 //! What a key is for.
 
+ghost use Rattle.dns_wire.specs.Left.{number_leaves, plain_ends};
 ghost use Rattle.std.specs.Prelude.{◌≡◌, ◌≢◌, ◌<◌, ◌^◌, ◌↔◌, ℕ, [], None, IsTrue, if◌then◌else◌, ⊤};
 ghost use Rattle.std.specs.Int.{w16, bit_at, to_be_bytes};
 ghost use Rattle.std.specs.Ordering.{nat_cmp};
@@ -100,7 +101,9 @@ impl<'a> ParseBytes<'a> for DNSKeyFlags {
 
     ghost reads_at = { plain_at (number w16) };
 
-    ghost labels = { λ _. [] };
+    ghost leaves_rest = { number_leaves w16 };
+
+    ghost ends_within = { plain_ends (number w16) (number_leaves w16) };
 
     fn parse_bytes(bytes: &'a [u8]) -> Result<DNSKeyFlags, ParseError> {
         let bits = U16::parse_bytes(bytes)?;

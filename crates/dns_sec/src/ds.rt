@@ -5,22 +5,22 @@ ghost use Rattle.dns_wire.specs.Building.{Builds};
 ghost use Rattle.dns_wire.specs.Compression.{FitsIn};
 ghost use Rattle.dns_wire.specs.InMessage.{BuildsIn};
 ghost use Rattle.dns_wire.specs.Pieces.{whole_presses};
-ghost use Rattle.dns_wire.specs.Reading.{Gives, all_of, all_at};
+ghost use Rattle.dns_wire.specs.Reading.{Gives, all_of, all_at, plain_at};
 ghost use Rattle.dns_record.specs.Canonical.{ranked_cmp};
-ghost use Rattle.dns_record.specs.Data.{of_type};
-ghost use Rattle.dns_record.specs.Fields.{Field, fields_octets};
-ghost use Rattle.dns_record.specs.Kinds.{fields_of, fields_in, no_name, no_name_in};
-ghost use Rattle.dns_record.specs.Rows.{row_ds};
+ghost use Rattle.dns_record.specs.Fields.{Field, fields_octets, canonical_octets};
+ghost use Rattle.dns_record.specs.Kinds.{fields_of, no_name};
+ghost use Rattle.dns_record.specs.Left.{bare_leave, bare_end};
+ghost use Rattle.dns_record.specs.Rows.{row};
 ghost use Rattle.dns_record.specs.Whole.{whole_pieces, told_whole};
 ghost use Rattle.dns_sec.specs.Types.{ds_fields};
 
 use crate::digest_type::DigestType;
 use crate::sec_alg::SecAlg;
 use dns_num::U16;
-use dns_record::{CanonicalRecordData, ParseRecordData, ParseRecordDataBytes, RType};
+use dns_record::{CanonicalRecordData, DataOfType, RType};
 use dns_wire::{
     BuildBytes, BuildInMessage, NameCompressor, ParseBytes, ParseError, ParseMessageBytes,
-    SplitBytes, TruncationError, build_whole, parse_without_compression,
+    SplitBytes, TruncationError, build_whole, parse_without_compression, whole,
 };
 use std::cmp::Ordering;
 
@@ -42,11 +42,13 @@ impl<'a> ParseBytes<'a> for Ds<'a> {
 
     ghost seen = { ds_fields };
 
-    ghost reads = { fields_of no_name row_ds };
+    ghost reads = { fields_of no_name (row 43) };
 
-    ghost reads_at = { fields_in no_name_in row_ds };
+    ghost reads_at = { plain_at (fields_of no_name (row 43)) };
 
-    ghost labels = { λ _. [] };
+    ghost leaves_rest = { bare_leave (row 43) };
+
+    ghost ends_within = { bare_end (row 43) };
 
     fn parse_bytes(bytes: &'a [u8]) -> Result<Ds<'a>, ParseError> {
         let (keytag, rest) = U16::split_bytes(bytes)?;
@@ -67,36 +69,13 @@ impl<'a> ParseMessageBytes<'a> for Ds<'a> {
     }
 }
 
-/// Any other type's number is `ParseError`.
-impl<'a> ParseRecordDataBytes<'a> for Ds<'a> {
-    ghost Seen = { List Field };
+impl<'a> DataOfType<'a> for Ds<'a> {
+    ghost number = { 43 };
 
-    ghost seen = { ds_fields };
-
-    ghost reads_as = { λ rtype bytes. of_type 43 rtype (all_of (fields_of no_name row_ds bytes)) };
-
-    ghost reads_in = { λ rtype contents at. of_type 43 rtype (all_at contents (fields_in no_name_in row_ds contents at)) };
-
-    ghost is_of = { λ _ rtype. rtype ≡ 43 };
-
-    fn parse_record_data_bytes(bytes: &'a [u8], rtype: RType) -> Result<Ds<'a>, ParseError> {
-        match rtype.code.value {
-            43 => Ds::parse_bytes(bytes),
-            _ => Err(ParseError),
-        }
-    }
-}
-
-impl<'a> ParseRecordData<'a> for Ds<'a> {
-    fn parse_record_data(
-        contents: &'a [u8],
-        start: usize,
-        rtype: RType,
-    ) -> Result<Ds<'a>, ParseError> {
-        match rtype.code.value {
-            43 => Ds::parse_message_bytes(contents, start),
-            _ => Err(ParseError),
-        }
+    fn rtype() -> RType
+        ensures { result.code.value ≡ 43 }
+    {
+        RType::DS
     }
 }
 
@@ -137,7 +116,7 @@ impl BuildInMessage for Ds<'_> {
 }
 
 impl CanonicalRecordData for Ds<'_> {
-    ghost canonical = { λ v. fields_octets (ds_fields v) };
+    ghost canonical = { λ v. canonical_octets 43 (ds_fields v) };
 
     ghost rank = { λ _. 0 };
 

@@ -5,12 +5,12 @@ ghost use Rattle.dns_wire.specs.Building.{Builds};
 ghost use Rattle.dns_wire.specs.Compression.{FitsIn};
 ghost use Rattle.dns_wire.specs.InMessage.{BuildsIn};
 ghost use Rattle.dns_wire.specs.Pieces.{whole_presses};
-ghost use Rattle.dns_wire.specs.Reading.{Gives, all_of, all_at};
+ghost use Rattle.dns_wire.specs.Reading.{Gives, all_of, all_at, plain_at};
 ghost use Rattle.dns_record.specs.Canonical.{ranked_cmp};
-ghost use Rattle.dns_record.specs.Data.{of_type};
-ghost use Rattle.dns_record.specs.Fields.{Field, fields_octets, folded_field};
-ghost use Rattle.dns_record.specs.Kinds.{fields_of, fields_in, no_name, no_name_in};
-ghost use Rattle.dns_record.specs.Rows.{row_rrsig};
+ghost use Rattle.dns_record.specs.Fields.{Field, fields_octets, canonical_octets};
+ghost use Rattle.dns_record.specs.Kinds.{fields_of, no_name};
+ghost use Rattle.dns_record.specs.Left.{bare_leave, bare_end};
+ghost use Rattle.dns_record.specs.Rows.{row};
 ghost use Rattle.dns_record.specs.Whole.{whole_pieces, told_whole};
 ghost use Rattle.dns_sec.specs.Types.{rrsig_fields};
 
@@ -18,10 +18,10 @@ use crate::sec_alg::SecAlg;
 use crate::timestamp::Timestamp;
 use dns_name::{CanonicalName, Lowercased, Name};
 use dns_num::U16;
-use dns_record::{CanonicalRecordData, ParseRecordData, ParseRecordDataBytes, RType, Serial, TTL};
+use dns_record::{CanonicalRecordData, DataOfType, RType, Serial, TTL};
 use dns_wire::{
     BuildBytes, BuildInMessage, NameCompressor, ParseBytes, ParseError, ParseMessageBytes,
-    SplitBytes, TruncationError, build_whole, parse_without_compression,
+    SplitBytes, TruncationError, build_whole, parse_without_compression, whole,
 };
 use std::cmp::Ordering;
 
@@ -83,11 +83,13 @@ impl<'a> ParseBytes<'a> for Rrsig<'a> {
 
     ghost seen = { rrsig_fields };
 
-    ghost reads = { fields_of no_name row_rrsig };
+    ghost reads = { fields_of no_name (row 46) };
 
-    ghost reads_at = { fields_in no_name_in row_rrsig };
+    ghost reads_at = { plain_at (fields_of no_name (row 46)) };
 
-    ghost labels = { λ _. [] };
+    ghost leaves_rest = { bare_leave (row 46) };
+
+    ghost ends_within = { bare_end (row 46) };
 
     fn parse_bytes(bytes: &'a [u8]) -> Result<Rrsig<'a>, ParseError> {
         let (rtype, rest) = RType::split_bytes(bytes)?;
@@ -118,36 +120,13 @@ impl<'a> ParseMessageBytes<'a> for Rrsig<'a> {
     }
 }
 
-/// Any other type's number is `ParseError`.
-impl<'a> ParseRecordDataBytes<'a> for Rrsig<'a> {
-    ghost Seen = { List Field };
+impl<'a> DataOfType<'a> for Rrsig<'a> {
+    ghost number = { 46 };
 
-    ghost seen = { rrsig_fields };
-
-    ghost reads_as = { λ rtype bytes. of_type 46 rtype (all_of (fields_of no_name row_rrsig bytes)) };
-
-    ghost reads_in = { λ rtype contents at. of_type 46 rtype (all_at contents (fields_in no_name_in row_rrsig contents at)) };
-
-    ghost is_of = { λ _ rtype. rtype ≡ 46 };
-
-    fn parse_record_data_bytes(bytes: &'a [u8], rtype: RType) -> Result<Rrsig<'a>, ParseError> {
-        match rtype.code.value {
-            46 => Rrsig::parse_bytes(bytes),
-            _ => Err(ParseError),
-        }
-    }
-}
-
-impl<'a> ParseRecordData<'a> for Rrsig<'a> {
-    fn parse_record_data(
-        contents: &'a [u8],
-        start: usize,
-        rtype: RType,
-    ) -> Result<Rrsig<'a>, ParseError> {
-        match rtype.code.value {
-            46 => Rrsig::parse_message_bytes(contents, start),
-            _ => Err(ParseError),
-        }
+    fn rtype() -> RType
+        ensures { result.code.value ≡ 46 }
+    {
+        RType::RRSIG
     }
 }
 
@@ -191,7 +170,7 @@ impl BuildInMessage for Rrsig<'_> {
 
 /// The fields in order, the signer in small letters.
 impl CanonicalRecordData for Rrsig<'_> {
-    ghost canonical = { λ v. fields_octets (map folded_field (rrsig_fields v)) };
+    ghost canonical = { λ v. canonical_octets 46 (rrsig_fields v) };
 
     ghost rank = { λ _. 0 };
 

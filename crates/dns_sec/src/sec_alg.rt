@@ -1,5 +1,6 @@
 //! Algorithms of keys and signatures.
 
+ghost use Rattle.dns_wire.specs.Left.{octet_leaves, plain_ends};
 ghost use Rattle.std.specs.Prelude.{◌≡◌, ℕ, [], ◌∷◌, None, ⊤};
 ghost use Rattle.dns_wire.specs.Pieces.{whole_presses};
 ghost use Rattle.dns_wire.specs.Reading.{octet, plain_at};
@@ -34,7 +35,9 @@ impl<'a> ParseBytes<'a> for SecAlg {
 
     ghost reads_at = { plain_at octet };
 
-    ghost labels = { λ _. [] };
+    ghost leaves_rest = { octet_leaves };
+
+    ghost ends_within = { plain_ends octet octet_leaves };
 
     fn parse_bytes(bytes: &'a [u8]) -> Result<SecAlg, ParseError> {
         let code = u8::parse_bytes(bytes)?;

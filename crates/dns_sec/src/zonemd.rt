@@ -5,22 +5,22 @@ ghost use Rattle.dns_wire.specs.Building.{Builds};
 ghost use Rattle.dns_wire.specs.Compression.{FitsIn};
 ghost use Rattle.dns_wire.specs.InMessage.{BuildsIn};
 ghost use Rattle.dns_wire.specs.Pieces.{whole_presses};
-ghost use Rattle.dns_wire.specs.Reading.{Gives, all_of, all_at};
+ghost use Rattle.dns_wire.specs.Reading.{Gives, all_of, all_at, plain_at};
 ghost use Rattle.dns_record.specs.Canonical.{ranked_cmp};
-ghost use Rattle.dns_record.specs.Data.{of_type};
-ghost use Rattle.dns_record.specs.Fields.{Field, fields_octets};
-ghost use Rattle.dns_record.specs.Kinds.{fields_of, fields_in, no_name, no_name_in};
-ghost use Rattle.dns_record.specs.Rows.{row_zonemd};
+ghost use Rattle.dns_record.specs.Fields.{Field, fields_octets, canonical_octets};
+ghost use Rattle.dns_record.specs.Kinds.{fields_of, no_name};
+ghost use Rattle.dns_record.specs.Left.{bare_leave, bare_end};
+ghost use Rattle.dns_record.specs.Rows.{row};
 ghost use Rattle.dns_record.specs.Whole.{whole_pieces, told_whole};
 ghost use Rattle.dns_sec.specs.Rows.{row_zonemd_of};
 ghost use Rattle.dns_sec.specs.Types.{zonemd_fields};
 
 use crate::zonemd_hash_alg::ZoneMDHashAlg;
 use crate::zonemd_scheme::ZoneMDScheme;
-use dns_record::{CanonicalRecordData, ParseRecordData, ParseRecordDataBytes, RType, Serial};
+use dns_record::{CanonicalRecordData, DataOfType, RType, Serial};
 use dns_wire::{
     BuildBytes, BuildInMessage, NameCompressor, ParseBytes, ParseError, ParseMessageBytes,
-    SplitBytes, TruncationError, build_whole, parse_without_compression,
+    SplitBytes, TruncationError, build_whole, parse_without_compression, whole,
 };
 use std::cmp::Ordering;
 use std::convert::AsSlice;
@@ -45,11 +45,13 @@ impl<'a> ParseBytes<'a> for ZoneMD<&'a [u8]> {
 
     ghost seen = { zonemd_fields (λ d. d.now) };
 
-    ghost reads = { fields_of no_name row_zonemd };
+    ghost reads = { fields_of no_name (row 63) };
 
-    ghost reads_at = { fields_in no_name_in row_zonemd };
+    ghost reads_at = { plain_at (fields_of no_name (row 63)) };
 
-    ghost labels = { λ _. [] };
+    ghost leaves_rest = { bare_leave (row 63) };
+
+    ghost ends_within = { bare_end (row 63) };
 
     fn parse_bytes(bytes: &'a [u8]) -> Result<ZoneMD<&'a [u8]>, ParseError> {
         let (serial, rest) = Serial::split_bytes(bytes)?;
@@ -72,9 +74,11 @@ impl<'a, const N: usize> ParseBytes<'a> for ZoneMD<[u8; N]> {
 
     ghost reads = { fields_of no_name (row_zonemd_of N) };
 
-    ghost reads_at = { fields_in no_name_in (row_zonemd_of N) };
+    ghost reads_at = { plain_at (fields_of no_name (row_zonemd_of N)) };
 
-    ghost labels = { λ _. [] };
+    ghost leaves_rest = { bare_leave (row_zonemd_of N) };
+
+    ghost ends_within = { bare_end (row_zonemd_of N) };
 
     fn parse_bytes(bytes: &'a [u8]) -> Result<ZoneMD<[u8; N]>, ParseError> {
         let (serial, rest) = Serial::split_bytes(bytes)?;
@@ -108,75 +112,21 @@ impl<'a, const N: usize> ParseMessageBytes<'a> for ZoneMD<[u8; N]> {
     }
 }
 
-/// Any other type's number is `ParseError`.
-impl<'a> ParseRecordDataBytes<'a> for ZoneMD<&'a [u8]> {
-    ghost Seen = { List Field };
+impl<'a> DataOfType<'a> for ZoneMD<&'a [u8]> {
+    ghost number = { 63 };
 
-    ghost seen = { zonemd_fields (λ d. d.now) };
-
-    ghost reads_as = { λ rtype bytes. of_type 63 rtype (all_of (fields_of no_name row_zonemd bytes)) };
-
-    ghost reads_in = { λ rtype contents at. of_type 63 rtype (all_at contents (fields_in no_name_in row_zonemd contents at)) };
-
-    ghost is_of = { λ _ rtype. rtype ≡ 63 };
-
-    fn parse_record_data_bytes(
-        bytes: &'a [u8],
-        rtype: RType,
-    ) -> Result<ZoneMD<&'a [u8]>, ParseError> {
-        match rtype.code.value {
-            63 => ZoneMD::parse_bytes(bytes),
-            _ => Err(ParseError),
-        }
+    fn rtype() -> RType
+        ensures { result.code.value ≡ 63 }
+    {
+        RType::ZONEMD
     }
 }
 
-/// Any other type's number is `ParseError`.
-impl<'a, const N: usize> ParseRecordDataBytes<'a> for ZoneMD<[u8; N]> {
-    ghost Seen = { List Field };
+impl<'a, const N: usize> DataOfType<'a> for ZoneMD<[u8; N]> {
+    ghost number = { 63 };
 
-    ghost seen = { zonemd_fields (λ d. d) };
-
-    ghost reads_as = { λ rtype bytes. of_type 63 rtype (all_of (fields_of no_name (row_zonemd_of N) bytes)) };
-
-    ghost reads_in = { λ rtype contents at. of_type 63 rtype (all_at contents (fields_in no_name_in (row_zonemd_of N) contents at)) };
-
-    ghost is_of = { λ _ rtype. rtype ≡ 63 };
-
-    fn parse_record_data_bytes(
-        bytes: &'a [u8],
-        rtype: RType,
-    ) -> Result<ZoneMD<[u8; N]>, ParseError> {
-        match rtype.code.value {
-            63 => ZoneMD::parse_bytes(bytes),
-            _ => Err(ParseError),
-        }
-    }
-}
-
-impl<'a> ParseRecordData<'a> for ZoneMD<&'a [u8]> {
-    fn parse_record_data(
-        contents: &'a [u8],
-        start: usize,
-        rtype: RType,
-    ) -> Result<ZoneMD<&'a [u8]>, ParseError> {
-        match rtype.code.value {
-            63 => ZoneMD::parse_message_bytes(contents, start),
-            _ => Err(ParseError),
-        }
-    }
-}
-
-impl<'a, const N: usize> ParseRecordData<'a> for ZoneMD<[u8; N]> {
-    fn parse_record_data(
-        contents: &'a [u8],
-        start: usize,
-        rtype: RType,
-    ) -> Result<ZoneMD<[u8; N]>, ParseError> {
-        match rtype.code.value {
-            63 => ZoneMD::parse_message_bytes(contents, start),
-            _ => Err(ParseError),
-        }
+    fn rtype() -> RType {
+        RType::ZONEMD
     }
 }
 
@@ -217,7 +167,7 @@ impl<D: AsSlice<u8>> BuildInMessage for ZoneMD<D> {
 }
 
 impl<D: AsSlice<u8>> CanonicalRecordData for ZoneMD<D> {
-    ghost canonical = { λ v. fields_octets (zonemd_fields D.items v) };
+    ghost canonical = { λ v. canonical_octets 63 (zonemd_fields D.items v) };
 
     ghost rank = { λ _. 0 };
 
