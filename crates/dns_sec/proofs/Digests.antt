@@ -3,7 +3,7 @@ use Rattle.std.proofs.Common.{◌≡◌, ℕ, List, [], ◌∷◌, Option, Some,
 use Rattle.dns_wire.specs.Reading.{all_of}
 use Rattle.dns_wire.specs.Steps.{◌>>=◌, first_to}
 use Rattle.dns_record.specs.Fields.{Field}
-use Rattle.dns_record.specs.Fields.Field.{Raw}
+use Rattle.dns_record.specs.Fields.FieldOf.{Raw}
 use Rattle.dns_record.specs.Kinds.{fields_of, no_name}
 
 -- a field in front of others
