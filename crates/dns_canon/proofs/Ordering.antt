@@ -12,10 +12,10 @@ use Rattle.std.proofs.lemmas.List.{reverse-reverse, length-append}
 use Rattle.std.proofs.lemmas.List.Sorted.{IsPermutation-refl, IsPermutation-cons, IsPermutation-middle, IsPermutation-trans, IsPermutation-map}
 use Rattle.dns_wire.specs.Names.{wire, lowered}
 use Rattle.dns_wire.proofs.Lowered.{wire_parts, name_lowered, lowered_long}
-use Rattle.dns_canon.specs.Canonical.{canon, folded_fields, is_kept, octets_of_parts}
+use Rattle.dns_canon.specs.Canonical.{canon, is_kept, octets_of_parts}
 use Rattle.dns_record.specs.Types.{is_lowercased}
-use Rattle.dns_record.specs.Fields.{Field, field_octets, fields_octets, folded_field}
-use Rattle.dns_record.specs.Fields.Field.{Named, Raw, Sized, Byte, Number}
+use Rattle.dns_record.specs.Fields.{Field, field_octets, fields_octets, folded_field, canonical_fields}
+use Rattle.dns_record.specs.Fields.FieldOf.{Named, Bare, Raw, Sized, Byte, Number}
 use Rattle.dns_canon.specs.Messages.{Rec}
 use Rattle.dns_canon.specs.Order.{SortKey, sort_key, sort_key_cmp, record_cmp, Before, precedes, inserted, in_order, octets_of_key, output}
 use Rattle.dns_canon.specs.Sorted.{times, NoneBelow, Ascends}
@@ -47,6 +47,7 @@ four_octets n m x y p q e =
 -- small letters change no length
 field_long : (field : Field) → length (field_octets (folded_field field)) ≡ length (field_octets field)
 field_long (Named labels) = lowered_long labels
+field_long (Bare labels) = lowered_long labels
 field_long (Raw octets) = refl
 field_long (Sized octets) = refl
 field_long (Byte b) = refl
@@ -58,7 +59,7 @@ folded_long (field ∷ fields) =
     length-append (field_octets (folded_field field)) (fields_octets (map folded_field fields))
     ∙ omega (arith, field_long field, folded_long fields, length-append (field_octets field) (fields_octets fields))
 
-octets_long : (r : Rec) → WellFormed r → length (fields_octets (folded_fields r.rtype r.content)) < 2 ^ 16
+octets_long : (r : Rec) → WellFormed r → length (fields_octets (canonical_fields r.rtype r.content)) < 2 ^ 16
 octets_long r is = by (is_lowercased r.rtype) where
   by : (b : Bool) → length (fields_octets (cond b (map folded_field r.content) r.content)) < 2 ^ 16
   by true = omega (arith, is.size, folded_long r.content)
@@ -66,7 +67,7 @@ octets_long r is = by (is_lowercased r.rtype) where
 
 -- the canonical octets are those of what is compared
 key_canon : (r : Rec) → octets_of_key (sort_key r) ≡ canon r
-key_canon r = ap (λ (small : List (List ℕ)). octets_of_parts small r.rtype r.class r.ttl (fields_octets (folded_fields r.rtype r.content))) (reverse-reverse (lowered r.owner))
+key_canon r = ap (λ (small : List (List ℕ)). octets_of_parts small r.rtype r.class r.ttl (fields_octets (canonical_fields r.rtype r.content))) (reverse-reverse (lowered r.owner))
 
 -- equal canonical octets are of records that are compared as equal
 keys_from_canon : (r s : Rec) → WellFormed r → WellFormed s → canon r ≡ canon s → sort_key r ≡ sort_key s

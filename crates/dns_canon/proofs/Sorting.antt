@@ -15,8 +15,8 @@ use Rattle.std.proofs.lemmas.List.Sorted.{ranks_by, sorted_far, sum_by-IsPermuta
 use Rattle.dns_wire.specs.Names.{labels_of, lowered}
 use Rattle.dns_name.specs.Order.{key_of, key_cmp}
 use Rattle.dns_name.proofs.Sameness.{keys_total}
-use Rattle.dns_canon.specs.Canonical.{canon, folded_fields, is_kept, octets_of_parts}
-use Rattle.dns_record.specs.Fields.{fields_octets}
+use Rattle.dns_canon.specs.Canonical.{canon, is_kept, octets_of_parts}
+use Rattle.dns_record.specs.Fields.{fields_octets, canonical_fields}
 use Rattle.dns_canon.specs.Messages.{Rec}
 use Rattle.dns_canon.specs.Order.{SortKey, sort_key, sort_key_cmp, precedes, inserted, in_order, octets_of_key, output}
 use Rattle.dns_canon.specs.Seen.{owned_seen}
@@ -190,7 +190,7 @@ ascends_in_order (r ∷ rs) = ascends_inserted r (in_order rs) (ascends_in_order
 pub octets_of_keys : (rs : List Rec) → map octets_of_key (map sort_key rs) ≡ map canon rs
 octets_of_keys [] = refl
 octets_of_keys (r ∷ rs) =
-    ap (λ (small : List (List ℕ)). octets_of_parts small r.rtype r.class r.ttl (fields_octets (folded_fields r.rtype r.content)) ∷ map octets_of_key (map sort_key rs)) (reverse-reverse (lowered r.owner))
+    ap (λ (small : List (List ℕ)). octets_of_parts small r.rtype r.class r.ttl (fields_octets (canonical_fields r.rtype r.content)) ∷ map octets_of_key (map sort_key rs)) (reverse-reverse (lowered r.owner))
     ∙ ap (λ (l : List (List ℕ)). canon r ∷ l) (octets_of_keys rs)
 
 -- what the sort leaves is what the definition gives

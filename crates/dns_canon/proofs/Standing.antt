@@ -12,7 +12,7 @@ use Rattle.dns_record.specs.Fields.{Field}
 use Rattle.dns_record.specs.InPlace.{QuestionAt, RecordAt}
 use Rattle.dns_record.specs.Questions.{question_in}
 use Rattle.dns_record.specs.Records.{record_in, end_of}
-use Rattle.dns_record.proofs.Worded.{pointed, question_is, question_found, record_is, record_found}
+use Rattle.dns_record.proofs.Worded.{question_is, question_found, record_is, record_found}
 use Rattle.dns_canon.specs.Data.{is_waiting, read_in}
 use Rattle.dns_canon.specs.Messages.{Item, Rec, Question, item_at}
 use Rattle.dns_canon.specs.Messages.Item.{Asked, Told}
@@ -52,17 +52,17 @@ its_type owner rtype class ttl end (Some content) y e = sym (ap (λ (o : Option 
   type_of (Some z) = z.0.rtype
 
 agree_content : (owner : List (List ℕ)) (rtype class ttl end : ℕ) (contents : List ℕ) (at : ℕ)
-    → Agree (of_content owner rtype class ttl end (read_in rtype contents at)) (of_content owner rtype class ttl end (data_in pointed rtype contents at))
+    → Agree (of_content owner rtype class ttl end (read_in rtype contents at)) (of_content owner rtype class ttl end (data_in name_at rtype contents at))
 unfolding read_in
 agree_content owner rtype class ttl end contents at = by (is_waiting rtype) refl where
   read : Option (List Field)
-  read = data_in pointed rtype contents at
+  read = data_in name_at rtype contents at
 
   by : (b : Bool) → is_waiting rtype ≡ b → Agree (of_content owner rtype class ttl end (cond b None read)) (of_content owner rtype class ttl end read)
   by true is = agree_waiting (of_content owner rtype class ttl end read) (λ y e. ap is_waiting (its_type owner rtype class ttl end read y e) ∙ is)
   by false is = agree_ready (of_content owner rtype class ttl end read) (λ y e. ap is_waiting (its_type owner rtype class ttl end read y e) ∙ is)
 
-records_agree : (contents : List ℕ) (at : ℕ) → Agree (record_in name_at read_in contents at) (record_in name_at (data_in pointed) contents at)
+records_agree : (contents : List ℕ) (at : ℕ) → Agree (record_in name_at read_in contents at) (record_in name_at (data_in name_at) contents at)
 unfolding record_in
 records_agree contents at =
     agree_then (name_at contents at) _ _ (λ owner.

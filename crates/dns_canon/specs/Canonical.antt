@@ -2,17 +2,12 @@
 use Rattle.std.specs.Prelude.{ℕ, List, ◌++◌, length, map, Bool, not, ◌==◌, ◌||◌, if◌then◌else◌}
 use Rattle.std.specs.Int.{w16, w32, to_be_bytes}
 use Rattle.dns_wire.specs.Names.{wire, lowered}
-use Rattle.dns_record.specs.Fields.{Field, folded_field, fields_octets}
-use Rattle.dns_record.specs.Types.{is_lowercased}
+use Rattle.dns_record.specs.Fields.{fields_octets, canonical_fields}
 use Rattle.dns_canon.specs.Messages.{Rec}
-
--- the fields, with names in small letters where the type is one of the nine
-abbrev pub folded_fields : ℕ → List Field → List Field
-folded_fields rtype fields = if is_lowercased rtype then map folded_field fields else fields
 
 -- the record with its owner in small letters, and its names where its type is one of the nine
 abbrev pub fold : Rec → Rec
-fold r = record { owner = lowered r.owner; rtype = r.rtype; class = r.class; ttl = r.ttl; content = folded_fields r.rtype r.content }
+fold r = record { owner = lowered r.owner; rtype = r.rtype; class = r.class; ttl = r.ttl; content = canonical_fields r.rtype r.content }
 
 -- owner, type, class, time to live, the number of the data's octets, and these octets
 abbrev pub octets_of_parts : List (List ℕ) → ℕ → ℕ → ℕ → List ℕ → List ℕ

@@ -6,9 +6,9 @@ use Rattle.std.specs.declared.cmp.Ordering.TheVariants.{Less}
 use Rattle.std.specs.Ordering.{nat_cmp, on, then_cmp, is_gt}
 use Rattle.std.specs.Cmp.Lexicographic.{slice_cmp}
 use Rattle.dns_name.specs.Order.{key, key_cmp}
-use Rattle.dns_record.specs.Fields.{fields_octets}
+use Rattle.dns_record.specs.Fields.{fields_octets, canonical_fields}
 use Rattle.dns_canon.specs.Messages.{Rec}
-use Rattle.dns_canon.specs.Canonical.{folded_fields, octets_of_parts, canon, is_kept}
+use Rattle.dns_canon.specs.Canonical.{octets_of_parts, canon, is_kept}
 
 -- what records are compared by, in this order: the owner's lowered labels from the root on, the class, the type, the
 -- canonical octets of the data, and the time to live
@@ -24,7 +24,7 @@ sort_key r = record {
   owner = key r.owner;
   class = r.class;
   rtype = r.rtype;
-  octets = fields_octets (folded_fields r.rtype r.content);
+  octets = fields_octets (canonical_fields r.rtype r.content);
   ttl = r.ttl;
 }
 

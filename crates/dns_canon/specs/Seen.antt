@@ -2,7 +2,7 @@
 use Rattle.std.specs.Prelude.{◌≡◌, ℕ, ◌<◌, ◌^◌, List, [], ◌∷◌, length, map, reverse, ⊤}
 use Rattle.dns_wire.specs.Names.{labels_of}
 use Rattle.dns_record.specs.Fields.{Field, fields_octets, folded_field}
-use Rattle.dns_record.specs.Fields.Field.{Raw}
+use Rattle.dns_record.specs.Fields.FieldOf.{Raw}
 use Rattle.dns_record.specs.Seen.{question_seen, record_seen}
 use Rattle.dns_basic.specs.Types.{ns_fields, cname_fields, soa_fields, ptr_fields, mx_fields, rp_fields}
 use Rattle.dns_nsec.specs.Types.{nsec_fields, nsec3_fields, nsec3param_fields}
@@ -20,14 +20,14 @@ use Rattle.dns_canon.specs.declared.owned.OwnedRecord.{OwnedRecord}
 -- the fields of data
 abbrev pub data_seen : RecordData → List Field
 data_seen (A v) = a_fields v
-data_seen (Ns v) = ns_fields (λ labels. labels) v
-data_seen (CName v) = cname_fields (λ labels. labels) v
-data_seen (Soa v) = soa_fields (λ labels. labels) v
-data_seen (Ptr v) = ptr_fields (λ labels. labels) v
+data_seen (Ns v) = ns_fields v
+data_seen (CName v) = cname_fields v
+data_seen (Soa v) = soa_fields v
+data_seen (Ptr v) = ptr_fields v
 data_seen (HInfo v) = hinfo_fields v
-data_seen (Mx v) = mx_fields (λ labels. labels) v
+data_seen (Mx v) = mx_fields v
 data_seen (Txt v) = txt_fields v.slice.now
-data_seen (Rp v) = rp_fields (λ labels. labels) v
+data_seen (Rp v) = rp_fields v
 data_seen (Aaaa v) = aaaa_fields v
 data_seen (Srv v) = srv_fields v
 data_seen (DName v) = dname_fields v
@@ -43,14 +43,14 @@ data_seen (Unknown octets) = Raw octets.now ∷ []
 -- the same with names in small letters, where the type is one of those whose names count without regard to case
 abbrev pub data_folded : RecordData → List Field
 data_folded (A v) = a_fields v
-data_folded (Ns v) = map folded_field (ns_fields (λ labels. labels) v)
-data_folded (CName v) = map folded_field (cname_fields (λ labels. labels) v)
-data_folded (Soa v) = map folded_field (soa_fields (λ labels. labels) v)
-data_folded (Ptr v) = map folded_field (ptr_fields (λ labels. labels) v)
+data_folded (Ns v) = map folded_field (ns_fields v)
+data_folded (CName v) = map folded_field (cname_fields v)
+data_folded (Soa v) = map folded_field (soa_fields v)
+data_folded (Ptr v) = map folded_field (ptr_fields v)
 data_folded (HInfo v) = hinfo_fields v
-data_folded (Mx v) = map folded_field (mx_fields (λ labels. labels) v)
+data_folded (Mx v) = map folded_field (mx_fields v)
 data_folded (Txt v) = txt_fields v.slice.now
-data_folded (Rp v) = map folded_field (rp_fields (λ labels. labels) v)
+data_folded (Rp v) = map folded_field (rp_fields v)
 data_folded (Aaaa v) = aaaa_fields v
 data_folded (Srv v) = map folded_field (srv_fields v)
 data_folded (DName v) = map folded_field (dname_fields v)
