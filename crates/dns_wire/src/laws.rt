@@ -1,7 +1,7 @@
 //! The definitions of this crate in other words.
 
 ghost use Rattle.std.specs.Prelude.{◌≡◌, ◌≤◌, ◌<◌, ◌↔◌, ◌+◌, ◌++◌, ℕ, List, [], ◌∷◌, Some, length, flat_map};
-ghost use Rattle.dns_wire.specs.Hexadecimal.{spelled, shown};
+ghost use Rattle.dns_wire.specs.Hexadecimal.{Trimmed, trim, spelled, shown};
 ghost use Rattle.dns_wire.specs.InMessage.{list_fits, EachFits};
 ghost use Rattle.dns_wire.specs.Names.{IsName, wire, plain_name};
 ghost use Rattle.dns_wire.specs.Pieces.{whole_presses, then_presses, list_presses};
@@ -59,6 +59,13 @@ pub fn added_octets()
         NameAt contents at labels end → NameAt (contents ++ more) at labels end }
     ensures read { (contents more : List ℕ) (at : ℕ) (labels : List (List ℕ)) (end : ℕ) →
         name_at contents at ≡ Some (labels, end) → name_at (contents ++ more) at ≡ Some (labels, end) }
+{}
+
+/// The hexadecimal reading trims a text of the spaces, tabs, CR and LF at its end: what is left is the front
+/// of the text up to its last octet that is none of these, and there is one such front.
+pub fn trimmed_text()
+    ensures trims { (text : List ℕ) → Trimmed text (trim text) }
+    ensures one { (text front : List ℕ) → Trimmed text front → front ≡ trim text }
 {}
 
 /// What is written in hexadecimal is read back (RFC 4648 section 8).
