@@ -3,11 +3,16 @@
 use Rattle.std.specs.Prelude.{◌≡◌, ℕ, zero, suc, ◌+◌, ◌-◌, ◌*◌, ◌<◌, ◌≤◌, List, [], ◌∷◌, ◌++◌, length, take, drop, slice_index, Option, Some, None, unwrap_or, nat_lt, nat_le, ◌==◌, ◌||◌, if◌then◌else◌}
 use Rattle.dns_wire.specs.declared.follow.Head.{Head}
 use Rattle.dns_wire.specs.declared.follow.Head.TheVariants.{Root, Label, Pointer}
+use Rattle.dns_wire.specs.declared.follow.NameCursor.{NameCursor}
 use Rattle.dns_wire.specs.Names.{wire}
 
 -- what a pointer's two octets say: the 14 bits behind the two ones in front
+abbrev pub offset_of : ℕ → ℕ → ℕ
+offset_of first second = (first - 192) * 256 + second
+
+-- what the pointer at a place says
 abbrev pub offset_at : List ℕ → ℕ → ℕ
-offset_at contents at = (slice_index contents at - 192) * 256 + slice_index contents (at + 1)
+offset_at contents at = offset_of (slice_index contents at) (slice_index contents (at + 1))
 
 -- ---- as a relation
 
@@ -51,6 +56,13 @@ abbrev pub HeadFits : List ℕ → ℕ → ℕ → Head → Type 0
 HeadFits contents start at Root = at < length contents
 HeadFits contents start at (Label size) = (slice_index contents at ≡ size) × (0 < size) × (size < 64) × (at + 1 + size ≤ length contents)
 HeadFits contents start at (Pointer target) = (at + 2 ≤ length contents) × (target < start)
+
+-- Where a reading is after a head: behind a label, and where a pointer leads, in a segment that begins there. What stands
+-- at the name's own place ends behind the first pointer, or behind the root where there is none.
+abbrev pub after : NameCursor → Head → NameCursor
+after cursor Root = record cursor { end = Some (unwrap_or cursor.end (cursor.at + 1)) }
+after cursor (Label size) = record cursor { at = cursor.at + 1 + size }
+after cursor (Pointer target) = record { start = target; at = target; end = Some (unwrap_or cursor.end (cursor.at + 2)) }
 
 -- what is read after these labels, with them in front; the octets end where a pointer has been, if one has
 abbrev pub joined : List (List ℕ) → Option ℕ → Option (List (List ℕ) × ℕ) → Option (List (List ℕ) × ℕ)

@@ -7,6 +7,7 @@ ghost use Rattle.dns_wire.specs.Names.{plain_name, labels_of};
 ghost use Rattle.dns_wire.specs.Reversed.{reversed_name, reversed_labels_of};
 ghost use Rattle.dns_wire.specs.Compression.{longest_kept, KeptSuffix, LongestKept, with_more, noted, Run, ArePlaces, FitsIn, Grows};
 
+use crate::sizes::{LAST_PLACE, MAX_LABEL_SIZE, MAX_PLACES};
 use crate::suffix::{count_labels, suffix_before};
 use crate::turn::turn_name;
 use arrayvec::ArrayVec;
@@ -17,7 +18,7 @@ use std::marker::Model;
 /// of the header: at most 128, rising, and each at most 16,371, as far as a pointer reaches.
 #[derive(Drop)]
 pub struct NameCompressor {
-    kept: ArrayVec<u16, 128>,
+    kept: ArrayVec<u16, MAX_PLACES>,
 }
 
 impl Model for NameCompressor {
@@ -32,9 +33,6 @@ impl Model for NameCompressor {
 }
 
 impl NameCompressor {
-    /// The last place that a pointer reaches: it has 14 bits, and counts the 12 octets of the header too.
-    const LAST_PLACE: usize = 16371;
-
     /// No places.
     pub fn new() -> Self
         ensures { result ≡ [] }
@@ -113,7 +111,7 @@ impl NameCompressor {
         let mut at = start;
         while at < end {
             let size = contents[at] as usize;
-            if size == 0 || size > 63 {
+            if size == 0 || size > MAX_LABEL_SIZE {
                 break;
             }
             self.keep(at);
@@ -126,7 +124,7 @@ impl NameCompressor {
         requires { AllByRecursion (λ kept. kept < place) self.old }
         ensures { self.new ≡ with_more self.old (place ∷ []) }
     {
-        if !self.kept.is_full() && place <= Self::LAST_PLACE {
+        if !self.kept.is_full() && place <= LAST_PLACE {
             self.kept.push(place as u16);
         }
     }

@@ -19,6 +19,7 @@ mod memory;
 mod outside;
 mod parse;
 mod press;
+mod sizes;
 mod suffix;
 mod text;
 mod turn;
@@ -29,7 +30,7 @@ pub use build::{BuildBytes, put};
 pub use compression::{longest_suffixes, pressed_names, pressed_names_are_read};
 pub use compressor::NameCompressor;
 pub use error::{ParseError, TruncationError};
-pub use follow::{Head, read_head};
+pub use follow::{Head, NameCursor, pointer_offset, read_head};
 pub use in_message::{BuildInMessage, build_whole};
 pub use laws::{
     added_octets, hexadecimal_text, lists_in_messages, lists_of_octets, names_follow_pointers,
@@ -44,6 +45,7 @@ pub use parse::{
     split_without_compression,
 };
 pub use press::put_name;
+pub use sizes::{HEADER_SIZE, LAST_PLACE, MAX_LABEL_SIZE, MAX_PLACES, POINTER_TAG};
 
 #[cfg(test)]
 mod tests;

@@ -10,6 +10,7 @@ ghost use Rattle.dns_wire.specs.Reading.{all_of};
 use crate::build::put;
 use crate::compressor::NameCompressor;
 use crate::error::TruncationError;
+use crate::sizes::{HEADER_SIZE, LAST_PLACE, POINTER_TAG};
 
 /// Writes the octets of a name up to a known suffix, and a pointer to its place: two bits 1, and the place
 /// counted from the front of the header, which has 12 octets.
@@ -20,14 +21,15 @@ fn put_cut(
     start: usize,
 ) -> Result<usize, TruncationError>
     requires room { start ≤ length contents.old }
-    requires known { IfSome known (λ k. (k.0 ≤ length name.now) × (k.1 ≤ 16371)) }
+    requires known { IfSome known (λ k. (k.0 ≤ length name.now) × (k.1 ≤ LAST_PLACE)) }
     ensures { Builds ⊤ (cut_at name.now known) contents.old start contents.new result }
 {
     match known {
         None => put(name, contents, start),
         Some((front, place)) => {
             let middle = put(&name[..front], contents, start)?;
-            put(&(0xc000 + 12 + place).to_be_bytes(), contents, middle)
+            let pointer = POINTER_TAG as u16 * 256 + HEADER_SIZE as u16 + place;
+            put(&pointer.to_be_bytes(), contents, middle)
         }
     }
 }

@@ -6,7 +6,7 @@ ghost use Rattle.dns_wire.specs.Names.{plain_name, labels_of};
 ghost use Rattle.dns_wire.specs.Compression.{stands_at};
 ghost use Rattle.dns_wire.specs.Searching.{FirstOf, count_at, suffix_at, before_limit};
 
-use crate::follow::{Head, read_head};
+use crate::follow::{Head, NameCursor};
 
 /// The first label of a name's octets, and the octets of the name behind it; none where the name is the
 /// root.
@@ -45,23 +45,18 @@ fn count_labels_at(contents: &[u8], place: usize, most: usize) -> Option<usize>
     ensures within { IfSome result (λ count. count ≤ most) }
 {
     let mut seen = 0;
-    let mut segment = place;
-    let mut at = place;
+    let mut cursor = NameCursor::new(place);
     loop {
-        match read_head(contents, segment, at) {
+        match cursor.next_head(contents) {
             Err(_) => return None,
             Ok(Head::Root) => return Some(seen),
-            Ok(Head::Label(size)) => {
+            Ok(Head::Label(_)) => {
                 if seen == most {
                     return None;
                 }
                 seen += 1;
-                at += 1 + size;
             }
-            Ok(Head::Pointer(target)) => {
-                segment = target;
-                at = target;
-            }
+            Ok(Head::Pointer(_)) => {}
         }
     }
 }
@@ -72,27 +67,22 @@ fn is_name_at(contents: &[u8], place: usize, name: &[u8]) -> bool
     ensures { result ≡ stands_at contents.now (labels_of name.now) place }
 {
     let mut rest = name;
-    let mut segment = place;
-    let mut at = place;
+    let mut cursor = NameCursor::new(place);
     loop {
-        match read_head(contents, segment, at) {
+        match cursor.next_head(contents) {
             Err(_) => return false,
             Ok(Head::Root) => return first_label(rest).is_none(),
             Ok(Head::Label(size)) => {
                 let Some((label, next)) = first_label(rest) else {
                     return false;
                 };
-                let other = &contents[at + 1..at + 1 + size];
+                let other = &contents[cursor.at - size..cursor.at];
                 if !label.eq_ignore_ascii_case(other) {
                     return false;
                 }
                 rest = next;
-                at += 1 + size;
             }
-            Ok(Head::Pointer(target)) => {
-                segment = target;
-                at = target;
-            }
+            Ok(Head::Pointer(_)) => {}
         }
     }
 }

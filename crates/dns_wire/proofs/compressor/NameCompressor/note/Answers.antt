@@ -5,7 +5,7 @@ use Rattle.dns_wire.specs.Compression.{FitsIn, noted}
 use Rattle.dns_wire.proofs.Noting.{noting_none, noting_next, noting_done, noting_past, noted_fits, noted_grows}
 use Rattle.dns_wire.proofs.Runs.{run_within}
 use Rattle.dns_wire.proofs.compressor.NameCompressor.note.Goals as goal
-use Rattle.dns_wire.proofs.compressor.NameCompressor.note.Goals.{Joined-then-size-eq0, then-size-eq0-via-then-size-eq0, then-size-eq0-via-else-size-eq0+then-size-gt63}
+use Rattle.dns_wire.proofs.compressor.NameCompressor.note.Goals.{Joined-then-size-eq0, then-size-eq0-via-then-size-eq0, then-size-eq0-via-else-size-eq0+then-size-gt-MAX_LABEL_SIZE}
 
 pub loop-at-init : goal.loop-at-init
 loop-at-init c = noting_none _ _ _ _ c.requires.fits (omega (arith, length-take c.args.start c.args.contents.now)) c.requires.run
@@ -24,7 +24,7 @@ all_noted c =
     let same : slice_index (take c.args.end c.args.contents.now) c.loop-at.at ≡ slice_index c.args.contents.now c.loop-at.at = get_or-take c.args.end c.args.contents.now c.loop-at.at 0 (omega arith) in
     noting_done _ _ _ _ _ c.loop-at.invariant (elim c.then-size-eq0.branch [
       | then-size-eq0-via-then-size-eq0 w ↦ inl (omega (arith, same))
-      | then-size-eq0-via-else-size-eq0+then-size-gt63 w ↦ inr (omega (arith, same))
+      | then-size-eq0-via-else-size-eq0+then-size-gt-MAX_LABEL_SIZE w ↦ inr (omega (arith, same))
     ])
 
 -- they fitted what stands before start in what has been written too
