@@ -4,11 +4,12 @@ use Rattle.std.specs.Prelude.{◌≡◌, ℕ, zero, suc, ◌+◌, ◌-◌, ◌*�
 use Rattle.dns_wire.specs.declared.follow.Head.{Head}
 use Rattle.dns_wire.specs.declared.follow.Head.TheVariants.{Root, Label, Pointer}
 use Rattle.dns_wire.specs.declared.follow.NameCursor.{NameCursor}
+use Rattle.dns_wire.specs.declared.sizes.TheConstants.{HEADER_SIZE, POINTER_TAG}
 use Rattle.dns_wire.specs.Names.{wire}
 
 -- what a pointer's two octets say: the 14 bits behind the two ones in front
 abbrev pub offset_of : ℕ → ℕ → ℕ
-offset_of first second = (first - 192) * 256 + second
+offset_of first second = (first - POINTER_TAG) * 256 + second
 
 -- what the pointer at a place says
 abbrev pub offset_at : List ℕ → ℕ → ℕ
@@ -26,7 +27,7 @@ offset_at contents at = offset_of (slice_index contents at) (slice_index content
 pub data Segment (contents : List ℕ) : ℕ → ℕ → List (List ℕ) → ℕ → Type 0 where
   at_root : {start at end : ℕ} {labels : List (List ℕ)} → at < length contents → slice_index contents at ≡ 0 → labels ≡ [] → end ≡ at + 1 → Segment contents start at labels end
   at_label : {start at end : ℕ} {labels others : List (List ℕ)} → 0 < slice_index contents at → slice_index contents at < 64 → at + 1 + slice_index contents at ≤ length contents → labels ≡ take (slice_index contents at) (drop (at + 1) contents) ∷ others → Segment contents start (at + 1 + slice_index contents at) others end → Segment contents start at labels end
-  at_pointer : {start at end target later : ℕ} {labels : List (List ℕ)} → 192 ≤ slice_index contents at → at + 2 ≤ length contents → offset_at contents at ≡ target + 12 → target < start → Segment contents target target labels later → end ≡ at + 2 → Segment contents start at labels end
+  at_pointer : {start at end target later : ℕ} {labels : List (List ℕ)} → POINTER_TAG ≤ slice_index contents at → at + 2 ≤ length contents → offset_at contents at ≡ target + HEADER_SIZE → target < start → Segment contents target target labels later → end ≡ at + 2 → Segment contents start at labels end
 
 -- a name of at most 255 octets is read at a place, and what stands there ends at end
 pub record NameAt (contents : List ℕ) (at : ℕ) (labels : List (List ℕ)) (end : ℕ) : Type 0 where
@@ -47,9 +48,9 @@ head_at contents start at =
     if nat_le (length contents) at then None
     else if slice_index contents at == 0 then Some Root
     else if nat_lt (slice_index contents at) 64 then (if nat_lt (length contents) (at + 1 + slice_index contents at) then None else Some (Label (slice_index contents at)))
-    else if nat_lt (slice_index contents at) 192 || nat_lt (length contents) (at + 2) then None
-    else if nat_lt (offset_at contents at) 12 || nat_le start (offset_at contents at - 12) then None
-    else Some (Pointer (offset_at contents at - 12))
+    else if nat_lt (slice_index contents at) POINTER_TAG || nat_lt (length contents) (at + 2) then None
+    else if nat_lt (offset_at contents at) HEADER_SIZE || nat_le start (offset_at contents at - HEADER_SIZE) then None
+    else Some (Pointer (offset_at contents at - HEADER_SIZE))
 
 -- what there is room for, and where it leads
 abbrev pub HeadFits : List ℕ → ℕ → ℕ → Head → Type 0

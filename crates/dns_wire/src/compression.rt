@@ -1,8 +1,9 @@
 //! What a name shares with the names before it, in other words than its definitions.
 
-ghost use Rattle.std.specs.Prelude.{◌≡◌, ◌+◌, ◌++◌, ℕ, List, Some, None, length, take};
+ghost use Rattle.std.specs.Prelude.{◌≡◌, ◌+◌, ◌*◌, ◌++◌, ℕ, List, Some, None, length, take};
 ghost use Rattle.std.specs.Int.{w16, to_be_bytes};
 ghost use Rattle.dns_wire.specs.Compression.{longest_kept, ReadsAlike, KeptSuffix, LongestKept, ArePlaces, FitsIn, press};
+ghost use Rattle.dns_wire.specs.declared.sizes.TheConstants.{HEADER_SIZE, POINTER_TAG};
 ghost use Rattle.dns_wire.specs.Names.{IsName, wire};
 
 /// What is found is the longest suffix that is the name at a kept place, ASCII case aside, and the smallest
@@ -25,7 +26,7 @@ pub fn pressed_names()
         ((front place : ℕ) → ¬ KeptSuffix contents places labels front place) → press contents places labels ≡ wire labels }
     ensures cut { (contents places : List ℕ) (labels : List (List ℕ)) (front place : ℕ) → ArePlaces places →
         LongestKept contents places labels front place →
-        press contents places labels ≡ take front (wire labels) ++ to_be_bytes w16 (49152 + 12 + place) }
+        press contents places labels ≡ take front (wire labels) ++ to_be_bytes w16 (POINTER_TAG * 256 + HEADER_SIZE + place) }
 {}
 
 /// A name that is pressed behind contents is read there, ASCII case aside, and whatever is written behind
