@@ -33,8 +33,8 @@ pub use error::{ParseError, TruncationError};
 pub use follow::{Head, NameCursor, pointer_offset, read_head};
 pub use in_message::{BuildInMessage, build_whole};
 pub use laws::{
-    added_octets, hexadecimal_text, lists_in_messages, lists_of_octets, names_follow_pointers,
-    plain_names, pointed_names, pointers_lead_back, trimmed_text,
+    added_octets, fixed_numbers, hexadecimal_text, lists_in_messages, lists_of_octets,
+    names_follow_pointers, plain_names, pointed_names, pointers_lead_back, trimmed_text,
 };
 pub use list::{ListError, split_list};
 pub use lowercase::{build_lowercase, compare_lowercase};

@@ -7,7 +7,7 @@ mod lists;
 
 use crate::{
     BuildBytes, Head, ParseBytes, ParseError, ParseMessageBytes, SplitBytes, SplitMessageBytes,
-    TruncationError, added_octets, hexadecimal_text, names_follow_pointers,
+    TruncationError, added_octets, fixed_numbers, hexadecimal_text, names_follow_pointers,
     parse_without_compression, plain_names, pointed_names, pointers_lead_back, put, read_head,
     split_without_compression, trimmed_text,
 };
@@ -37,6 +37,7 @@ fn reads_and_writes_octets(rt: HostRuntime) -> Result<(), Fail> {
     let rest = octets.build_bytes(rest)?;
     assert_eq!(rt; &*rest, b"cd.".as_slice());
     assert!(rt; put(b"abcd", rest, 0).is_err());
+    fixed_numbers();
     plain_names();
     hexadecimal_text();
     trimmed_text();
