@@ -7,7 +7,6 @@ mod as_bytes;
 mod build;
 mod builders;
 mod compression;
-mod compressor;
 mod error;
 mod follow;
 mod in_message;
@@ -18,17 +17,15 @@ mod lowercase;
 mod memory;
 mod outside;
 mod parse;
-mod press;
 mod sizes;
-mod suffix;
 mod text;
-mod turn;
 
 pub use adapters::{ReadSource, WriteSink};
 pub use as_bytes::AsBytes;
 pub use build::{BuildBytes, put};
-pub use compression::{longest_suffixes, pressed_names, pressed_names_are_read};
-pub use compressor::NameCompressor;
+pub use compression::{
+    NameCompressor, longest_suffixes, pressed_names, pressed_names_are_read, put_name,
+};
 pub use error::{ParseError, TruncationError};
 pub use follow::{Head, NameCursor, pointer_offset, read_head};
 pub use in_message::{BuildInMessage, build_whole};
@@ -44,7 +41,6 @@ pub use parse::{
     ParseBytes, ParseMessageBytes, SplitBytes, SplitMessageBytes, parse_without_compression,
     split_without_compression,
 };
-pub use press::put_name;
 pub use sizes::{HEADER_SIZE, LAST_PLACE, MAX_LABEL_SIZE, MAX_PLACES, POINTER_TAG};
 
 #[cfg(test)]
