@@ -82,8 +82,6 @@ impl<'a> Label<'a> {
 
 /// The length octet and the contents.
 impl AsBytes for Label<'_> {
-    ghost bytes = { λ v. label_wire (contents_of v.slice.now) };
-
     fn as_bytes(&self) -> &[u8] {
         self.as_wire()
     }

@@ -82,8 +82,6 @@ impl<'a> Name<'a> {
 }
 
 impl AsBytes for Name<'_> {
-    ghost bytes = { λ v. wire (labels_of v.slice.now) };
-
     fn as_bytes(&self) -> &[u8] {
         Name::as_bytes(self)
     }

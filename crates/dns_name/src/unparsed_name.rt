@@ -87,8 +87,6 @@ impl<'a> UnparsedName<'a> {
 }
 
 impl AsBytes for UnparsedName<'_> {
-    ghost bytes = { λ v. unparsed_wire (unparsed_of v.slice.now) };
-
     fn as_bytes(&self) -> &[u8] {
         UnparsedName::as_bytes(self)
     }

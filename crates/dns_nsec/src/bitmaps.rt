@@ -104,8 +104,6 @@ impl<'a> ParseBytes<'a> for TypeBitmaps<'a> {
 }
 
 impl AsBytes for TypeBitmaps<'_> {
-    ghost bytes = { λ v. v.slice.now };
-
     fn as_bytes(&self) -> &[u8] {
         self.slice
     }

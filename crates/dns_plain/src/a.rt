@@ -31,8 +31,6 @@ pub struct A {
 }
 
 impl AsBytes for A {
-    ghost bytes = { λ v. v.octets };
-
     fn as_bytes(&self) -> &[u8] {
         &self.octets
     }

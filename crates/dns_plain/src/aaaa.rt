@@ -31,8 +31,6 @@ pub struct Aaaa {
 }
 
 impl AsBytes for Aaaa {
-    ghost bytes = { λ v. v.octets };
-
     fn as_bytes(&self) -> &[u8] {
         &self.octets
     }

@@ -52,8 +52,6 @@ impl<'a> Txt<'a> {
 }
 
 impl AsBytes for Txt<'_> {
-    ghost bytes = { λ v. v.slice.now };
-
     fn as_bytes(&self) -> &[u8] {
         self.slice
     }

@@ -71,8 +71,6 @@ impl<'a> ParseRecordData<'a> for UnparsedRecordData<'a> {
 }
 
 impl AsBytes for UnparsedRecordData<'_> {
-    ghost bytes = { λ v. v.octets.now };
-
     fn as_bytes(&self) -> &[u8] {
         self.octets()
     }

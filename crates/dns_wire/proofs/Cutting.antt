@@ -1,5 +1,5 @@
 -- A name that is written in a message: labels, and then the root or a pointer.
-use Rattle.std.proofs.Common.{◌≡◌, ℕ, ◌+◌, ◌<◌, ◌≤◌, List, [], ◌∷◌, ◌++◌, length, get_or, take, drop, Option, Some, None, refl, sym, ap, subst, ◌∙◌, append_assoc, arith, add-zero, Ok, Err}
+use Rattle.std.proofs.Common.{◌≡◌, ℕ, ◌+◌, ◌*◌, ◌<◌, ◌≤◌, List, [], ◌∷◌, ◌++◌, length, get_or, take, drop, Option, Some, None, refl, sym, ap, subst, ◌∙◌, append_assoc, arith, add-zero, Ok, Err}
 use Rattle.std.specs.Prelude.{slice_index, Contains, ⊤, IfSome}
 use Rattle.std.specs.Int.{w16, to_be_bytes}
 use Rattle.std.specs.List.{AllByRecursion}
@@ -11,6 +11,7 @@ use Rattle.dns_wire.specs.Compression.{Run, FitsIn, Grows, longest_kept, KeptSuf
 use Rattle.dns_wire.specs.Compression.Run.{run_root, run_label, run_pointer}
 use Rattle.dns_wire.specs.InMessage.{BuildsIn}
 use Rattle.dns_wire.specs.Names.{heads, wire, IsLabel, IsName}
+use Rattle.dns_wire.specs.declared.sizes.TheConstants.{HEADER_SIZE, LAST_PLACE, POINTER_TAG}
 use Rattle.dns_wire.proofs.Runs.{runs_before}
 use Rattle.dns_wire.proofs.Standing.{stands_front, stands_long}
 use Rattle.dns_wire.proofs.Suffixes.{known_is}
@@ -60,9 +61,9 @@ module _ (contents places : List ℕ) (first : ℕ) where
   pub run_at_root : (at : ℕ) → drop at contents ≡ 0 ∷ [] → Run contents places first at
   run_at_root at e = let o = octet_at contents at 0 [] e in run_root o.within o.is
 
-  pub run_at_pointer : (at place : ℕ) → place ≤ 16371 → drop at contents ≡ to_be_bytes w16 (49152 + 12 + place) → Contains places place → place < first → Run contents places first at
+  pub run_at_pointer : (at place : ℕ) → place ≤ LAST_PLACE → drop at contents ≡ to_be_bytes w16 (POINTER_TAG * 256 + HEADER_SIZE + place) → Contains places place → place < first → Run contents places first at
   run_at_pointer at place low e kept before =
-      let n : ℕ = 49152 + 12 + place in
+      let n : ℕ = POINTER_TAG * 256 + HEADER_SIZE + place in
       let o = octet_at contents at _ _ e in
       let p = octet_at contents (at + 1) _ _ o.later in
       run_pointer place (rw o.is (omega arith)) (omega (arith, p.within)) (rw (o.is, p.is) (omega arith)) kept before
@@ -70,8 +71,8 @@ module _ (contents places : List ℕ) (first : ℕ) where
 -- ---- a kept place
 
 module _ (contents places : List ℕ) (fits : FitsIn places contents) (place : ℕ) (kept : Contains places place) where
-  pub kept_low : place ≤ 16371
-  kept_low = All-contains (λ p. p ≤ 16371) places place (All-from_recursion (λ p. p ≤ 16371) places fits.places_are.low) kept
+  pub kept_low : place ≤ LAST_PLACE
+  kept_low = All-contains (λ p. p ≤ LAST_PLACE) places place (All-from_recursion (λ p. p ≤ LAST_PLACE) places fits.places_are.low) kept
 
   pub kept_before : place < length contents
   kept_before = All-contains (λ p. p < length contents) places place (All-from_recursion (λ p. p < length contents) places (runs_before contents places places fits.runs)) kept
@@ -85,16 +86,16 @@ sizes_front (label ∷ before) suffix sizes = (sizes.0, sizes_front before suffi
 pub heads_front : (before suffix : List (List ℕ)) (n : ℕ) → n ≡ length (heads before) → take n (wire (before ++ suffix)) ≡ heads before
 heads_front before suffix n e = ap (take n) (ap (λ (l : List ℕ). l ++ 0 ∷ []) (heads-append before suffix) ∙ append_assoc (heads before) (heads suffix) (0 ∷ [])) ∙ take_at (heads before) (heads suffix ++ 0 ∷ []) n (sym e)
 
-pub cut_is : (contents places : List ℕ) (labels : List (List ℕ)) (front place : ℕ) (cut : KeptSuffix contents places labels front place) → cut_at (wire labels) (Some (front, place)) ≡ heads cut.before ++ to_be_bytes w16 (49152 + 12 + place)
+pub cut_is : (contents places : List ℕ) (labels : List (List ℕ)) (front place : ℕ) (cut : KeptSuffix contents places labels front place) → cut_at (wire labels) (Some (front, place)) ≡ heads cut.before ++ to_be_bytes w16 (POINTER_TAG * 256 + HEADER_SIZE + place)
 cut_is contents places labels front place cut =
-    ap (λ (l : List ℕ). l ++ to_be_bytes w16 (49152 + 12 + place)) (ap (λ (l : List (List ℕ)). take front (wire l)) cut.labels_is ∙ heads_front cut.before cut.suffix front cut.front_is)
+    ap (λ (l : List ℕ). l ++ to_be_bytes w16 (POINTER_TAG * 256 + HEADER_SIZE + place)) (ap (λ (l : List (List ℕ)). take front (wire l)) cut.labels_is ∙ heads_front cut.before cut.suffix front cut.front_is)
 
 pub behind : (contents front tail : List ℕ) → drop (length contents + length front) (contents ++ (front ++ tail)) ≡ tail
 behind contents front tail = drop-append-add contents (front ++ tail) (length front) ∙ drop_at front tail (length front) refl
 
 module _ (contents places : List ℕ) (labels : List (List ℕ)) (is : IsName labels) (fits : FitsIn places contents) where
   -- what the builder asks of a cut
-  pub cut_fits : (known : Option (ℕ × ℕ)) → longest_kept contents places 0 labels ≡ known → IfSome known (λ k. (k.0 ≤ length (wire labels)) × (k.1 ≤ 16371))
+  pub cut_fits : (known : Option (ℕ × ℕ)) → longest_kept contents places 0 labels ≡ known → IfSome known (λ k. (k.0 ≤ length (wire labels)) × (k.1 ≤ LAST_PLACE))
   cut_fits None e = tt
   cut_fits (Some (front, place)) e =
       let c = known_is contents places labels front place e in
@@ -108,7 +109,7 @@ module _ (contents places : List ℕ) (labels : List (List ℕ)) (is : IsName la
       (run_at_root all places (length contents) (length contents + length (heads labels)) (behind contents (heads labels) (0 ∷ [])))
   name_run_by (Some (front, place)) e =
       let c = known_is contents places labels front place e in
-      let pointer : List ℕ = to_be_bytes w16 (49152 + 12 + place) in
+      let pointer : List ℕ = to_be_bytes w16 (POINTER_TAG * 256 + HEADER_SIZE + place) in
       let all : List ℕ = contents ++ (heads c.before ++ pointer) in
       let here : drop (length contents) all ≡ heads c.before ++ pointer = drop_at contents (heads c.before ++ pointer) (length contents) refl in
       let sizes : AllByRecursion IsLabel c.before = sizes_front c.before c.suffix (subst (AllByRecursion IsLabel) c.labels_is is.sizes) in

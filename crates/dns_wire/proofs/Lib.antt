@@ -23,6 +23,7 @@ pub mod Standing
 pub mod Successive
 pub mod Suffixes
 pub mod Told
+pub mod Trimmed
 pub mod Turning
 pub mod Utf8
 pub mod Walk

@@ -97,14 +97,13 @@ module _ (contents : List ℕ) (labels : List (List ℕ)) (place : ℕ) (rest : 
       ∙ ap (λ (l : List (List ℕ)). reads_as l (joined (take size (drop (at + 1) contents) ∷ []) None (segment_within (pred m.steps) contents segment (at + 1 + size)))) first.labels
       ∙ both label (take size (drop (at + 1) contents)) (labels_of next) (segment_within (pred m.steps) contents segment (at + 1 + size))
 
-  pub matches_next : (size : ℕ) (label next : List ℕ) → head_at contents segment at ≡ Some (Label size) → FirstOf rest label next → str_eq_ignore_ascii_case label (take size (drop (at + 1) contents)) ≡ true → Matches contents labels place next segment (at + (1 + size))
+  pub matches_next : (size : ℕ) (label next : List ℕ) → head_at contents segment at ≡ Some (Label size) → FirstOf rest label next → str_eq_ignore_ascii_case label (take size (drop (at + 1) contents)) ≡ true → Matches contents labels place next segment (at + 1 + size)
   matches_next size label next is first equal =
-      let place_is : at + 1 + size ≡ at + (1 + size) = omega arith in
       record {
         whole = first.whole;
         steps = pred m.steps;
         room = omega (arith, m.room, ap length first.parts, length-append label next, pred_less m.steps (omega (arith, m.room)));
-        same = rw (← place_is) (matches_label size label next is first ∙ ap (λ (b : Bool). b && reads_as (labels_of next) (segment_within (pred m.steps) contents segment (at + 1 + size))) equal);
+        same = (matches_label size label next is first ∙ ap (λ (b : Bool). b && reads_as (labels_of next) (segment_within (pred m.steps) contents segment (at + 1 + size))) equal);
       }
 
   pub matches_other : (size : ℕ) (label next : List ℕ) → head_at contents segment at ≡ Some (Label size) → FirstOf rest label next → str_eq_ignore_ascii_case label (take size (drop (at + 1) contents)) ≡ false → false ≡ stands_at contents labels place
@@ -124,8 +123,11 @@ module _ (contents : List ℕ) (labels : List (List ℕ)) (place : ℕ) (rest : 
         through (Some found) = refl
 
 -- so many octets
-pub octets_behind : (contents : List ℕ) (at size : ℕ) → take (at + 1 + size - (at + 1)) (drop (at + 1) contents) ≡ take size (drop (at + 1) contents)
-octets_behind contents at size = ap (λ (n : ℕ). take n (drop (at + 1) contents)) (omega arith)
+pub octets_behind : (contents : List ℕ) (at size next : ℕ) → next ≡ at + 1 + size → take (next - (next - size)) (drop (next - size) contents) ≡ take size (drop (at + 1) contents)
+octets_behind contents at size next e =
+    let long : next - (next - size) ≡ size = omega arith in
+    let front : next - size ≡ at + 1 = omega arith in
+    rw (long, front) refl
 
 -- the test of two labels is the test of the definition
 pub same_text : (a b : List ℕ) (r : Bool) → IsTrue r ↔ (map to_ascii_lowercase a ≡ map to_ascii_lowercase b) → str_eq_ignore_ascii_case a b ≡ r
@@ -179,14 +181,13 @@ module _ (contents : List ℕ) (place most seen segment at : ℕ) (small : most 
   pub counting_full : (size : ℕ) → head_at contents segment at ≡ Some (Label size) → seen ≡ most → None ≡ count_at contents place most
   counting_full size is all = full all (segment_within (pred m.steps) contents segment (at + 1 + size)) ∙ sym (count_head (Some (Label size)) is ∙ past (take size (drop (at + 1) contents)) (segment_within (pred m.steps) contents segment (at + 1 + size)))
 
-  pub counting_label : (size : ℕ) → head_at contents segment at ≡ Some (Label size) → (seen ≡ most → ⊥) → Counting contents place most (seen + 1) segment (at + (1 + size))
+  pub counting_label : (size : ℕ) → head_at contents segment at ≡ Some (Label size) → (seen ≡ most → ⊥) → Counting contents place most (seen + 1) segment (at + 1 + size)
   counting_label size is more =
-      let place_is : at + 1 + size ≡ at + (1 + size) = omega arith in
       record {
         steps = pred m.steps;
         few = omega (arith, m.few);
         room = omega (arith, m.room, pred_less m.steps (omega (arith, m.room, m.few)));
-        same = rw (← place_is) (count_head (Some (Label size)) is ∙ past (take size (drop (at + 1) contents)) (segment_within (pred m.steps) contents segment (at + 1 + size)));
+        same = (count_head (Some (Label size)) is ∙ past (take size (drop (at + 1) contents)) (segment_within (pred m.steps) contents segment (at + 1 + size)));
       }
 
   pub counting_pointer : (target : ℕ) → head_at contents segment at ≡ Some (Pointer target) → target < segment → Counting contents place most seen target target

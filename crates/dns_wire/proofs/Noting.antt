@@ -6,6 +6,7 @@ use Rattle.std.proofs.lemmas.Bool.Decides.{nat_tests}
 use Rattle.std.proofs.lemmas.List.{length-append, length-take, take-append-le, take_all, take-append-drop, append-nil}
 use Rattle.std.proofs.Math.Seq.{take-append-add}
 use Rattle.dns_wire.specs.Compression.{Run, RunAt, ArePlaces, FitsIn, Grows, is_label_size, label_places, is_within_reach, with_more, noted}
+use Rattle.dns_wire.specs.declared.sizes.TheConstants.{LAST_PLACE}
 use Rattle.dns_wire.proofs.Rising.{Rises, all_take, all_append, all_map, rises_take, places_more}
 use Rattle.dns_wire.proofs.Runs.{run_within, run_next, run_wider, runs_wider, runs_before, fits_more}
 
@@ -14,7 +15,7 @@ use Rattle.dns_wire.proofs.Runs.{run_within, run_next, run_wider, runs_wider, ru
 -- a place from which labels stand up to the end of a run
 record LabelPlace (contents places : List ℕ) (first at : ℕ) : Type 0 where
   behind : first ≤ at
-  low : at ≤ 16371
+  low : at ≤ LAST_PLACE
   labelled : (0 < slice_index contents at) × (slice_index contents at < 64)
   run : Run contents places first at
 
@@ -68,12 +69,12 @@ more_none now few = taken now [] few ∙ ap (λ (l : List ℕ). now ++ l) (nothi
   nothing zero = refl
   nothing (suc n) = refl
 
-pub more_low : (now : List ℕ) (place : ℕ) → length now < 128 → place ≤ 16371 → now ++ place ∷ [] ≡ with_more now (place ∷ [])
+pub more_low : (now : List ℕ) (place : ℕ) → length now < 128 → place ≤ LAST_PLACE → now ++ place ∷ [] ≡ with_more now (place ∷ [])
 more_low now place few low =
     let test : is_within_reach place ≡ true = grind (arith, nat_tests) in
     sym (ap (λ (l : List ℕ). take 128 (now ++ l)) (filter_step place [] true test) ∙ take_all 128 (now ++ place ∷ []) (omega (arith, length-append now (place ∷ []))))
 
-pub more_high : (now : List ℕ) (place : ℕ) → length now ≤ 128 → 16371 < place → now ≡ with_more now (place ∷ [])
+pub more_high : (now : List ℕ) (place : ℕ) → length now ≤ 128 → LAST_PLACE < place → now ≡ with_more now (place ∷ [])
 more_high now place few high =
     let test : is_within_reach place ≡ false = grind (arith, nat_tests) in
     sym (ap (λ (l : List ℕ). take 128 (now ++ l)) (filter_step place [] false test) ∙ more_none now few)
@@ -81,7 +82,7 @@ more_high now place few high =
 pub more_full : (now others : List ℕ) → length now ≡ 128 → now ≡ with_more now others
 more_full now others full = sym (take-append-le 128 now (filter is_within_reach others) (omega arith) ∙ take_all 128 now (omega arith))
 
-pub keeps_places : (now : List ℕ) (place : ℕ) → ArePlaces now → AllByRecursion (λ kept. kept < place) now → length now < 128 → place ≤ 16371 → ArePlaces (now ++ place ∷ [])
+pub keeps_places : (now : List ℕ) (place : ℕ) → ArePlaces now → AllByRecursion (λ kept. kept < place) now → length now < 128 → place ≤ LAST_PLACE → ArePlaces (now ++ place ∷ [])
 keeps_places now place are below few low = places_more now (place ∷ []) place are below (omega arith, tt) (low, tt) (omega (arith, length-append now (place ∷ [])))
 
 filter_both : (at : ℕ) (others : List ℕ) → filter is_within_reach (at ∷ others) ≡ filter is_within_reach (at ∷ []) ++ filter is_within_reach others
@@ -182,7 +183,7 @@ module _ (places written : List ℕ) (start : ℕ) (fits : FitsIn places (take s
   pub noted_fits : FitsIn (noted places written start) written
   noted_fits =
       subst (λ (all : List ℕ). FitsIn all written) (sym noted_is) (record {
-        places_are = places_more places added start fits.places_are below (rises_take start (128 - length places) found these.rising) (all_map (LabelPlace written places start) (λ place. place ≤ 16371) added (λ p h. h.low) each) (omega (arith, length-append places added, length-take (128 - length places) found, fits.places_are.few));
+        places_are = places_more places added start fits.places_are below (rises_take start (128 - length places) found these.rising) (all_map (LabelPlace written places start) (λ place. place ≤ LAST_PLACE) added (λ p h. h.low) each) (omega (arith, length-append places added, length-take (128 - length places) found, fits.places_are.few));
         runs = all_append (RunAt written (places ++ added)) places added (runs_wider written places places added whole.runs) (all_map (LabelPlace written places start) (RunAt written (places ++ added)) added (λ p h. record { labelled = h.labelled; run = run_wider written places added start p h.behind h.run }) each);
       })
 

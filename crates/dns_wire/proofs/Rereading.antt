@@ -1,5 +1,5 @@
 -- A name that was pressed is read again.
-use Rattle.std.proofs.Common.{◌≡◌, ℕ, ◌+◌, ◌≤◌, List, [], ◌∷◌, ◌++◌, length, drop, Option, Some, None, refl, sym, ap, subst, ◌∙◌, append_assoc, arith, add-zero}
+use Rattle.std.proofs.Common.{◌≡◌, ℕ, ◌+◌, ◌*◌, ◌≤◌, List, [], ◌∷◌, ◌++◌, length, drop, Option, Some, None, refl, sym, ap, subst, ◌∙◌, append_assoc, arith, add-zero}
 use Rattle.std.specs.Int.{w16, to_be_bytes}
 use Rattle.std.specs.List.{AllByRecursion}
 use Rattle.std.proofs.lemmas.List.{drop_at, length-append, append-nil, map-append}
@@ -8,6 +8,7 @@ use Rattle.dns_wire.specs.Compression.{FitsIn, longest_kept, cut_at, press, Read
 use Rattle.dns_wire.specs.Names.{heads, wire, IsLabel, IsName, lowered}
 use Rattle.dns_wire.specs.Pointers.{Segment}
 use Rattle.dns_wire.specs.Pointers.Segment.{at_root, at_label, at_pointer}
+use Rattle.dns_wire.specs.declared.sizes.TheConstants.{HEADER_SIZE, LAST_PLACE, POINTER_TAG}
 use Rattle.dns_wire.proofs.Alike.{alike_long, lowered_alike}
 use Rattle.dns_wire.proofs.Cutting.{octet_at, label_at, cut_is, behind, sizes_front, kept_low, kept_before}
 use Rattle.dns_wire.proofs.Following.{segment_more, name_more}
@@ -43,11 +44,11 @@ module _ (contents places : List ℕ) (labels : List (List ℕ)) (is : IsName la
   written_by (Some (front, place)) e =
       let c = known_is contents places labels front place e in
       let there : List (List ℕ) = c.reads.there in
-      let pointer : List ℕ = to_be_bytes w16 (49152 + 12 + place) in
+      let pointer : List ℕ = to_be_bytes w16 (POINTER_TAG * 256 + HEADER_SIZE + place) in
       let all : List ℕ = contents ++ (heads c.before ++ pointer) in
       let end : ℕ = length contents + length (heads c.before ++ pointer) in
       let at : ℕ = length contents + length (heads c.before) in
-      let low : place ≤ 16371 = kept_low contents places fits place c.kept in
+      let low : place ≤ LAST_PLACE = kept_low contents places fits place c.kept in
       let o = octet_at all at _ _ (behind contents (heads c.before) pointer) in
       let p = octet_at all (at + 1) _ _ o.later in
       let sizes : AllByRecursion IsLabel c.before = sizes_front c.before c.suffix (subst (AllByRecursion IsLabel) c.labels_is is.sizes) in

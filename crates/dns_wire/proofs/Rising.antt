@@ -4,6 +4,7 @@ use Rattle.std.specs.List.{AllByRecursion}
 use Rattle.std.specs.List.Sorted.{IsStrictlyIncreasing}
 use Rattle.std.proofs.lemmas.List.{length-append, take-append-drop}
 use Rattle.dns_wire.specs.Compression.{ArePlaces}
+use Rattle.dns_wire.specs.declared.sizes.TheConstants.{LAST_PLACE}
 
 -- ---- what holds of each place
 
@@ -82,16 +83,16 @@ places_front front back are =
     record {
       rising = rises_strict 0 front (rises_front 0 front back (strict_rises (front ++ back) are.rising));
       few = omega (arith, length-append front back, are.few);
-      low = all_front (λ place. place ≤ 16371) front back are.low;
+      low = all_front (λ place. place ≤ LAST_PLACE) front back are.low;
     }
 
 pub places_take : (n : ℕ) (places : List ℕ) → ArePlaces places → ArePlaces (take n places)
 places_take n places are = places_front (take n places) (drop n places) (subst ArePlaces (sym (take-append-drop n places)) are)
 
-pub places_more : (places added : List ℕ) (start : ℕ) → ArePlaces places → AllByRecursion (λ place. place < start) places → Rises start added → AllByRecursion (λ place. place ≤ 16371) added → length (places ++ added) ≤ 128 → ArePlaces (places ++ added)
+pub places_more : (places added : List ℕ) (start : ℕ) → ArePlaces places → AllByRecursion (λ place. place < start) places → Rises start added → AllByRecursion (λ place. place ≤ LAST_PLACE) added → length (places ++ added) ≤ 128 → ArePlaces (places ++ added)
 places_more places added start are below rises low few =
     record {
       rising = rises_strict 0 (places ++ added) (rises_append 0 start places added (omega arith) (strict_rises places are.rising) below rises);
       few = few;
-      low = all_append (λ place. place ≤ 16371) places added are.low low;
+      low = all_append (λ place. place ≤ LAST_PLACE) places added are.low low;
     }

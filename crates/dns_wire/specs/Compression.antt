@@ -1,11 +1,12 @@
 -- Names that are written once in a message and pointed to from then on (RFC 1035 section 4.1.4). Contents are the octets
 -- behind the header, up to where the next name is written. Places are those of labels in them, and are kept in order.
-use Rattle.std.specs.Prelude.{◌≡◌, ℕ, zero, suc, ◌+◌, ◌-◌, ◌<◌, ◌≤◌, List, [], ◌∷◌, ◌++◌, length, take, filter, find, slice_index, Contains, Bool, false, ◌&&◌, Option, Some, None, nat_le, nat_lt, if◌then◌else◌}
+use Rattle.std.specs.Prelude.{◌≡◌, ℕ, zero, suc, ◌+◌, ◌*◌, ◌-◌, ◌<◌, ◌≤◌, List, [], ◌∷◌, ◌++◌, length, take, filter, find, slice_index, Contains, Bool, false, ◌&&◌, Option, Some, None, nat_le, nat_lt, if◌then◌else◌}
 use Rattle.std.specs.Int.{w16, to_be_bytes}
 use Rattle.std.specs.List.{AllByRecursion}
 use Rattle.std.specs.List.Sorted.{IsStrictlyIncreasing}
 use Rattle.std.specs.Cmp.Lexicographic.{pointwise}
 use Rattle.std.specs.Str.{str_eq_ignore_ascii_case}
+use Rattle.dns_wire.specs.declared.sizes.TheConstants.{HEADER_SIZE, LAST_PLACE, MAX_PLACES, POINTER_TAG}
 use Rattle.dns_wire.specs.Names.{heads, wire, lowered}
 use Rattle.dns_wire.specs.Pointers.{offset_at, NameAt, name_at}
 
@@ -66,7 +67,7 @@ pub record LongestKept (contents places : List ℕ) (labels : List (List ℕ)) (
 -- the name's octets up to the suffix, and a pointer to its place, which counts the header's 12 octets too
 abbrev pub cut_at : List ℕ → Option (ℕ × ℕ) → List ℕ
 cut_at octets None = octets
-cut_at octets (Some (front, place)) = take front octets ++ to_be_bytes w16 (49152 + 12 + place)
+cut_at octets (Some (front, place)) = take front octets ++ to_be_bytes w16 (POINTER_TAG * 256 + HEADER_SIZE + place)
 
 -- a name's octets where names at these places of the contents are known
 abbrev pub press : List ℕ → List ℕ → List (List ℕ) → List ℕ
@@ -86,11 +87,11 @@ label_places (suc most) contents at =
 
 -- a pointer has 14 bits, which count the header's 12 octets too
 abbrev pub is_within_reach : ℕ → Bool
-is_within_reach place = nat_le place 16371
+is_within_reach place = nat_le place LAST_PLACE
 
 -- these places, and more of them within reach while there is room for 128
 abbrev pub with_more : List ℕ → List ℕ → List ℕ
-with_more places more = take 128 (places ++ filter is_within_reach more)
+with_more places more = take MAX_PLACES (places ++ filter is_within_reach more)
 
 -- the places afterwards, where a name has been written from start to the end of the contents
 abbrev pub noted : List ℕ → List ℕ → ℕ → List ℕ
@@ -113,7 +114,7 @@ name_presses labels contents places = (
 pub data Run (contents places : List ℕ) (first : ℕ) : ℕ → Type 0 where
   run_root : {at : ℕ} → at < length contents → slice_index contents at ≡ 0 → Run contents places first at
   run_label : {at : ℕ} → 0 < slice_index contents at → slice_index contents at < 64 → at + 1 + slice_index contents at ≤ length contents → Run contents places first (at + 1 + slice_index contents at) → Run contents places first at
-  run_pointer : {at : ℕ} (target : ℕ) → 192 ≤ slice_index contents at → at + 2 ≤ length contents → offset_at contents at ≡ target + 12 → Contains places target → target < first → Run contents places first at
+  run_pointer : {at : ℕ} (target : ℕ) → POINTER_TAG ≤ slice_index contents at → at + 2 ≤ length contents → offset_at contents at ≡ target + HEADER_SIZE → Contains places target → target < first → Run contents places first at
 
 -- a label stands here, others behind it, and at their end the root or a pointer to an earlier kept place
 pub record RunAt (contents places : List ℕ) (at : ℕ) : Type 0 where
@@ -123,8 +124,8 @@ pub record RunAt (contents places : List ℕ) (at : ℕ) : Type 0 where
 -- at most 128 rising places, to which a pointer can lead
 pub record ArePlaces (places : List ℕ) : Type 0 where
   pub rising : IsStrictlyIncreasing places
-  pub few : length places ≤ 128
-  pub low : AllByRecursion (λ place. place ≤ 16371) places
+  pub few : length places ≤ MAX_PLACES
+  pub low : AllByRecursion (λ place. place ≤ LAST_PLACE) places
 
 -- the places lead to names in the contents
 pub record FitsIn (places contents : List ℕ) : Type 0 where

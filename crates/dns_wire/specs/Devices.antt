@@ -10,11 +10,11 @@ pub record Supply : Type 0 where
   pub calls : ℕ
   pub faults : ℕ
 
--- the octets written, how many more the buffer can take, the most octets of one write, the numbers of the calls that
--- fail, the flag, how many calls there were, and how many of them failed
+-- the octets written, those of the buffer behind them, which are free, the most octets of one write, the numbers of the
+-- calls that fail, the flag, how many calls there were, and how many of them failed
 pub record Store : Type 0 where
   pub written : List ℕ
-  pub room : ℕ
+  pub free : List ℕ
   pub piece : ℕ
   pub failing : List ℕ
   pub flushed : Bool

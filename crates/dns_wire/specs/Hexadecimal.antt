@@ -1,5 +1,6 @@
 -- Octets as hexadecimal text (RFC 4648 section 8).
-use Rattle.std.specs.Prelude.{◌≡◌, ℕ, ◌+◌, ◌-◌, ◌*◌, ◌/◌, ◌%◌, ◌==◌, ◌||◌, ◌&&◌, nat_le, Bool, if◌then◌else◌, List, [], ◌∷◌, ◌++◌, Option, Some, None, codes, slice_index, flat_map}
+use Rattle.std.specs.Prelude.{◌≡◌, ◌⊎◌, ℕ, ◌+◌, ◌-◌, ◌*◌, ◌/◌, ◌%◌, ◌==◌, ◌||◌, ◌&&◌, nat_le, Bool, if◌then◌else◌, List, [], ◌∷◌, ◌++◌, Option, Some, None, codes, slice_index, flat_map}
+use Rattle.std.specs.List.{AllByRecursion}
 
 -- ---- reading
 
@@ -7,12 +8,24 @@ use Rattle.std.specs.Prelude.{◌≡◌, ℕ, ◌+◌, ◌-◌, ◌*◌, ◌/◌
 abbrev pub is_blank : ℕ → Bool
 is_blank b = b == 32 || b == 9 || b == 13 || b == 10
 
+-- the same in words
+abbrev pub IsBlank : ℕ → Type 0
+IsBlank b = (b ≡ 32) ⊎ ((b ≡ 9) ⊎ ((b ≡ 13) ⊎ (b ≡ 10)))
+
+-- A text without the blanks at its end: what is left is its front, all behind that is blanks, and what is left is empty
+-- or ends in an octet that is none.
+pub record Trimmed (text left : List ℕ) : Type 0 where
+  pub blanks : List ℕ
+  pub text_is : text ≡ left ++ blanks
+  pub blank : AllByRecursion IsBlank blanks
+  pub solid : (before : List ℕ) (last : ℕ) → left ≡ before ++ last ∷ [] → ¬ IsBlank last
+
 -- an octet and the text behind it, which has no blank at its end
 abbrev pub trim_cons : ℕ → List ℕ → List ℕ
 trim_cons b [] = if is_blank b then [] else b ∷ []
 trim_cons b (c ∷ rest) = b ∷ c ∷ rest
 
--- a text without the blanks at its end
+-- a text without the blanks at its end; `trimmed_text` says it in other words
 unfoldable pub trim : List ℕ → List ℕ
 trim [] = []
 trim (b ∷ rest) = trim_cons b (trim rest)

@@ -1,14 +1,14 @@
 -- The outside: octets left to read, octets written, and faults.
-use Rattle.std.specs.Prelude.{◌≡◌, ℕ, ◌+◌, ◌-◌, ◌^◌, ◌≤◌, List, [], length, take, Bool, false, min, nat_lt, if◌then◌else◌, OnOk, OnErr, IfSome, MatchResult, Option, Some, None, Result}
+use Rattle.std.specs.Prelude.{◌≡◌, ℕ, ◌+◌, ◌-◌, ◌^◌, ◌≤◌, List, [], length, take, drop, Bool, false, min, nat_lt, if◌then◌else◌, OnOk, OnErr, IfSome, MatchResult, Option, Some, None, Result}
 use Rattle.std.specs.Io.KnownBytes.{Appends}
 
 -- ---- faults
 
--- a count of faults, which stops at its last value, has counted one
+-- a count of faults has counted one: it is one more than before, or stands at its last value, where it stops
 abbrev pub Rose : ℕ → ℕ → Type 0
-Rose before now = min (before + 1) (2 ^ 64 - 1) ≤ now
+Rose before now = now ≡ min (before + 1) (2 ^ 64 - 1)
 
--- a count never falls, stays at `Ok`, and rises where the call fails
+-- a count never falls, stays at `Ok`, and counts one where the call fails
 pub record HasCause {T E : Type 0} (before now : ℕ) (result : Result T E) : Type 0 where
   pub later : before ≤ now
   pub steady : OnOk result (now ≡ before)
@@ -30,6 +30,12 @@ KeepsFlag (Some old) new = new ≡ Some old
 abbrev pub WriteFlag : {E : Type 0} → Option Bool → Option Bool → Result ℕ E → Type 0
 WriteFlag None new result = Unit {0}
 WriteFlag (Some old) new result = MatchResult result (λ n. new ≡ Some (if nat_lt 0 n then false else old)) (λ _. new ≡ Some old)
+
+-- ---- where octets are read to
+
+-- only the octets that were read are put into the buffer, and nothing is where the call fails
+abbrev pub KeepsBehind : {E : Type 0} → List ℕ → List ℕ → Result ℕ E → Type 0
+KeepsBehind old new result = MatchResult result (λ n. drop n new ≡ drop n old) (λ _. new ≡ old)
 
 -- ---- whole texts
 

@@ -3,11 +3,17 @@
 use Rattle.std.specs.Prelude.{◌≡◌, ℕ, zero, suc, ◌+◌, ◌-◌, ◌*◌, ◌<◌, ◌≤◌, List, [], ◌∷◌, ◌++◌, length, take, drop, slice_index, Option, Some, None, unwrap_or, nat_lt, nat_le, ◌==◌, ◌||◌, if◌then◌else◌}
 use Rattle.dns_wire.specs.declared.follow.Head.{Head}
 use Rattle.dns_wire.specs.declared.follow.Head.TheVariants.{Root, Label, Pointer}
+use Rattle.dns_wire.specs.declared.follow.NameCursor.{NameCursor}
+use Rattle.dns_wire.specs.declared.sizes.TheConstants.{HEADER_SIZE, POINTER_TAG}
 use Rattle.dns_wire.specs.Names.{wire}
 
 -- what a pointer's two octets say: the 14 bits behind the two ones in front
+abbrev pub offset_of : ℕ → ℕ → ℕ
+offset_of first second = (first - POINTER_TAG) * 256 + second
+
+-- what the pointer at a place says
 abbrev pub offset_at : List ℕ → ℕ → ℕ
-offset_at contents at = (slice_index contents at - 192) * 256 + slice_index contents (at + 1)
+offset_at contents at = offset_of (slice_index contents at) (slice_index contents (at + 1))
 
 -- ---- as a relation
 
@@ -21,7 +27,7 @@ offset_at contents at = (slice_index contents at - 192) * 256 + slice_index cont
 pub data Segment (contents : List ℕ) : ℕ → ℕ → List (List ℕ) → ℕ → Type 0 where
   at_root : {start at end : ℕ} {labels : List (List ℕ)} → at < length contents → slice_index contents at ≡ 0 → labels ≡ [] → end ≡ at + 1 → Segment contents start at labels end
   at_label : {start at end : ℕ} {labels others : List (List ℕ)} → 0 < slice_index contents at → slice_index contents at < 64 → at + 1 + slice_index contents at ≤ length contents → labels ≡ take (slice_index contents at) (drop (at + 1) contents) ∷ others → Segment contents start (at + 1 + slice_index contents at) others end → Segment contents start at labels end
-  at_pointer : {start at end target later : ℕ} {labels : List (List ℕ)} → 192 ≤ slice_index contents at → at + 2 ≤ length contents → offset_at contents at ≡ target + 12 → target < start → Segment contents target target labels later → end ≡ at + 2 → Segment contents start at labels end
+  at_pointer : {start at end target later : ℕ} {labels : List (List ℕ)} → POINTER_TAG ≤ slice_index contents at → at + 2 ≤ length contents → offset_at contents at ≡ target + HEADER_SIZE → target < start → Segment contents target target labels later → end ≡ at + 2 → Segment contents start at labels end
 
 -- a name of at most 255 octets is read at a place, and what stands there ends at end
 pub record NameAt (contents : List ℕ) (at : ℕ) (labels : List (List ℕ)) (end : ℕ) : Type 0 where
@@ -42,15 +48,22 @@ head_at contents start at =
     if nat_le (length contents) at then None
     else if slice_index contents at == 0 then Some Root
     else if nat_lt (slice_index contents at) 64 then (if nat_lt (length contents) (at + 1 + slice_index contents at) then None else Some (Label (slice_index contents at)))
-    else if nat_lt (slice_index contents at) 192 || nat_lt (length contents) (at + 2) then None
-    else if nat_lt (offset_at contents at) 12 || nat_le start (offset_at contents at - 12) then None
-    else Some (Pointer (offset_at contents at - 12))
+    else if nat_lt (slice_index contents at) POINTER_TAG || nat_lt (length contents) (at + 2) then None
+    else if nat_lt (offset_at contents at) HEADER_SIZE || nat_le start (offset_at contents at - HEADER_SIZE) then None
+    else Some (Pointer (offset_at contents at - HEADER_SIZE))
 
 -- what there is room for, and where it leads
 abbrev pub HeadFits : List ℕ → ℕ → ℕ → Head → Type 0
 HeadFits contents start at Root = at < length contents
 HeadFits contents start at (Label size) = (slice_index contents at ≡ size) × (0 < size) × (size < 64) × (at + 1 + size ≤ length contents)
 HeadFits contents start at (Pointer target) = (at + 2 ≤ length contents) × (target < start)
+
+-- Where a reading is after a head: behind a label, and where a pointer leads, in a segment that begins there. What stands
+-- at the name's own place ends behind the first pointer, or behind the root where there is none.
+abbrev pub after : NameCursor → Head → NameCursor
+after cursor Root = record cursor { end = Some (unwrap_or cursor.end (cursor.at + 1)) }
+after cursor (Label size) = record cursor { at = cursor.at + 1 + size }
+after cursor (Pointer target) = record { start = target; at = target; end = Some (unwrap_or cursor.end (cursor.at + 2)) }
 
 -- what is read after these labels, with them in front; the octets end where a pointer has been, if one has
 abbrev pub joined : List (List ℕ) → Option ℕ → Option (List (List ℕ) × ℕ) → Option (List (List ℕ) × ℕ)

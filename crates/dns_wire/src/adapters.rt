@@ -1,11 +1,25 @@
 //! The trusted edge: std's readers and writers as a source and a sink.
 
-ghost use Rattle.std.specs.Prelude.{◌≡◌, false, Some};
+ghost use Rattle.std.specs.Prelude.{◌≡◌, false, Some, Ok, IsErr, OnErr, IfOk};
+ghost use Rattle.dns_wire.specs.Outside.{HasCause};
 
-use crate::outside::{Failed, Sink, Source};
-use std::io::{Read, Write};
+use crate::outside::{Failed, Sink, Source, count_fault};
+use std::io::{self, Read, Write};
 
-/// A reader of std. Each error raises the count of faults.
+/// What std answered, where an error is counted as a fault.
+fn counted<T>(answer: io::Result<T>, faults: &mut u64) -> Result<T, Failed>
+    ensures passed { IfOk answer (λ value. result ≡ Ok value) }
+    ensures told { OnErr answer (IsErr result) }
+    ensures cause { HasCause faults.old faults.new result }
+{
+    match answer {
+        Ok(value) => Ok(value),
+        Err(_) => Err(count_fault(faults)),
+    }
+}
+
+/// A reader of std. Each of its errors is a fault, one of the kind `Interrupted` too: no call is tried
+/// again. std leaves open what it puts into a buffer behind the octets that it read, and at an error.
 #[derive(Drop)]
 pub struct ReadSource<R> {
     reader: R,
@@ -28,18 +42,12 @@ impl<R: Read> Source for ReadSource<R> {
     ghost faults = { λ s. s.faults };
 
     fn read(&mut self, into: &mut [u8]) -> Result<usize, Failed> {
-        match self.reader.read(into) {
-            Ok(count) => Ok(count),
-            Err(_) => {
-                self.faults = self.faults.saturating_add(1);
-                Err(Failed)
-            }
-        }
+        counted(self.reader.read(into), &mut self.faults)
     }
 }
 
-/// A writer of std. The count of faults rises at each error, and where the writer takes no octet though
-/// it was given some.
+/// A writer of std. Each of its errors is a fault, one of the kind `Interrupted` too: no call is tried
+/// again. It is a fault as well where the writer takes no octet though it was given some.
 #[derive(Drop)]
 pub struct WriteSink<W> {
     writer: W,
@@ -70,34 +78,19 @@ impl<W: Write> Sink for WriteSink<W> {
     ghost faults = { λ s. s.faults };
 
     fn write(&mut self, piece: &[u8]) -> Result<usize, Failed> {
-        match self.writer.write(piece) {
-            Ok(count) => {
-                if count == 0 && !piece.is_empty() {
-                    self.faults = self.faults.saturating_add(1);
-                    return Err(Failed);
-                }
-                if count > 0 {
-                    self.is_flushed = false;
-                }
-                Ok(count)
-            }
-            Err(_) => {
-                self.faults = self.faults.saturating_add(1);
-                Err(Failed)
-            }
+        let count = counted(self.writer.write(piece), &mut self.faults)?;
+        if count == 0 && !piece.is_empty() {
+            return Err(count_fault(&mut self.faults));
         }
+        if count > 0 {
+            self.is_flushed = false;
+        }
+        Ok(count)
     }
 
     fn flush(&mut self) -> Result<(), Failed> {
-        match self.writer.flush() {
-            Ok(()) => {
-                self.is_flushed = true;
-                Ok(())
-            }
-            Err(_) => {
-                self.faults = self.faults.saturating_add(1);
-                Err(Failed)
-            }
-        }
+        counted(self.writer.flush(), &mut self.faults)?;
+        self.is_flushed = true;
+        Ok(())
     }
 }

@@ -1,13 +1,12 @@
 //! Values with their octets at hand.
 
-ghost use Rattle.std.specs.Prelude.{◌≡◌, ℕ, List};
+ghost use Rattle.std.specs.Prelude.{◌≡◌};
+
+use crate::build::BuildBytes;
 
 /// A type whose values hold the octets that they are written as.
-pub trait AsBytes {
-    /// The value's octets: those that it builds, where it is built, and else those that it is seen as.
-    ghost bytes: { Self → List ℕ };
-
-    /// The value's octets.
+pub trait AsBytes: BuildBytes {
+    /// The value's octets: those that `build_bytes` writes.
     fn as_bytes(&self) -> &[u8]
-        ensures { result.now ≡ bytes self.now };
+        ensures { result.now ≡ Self.octets self.now };
 }

@@ -7,7 +7,7 @@ ghost use Rattle.dns_wire.specs.Pieces.{Piece, IsTold, whole_presses, then_press
 ghost use Rattle.dns_wire.specs.Told.{told_then};
 
 use crate::build::{BuildBytes, put};
-use crate::compressor::NameCompressor;
+use crate::compression::NameCompressor;
 use crate::error::TruncationError;
 use std::rc::Rc;
 

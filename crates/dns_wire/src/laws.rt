@@ -1,7 +1,7 @@
 //! The definitions of this crate in other words.
 
-ghost use Rattle.std.specs.Prelude.{◌≡◌, ◌≤◌, ◌<◌, ◌↔◌, ◌+◌, ◌++◌, ℕ, List, [], ◌∷◌, Some, length, flat_map};
-ghost use Rattle.dns_wire.specs.Hexadecimal.{spelled, shown};
+ghost use Rattle.std.specs.Prelude.{◌≡◌, ◌≤◌, ◌<◌, ◌↔◌, ◌+◌, ◌-◌, ◌^◌, ◌++◌, ℕ, List, [], ◌∷◌, Some, length, flat_map};
+ghost use Rattle.dns_wire.specs.Hexadecimal.{Trimmed, trim, spelled, shown};
 ghost use Rattle.dns_wire.specs.InMessage.{list_fits, EachFits};
 ghost use Rattle.dns_wire.specs.Names.{IsName, wire, plain_name};
 ghost use Rattle.dns_wire.specs.Pieces.{whole_presses, then_presses, list_presses};
@@ -9,6 +9,17 @@ ghost use Rattle.dns_wire.specs.Pointers.{Segment, NameAt, head_count, name_at};
 ghost use Rattle.dns_wire.specs.Reading.{AreOctets, plain_at};
 
 use crate::in_message::BuildInMessage;
+use crate::sizes::{HEADER_SIZE, LAST_PLACE, MAX_LABEL_SIZE, MAX_PLACES, POINTER_TAG};
+
+/// The header has 12 octets, and a label at most 63. A pointer begins with two bits 1; its other 14 count the
+/// header too, and so the last place that it reaches is 16,371 (RFC 1035 sections 2.3.4, 4.1.1 and 4.1.4).
+pub fn fixed_numbers()
+    ensures header { HEADER_SIZE ≡ 12 }
+    ensures label { MAX_LABEL_SIZE ≡ 63 }
+    ensures tag { POINTER_TAG ≡ 2 ^ 7 + 2 ^ 6 }
+    ensures reach { LAST_PLACE + HEADER_SIZE ≡ 2 ^ 14 - 1 }
+    ensures places { MAX_PLACES ≡ 128 }
+{}
 
 /// A name is read exactly where its octets stand at the front. It is one name, and has at most 255
 /// octets. What is written is read back whole (RFC 1035 sections 2.3.4 and 3.1).
@@ -59,6 +70,12 @@ pub fn added_octets()
         NameAt contents at labels end → NameAt (contents ++ more) at labels end }
     ensures read { (contents more : List ℕ) (at : ℕ) (labels : List (List ℕ)) (end : ℕ) →
         name_at contents at ≡ Some (labels, end) → name_at (contents ++ more) at ≡ Some (labels, end) }
+{}
+
+/// Of a text in hexadecimal, the spaces, tabs, CR and LF at its end are left out, and nothing else is.
+pub fn trimmed_text()
+    ensures trims { (text : List ℕ) → Trimmed text (trim text) }
+    ensures one { (text left : List ℕ) → Trimmed text left → left ≡ trim text }
 {}
 
 /// What is written in hexadecimal is read back (RFC 4648 section 8).

@@ -7,7 +7,6 @@ mod as_bytes;
 mod build;
 mod builders;
 mod compression;
-mod compressor;
 mod error;
 mod follow;
 mod in_message;
@@ -18,22 +17,21 @@ mod lowercase;
 mod memory;
 mod outside;
 mod parse;
-mod press;
-mod suffix;
+mod sizes;
 mod text;
-mod turn;
 
 pub use adapters::{ReadSource, WriteSink};
 pub use as_bytes::AsBytes;
 pub use build::{BuildBytes, put};
-pub use compression::{longest_suffixes, pressed_names, pressed_names_are_read};
-pub use compressor::NameCompressor;
+pub use compression::{
+    NameCompressor, longest_suffixes, pressed_names, pressed_names_are_read, put_name,
+};
 pub use error::{ParseError, TruncationError};
-pub use follow::{Head, read_head};
+pub use follow::{Head, NameCursor, pointer_offset, read_head};
 pub use in_message::{BuildInMessage, build_whole};
 pub use laws::{
-    added_octets, hexadecimal_text, lists_in_messages, lists_of_octets, names_follow_pointers,
-    plain_names, pointed_names, pointers_lead_back,
+    added_octets, fixed_numbers, hexadecimal_text, lists_in_messages, lists_of_octets,
+    names_follow_pointers, plain_names, pointed_names, pointers_lead_back, trimmed_text,
 };
 pub use list::{ListError, split_list};
 pub use lowercase::{build_lowercase, compare_lowercase};
@@ -43,7 +41,7 @@ pub use parse::{
     ParseBytes, ParseMessageBytes, ParseName, SplitBytes, SplitMessageBytes,
     parse_without_compression, split_without_compression, whole, whole_message,
 };
-pub use press::put_name;
+pub use sizes::{HEADER_SIZE, LAST_PLACE, MAX_LABEL_SIZE, MAX_PLACES, POINTER_TAG};
 
 #[cfg(test)]
 mod tests;

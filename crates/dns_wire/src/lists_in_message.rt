@@ -4,7 +4,7 @@ ghost use Rattle.std.specs.Prelude.{None};
 ghost use Rattle.dns_wire.specs.InMessage.{list_fits};
 ghost use Rattle.dns_wire.specs.Pieces.{list_presses};
 
-use crate::compressor::NameCompressor;
+use crate::compression::NameCompressor;
 use crate::error::TruncationError;
 use crate::in_message::BuildInMessage;
 

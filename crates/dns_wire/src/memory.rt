@@ -1,12 +1,12 @@
 //! Sources and sinks in memory, which fail at the calls that they are told.
 
-ghost use Rattle.std.specs.Prelude.{◌≡◌, ℕ, ◌+◌, ◌-◌, ◌<◌, ◌≤◌, ◌↔◌, ◌⊎◌, [], min, length, take, Some, None, false, true, Contains, IsErr, IsOk, OnOk, OnErr, IfOk};
+ghost use Rattle.std.specs.Prelude.{◌≡◌, ℕ, ◌+◌, ◌-◌, ◌<◌, ◌≤◌, ◌↔◌, ◌⊎◌, [], ◌++◌, drop, MatchResult, min, length, take, Some, None, false, true, Contains, IsErr, IsOk, OnOk, OnErr, IfOk};
 ghost use Rattle.std.specs.Io.{ReadsAtMost, WritesAtMost};
 ghost use Rattle.std.specs.Io.KnownBytes.{ReadConsumes, WriteAppends, Keeps};
 ghost use Rattle.dns_wire.specs.Devices.{Supply, Store};
-ghost use Rattle.dns_wire.specs.Outside.{HasCause, BecomesFlag, KeepsFlag, WriteFlag};
+ghost use Rattle.dns_wire.specs.Outside.{HasCause, BecomesFlag, KeepsBehind, KeepsFlag, WriteFlag};
 
-use crate::outside::{Failed, Sink, Source};
+use crate::outside::{Failed, Sink, Source, count_fault};
 use std::marker::Model;
 
 /// Gives a text in pieces, and fails at the calls whose numbers it was given.
@@ -55,14 +55,14 @@ impl<'a> Source for TextSource<'a> {
         ensures cause { HasCause self.old.faults self.new.faults result }
         ensures fails { IsErr result ↔ Contains self.old.failing self.old.calls }
         ensures taken { IfOk result (λ n. n ≡ min (min (length self.old.left) self.old.piece) (length into.new)) }
+        ensures behind { KeepsBehind into.old into.new result }
         ensures calls { self.new.calls ≡ min (self.old.calls + 1) u64.MAX }
         ensures same { (self.new.piece ≡ self.old.piece) × (self.new.failing ≡ self.old.failing) }
     {
         let call = self.calls;
         self.calls = self.calls.saturating_add(1);
         if self.failing.contains(&call) {
-            self.faults = self.faults.saturating_add(1);
-            return Err(Failed);
+            return Err(count_fault(&mut self.faults));
         }
         let count = self.rest.len().min(self.piece).min(into.len());
         let (front, rest) = self.rest.split_at(count);
@@ -106,6 +106,7 @@ impl<'a> Source for PlainSource<'a> {
         ensures cause { HasCause 0 0 result }
         ensures ok { IsOk result }
         ensures taken { IfOk result (λ n. n ≡ min (length self.old) (length into.new)) }
+        ensures behind { KeepsBehind into.old into.new result }
     {
         let count = self.rest.len().min(into.len());
         let (front, rest) = self.rest.split_at(count);
@@ -133,7 +134,7 @@ impl<'b> Model for TextSink<'b> {
 
     ghost view = { λ s. record {
       written = take s.len s.buffer.now;
-      room = length s.buffer.now - s.len;
+      free = drop s.len s.buffer.now;
       piece = s.piece;
       failing = s.failing.now;
       flushed = s.is_flushed;
@@ -151,7 +152,7 @@ impl<'b> TextSink<'b> {
         requires { 0 < piece }
         ensures { result ≡ record {
           written = [];
-          room = length buffer.entry.now;
+          free = buffer.entry.now;
           piece = piece;
           failing = failing.now;
           flushed = false;
@@ -183,6 +184,14 @@ impl<'b> TextSink<'b> {
     {
         self.is_flushed
     }
+
+    /// Ends the sink, and gives the buffer back: the octets that were taken, and behind them those that
+    /// stood there before.
+    pub fn into_buffer(self) -> &'b mut [u8]
+        ensures { result.now ≡ self.entry.written ++ self.entry.free }
+    {
+        self.buffer
+    }
 }
 
 impl<'b> Sink for TextSink<'b> {
@@ -199,8 +208,9 @@ impl<'b> Sink for TextSink<'b> {
         ensures flag { WriteFlag (Some self.old.flushed) (Some self.new.flushed) result }
         ensures cause { HasCause self.old.faults self.new.faults result }
         ensures fails { IsErr result ↔ (Contains self.old.failing self.old.calls
-            ⊎ ((0 < length piece.now) × (self.old.room ≡ 0))) }
-        ensures taken { IfOk result (λ n. n ≡ min (min (length piece.now) self.old.piece) self.old.room) }
+            ⊎ ((0 < length piece.now) × (self.old.free ≡ []))) }
+        ensures taken { IfOk result (λ n. n ≡ min (min (length piece.now) self.old.piece) (length self.old.free)) }
+        ensures free { MatchResult result (λ n. self.new.free ≡ drop n self.old.free) (λ _. self.new.free ≡ self.old.free) }
         ensures calls { self.new.calls ≡ min (self.old.calls + 1) u64.MAX }
         ensures same { (self.new.piece ≡ self.old.piece) × (self.new.failing ≡ self.old.failing) }
     {
@@ -208,8 +218,7 @@ impl<'b> Sink for TextSink<'b> {
         self.calls = self.calls.saturating_add(1);
         let room = self.buffer.len() - self.len;
         if self.failing.contains(&call) || (room == 0 && !piece.is_empty()) {
-            self.faults = self.faults.saturating_add(1);
-            return Err(Failed);
+            return Err(count_fault(&mut self.faults));
         }
         let count = piece.len().min(self.piece).min(room);
         if count > 0 {
@@ -227,13 +236,12 @@ impl<'b> Sink for TextSink<'b> {
         ensures cause { HasCause self.old.faults self.new.faults result }
         ensures fails { IsErr result ↔ Contains self.old.failing self.old.calls }
         ensures calls { self.new.calls ≡ min (self.old.calls + 1) u64.MAX }
-        ensures same { (self.new.room ≡ self.old.room) × (self.new.piece ≡ self.old.piece) × (self.new.failing ≡ self.old.failing) }
+        ensures same { (self.new.free ≡ self.old.free) × (self.new.piece ≡ self.old.piece) × (self.new.failing ≡ self.old.failing) }
     {
         let call = self.calls;
         self.calls = self.calls.saturating_add(1);
         if self.failing.contains(&call) {
-            self.faults = self.faults.saturating_add(1);
-            return Err(Failed);
+            return Err(count_fault(&mut self.faults));
         }
         self.is_flushed = true;
         Ok(())

@@ -1,16 +1,16 @@
-//! Each public call once, and the devices where a call fails in mid-stream.
+//! Each public call once.
 
 mod builders;
+mod devices;
 mod in_message;
 mod lists;
 
 use crate::{
-    BuildBytes, Failed, Head, NullSink, ParseBytes, ParseError, ParseMessageBytes, PlainSource,
-    ReadSource, Sink, Source, SplitBytes, SplitMessageBytes, TextSink, TextSource, TruncationError,
-    WriteSink, added_octets, hexadecimal_text, names_follow_pointers, parse_without_compression,
-    plain_names, pointed_names, pointers_lead_back, put, read_head, split_without_compression,
+    BuildBytes, Head, ParseBytes, ParseError, ParseMessageBytes, SplitBytes, SplitMessageBytes,
+    TruncationError, added_octets, fixed_numbers, hexadecimal_text, names_follow_pointers,
+    parse_without_compression, plain_names, pointed_names, pointers_lead_back, put, read_head,
+    split_without_compression, trimmed_text,
 };
-use std::io;
 use std::rc::Rc;
 use std::test::Fail;
 
@@ -37,8 +37,10 @@ fn reads_and_writes_octets(rt: HostRuntime) -> Result<(), Fail> {
     let rest = octets.build_bytes(rest)?;
     assert_eq!(rt; &*rest, b"cd.".as_slice());
     assert!(rt; put(b"abcd", rest, 0).is_err());
+    fixed_numbers();
     plain_names();
     hexadecimal_text();
+    trimmed_text();
     Ok(())
 }
 
@@ -109,57 +111,5 @@ fn says_why(rt: HostRuntime) -> Result<(), Fail> {
         "DNS data could not be parsed from the wire format"
     );
     assert_eq!(rt; truncation.as_str(), "a buffer was too small");
-    Ok(())
-}
-
-#[test]
-fn sources_fail_where_they_are_told(rt: HostRuntime) -> Result<(), Fail> {
-    let mut into = [0u8; 4];
-    let mut source = TextSource::new(b"abcdef", 3, &[1, 3]);
-    assert_eq!(rt; source.read(&mut into), Ok(3));
-    assert_eq!(rt; source.read(&mut into), Err(Failed));
-    assert_eq!(rt; source.read(&mut into), Ok(3));
-    assert_eq!(rt; into, *b"def\0");
-    assert_eq!(rt; source.read(&mut into), Err(Failed));
-    assert_eq!(rt; source.read(&mut into), Ok(0));
-
-    let mut plain = PlainSource::new(b"abcdef");
-    assert_eq!(rt; plain.read(&mut into), Ok(4));
-    assert_eq!(rt; plain.read(&mut into), Ok(2));
-    assert_eq!(rt; plain.read(&mut into), Ok(0));
-    Ok(())
-}
-
-#[test]
-fn sinks_fail_where_they_are_told_and_where_they_are_full(rt: HostRuntime) -> Result<(), Fail> {
-    let mut buffer = [0u8; 4];
-    let mut sink = TextSink::new(&mut buffer, 3, &[1, 5]);
-    assert_eq!(rt; sink.write(b"abcdef"), Ok(3));
-    assert_eq!(rt; sink.flush(), Err(Failed));
-    assert!(rt; !sink.flushed());
-    assert_eq!(rt; sink.write(b"def"), Ok(1));
-    assert_eq!(rt; sink.write(b"ef"), Err(Failed));
-    assert_eq!(rt; sink.write(b""), Ok(0));
-    assert_eq!(rt; sink.flush(), Err(Failed));
-    assert_eq!(rt; sink.flush(), Ok(()));
-    assert!(rt; sink.flushed());
-    assert_eq!(rt; sink.written(), b"abcd".as_slice());
-
-    assert_eq!(rt; NullSink.write(b"abc"), Ok(3));
-    assert_eq!(rt; NullSink.flush(), Ok(()));
-    Ok(())
-}
-
-#[test]
-fn adapters_pass_octets_on(rt: HostRuntime) -> Result<(), Fail> {
-    let mut into = [0u8; 2];
-    let mut source = ReadSource::new(b"abc".as_slice());
-    assert_eq!(rt; source.read(&mut into), Ok(2));
-    assert_eq!(rt; into, *b"ab");
-    assert_eq!(rt; source.read(&mut into), Ok(1));
-    assert_eq!(rt; source.read(&mut into), Ok(0));
-    let mut sink = WriteSink::new(io::sink());
-    assert_eq!(rt; sink.write(b"abc"), Ok(3));
-    assert_eq!(rt; sink.flush(), Ok(()));
     Ok(())
 }

@@ -8,7 +8,7 @@ ghost use Rattle.dns_wire.specs.Left.{text_leaves, plain_ends};
 ghost use Rattle.dns_wire.specs.Texts.{text};
 
 use crate::build::{BuildBytes, put};
-use crate::compressor::NameCompressor;
+use crate::compression::NameCompressor;
 use crate::error::{ParseError, TruncationError};
 use crate::in_message::{BuildInMessage, build_whole};
 use crate::parse::{ParseBytes, ParseMessageBytes, parse_without_compression};

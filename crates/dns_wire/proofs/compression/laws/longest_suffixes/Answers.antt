@@ -1,0 +1,10 @@
+use Rattle.dns_wire.proofs.Suffixes.{none_is, longest_is, longest_finds, none_found}
+use Rattle.dns_wire.proofs.compression.laws.longest_suffixes.Goals as goal
+
+pub returns : goal.returns
+returns c = record {
+  found = λ contents places labels front place are. longest_is contents places labels front place are.rising;
+  finds = λ contents places labels front place are. longest_finds contents places labels front place are.rising;
+  none = λ contents places labels front place e. none_is contents places labels e front place;
+  finds_none = none_found;
+}
