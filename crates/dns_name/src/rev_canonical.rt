@@ -83,6 +83,10 @@ impl CanonicalName for RevName<'_> {
 
     ghost ordered = { λ _ _. refl };
 
+    fn composed_size(&self) -> usize {
+        self.len()
+    }
+
     fn build_lowercased_at(
         &self,
         bytes: &mut [u8],
@@ -108,6 +112,10 @@ impl CanonicalName for RevNameBuf {
     ghost always_fits = { λ _. tt };
 
     ghost ordered = { λ _ _. refl };
+
+    fn composed_size(&self) -> usize {
+        self.as_revname().composed_size()
+    }
 
     fn build_lowercased_at(
         &self,
