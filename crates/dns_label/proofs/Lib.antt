@@ -3,4 +3,5 @@ pub mod Cells
 pub mod Compared
 pub mod Filled
 pub mod Placed
+pub mod Preceding
 pub mod Stored
