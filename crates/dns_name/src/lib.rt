@@ -17,7 +17,10 @@ mod rev_order;
 mod unparsed_name;
 
 pub use canonical_name::CanonicalName;
-pub use laws::{label_order, one_order, orders_by_octets, reversed_names, unparsed_names};
+pub use laws::{
+    label_order, one_order, orders_by_octets, reversed_names, unparsed_names,
+    unparsed_names_continue,
+};
 pub use lowercased::Lowercased;
 pub use name::Name;
 pub use name_buf::NameBuf;
