@@ -136,7 +136,11 @@ impl<'a> BuildBytes for Name<'a> {
         put(self.as_bytes(), bytes, start)
     }
 
-    fn built_bytes_size(&self) -> usize {
+    /// The number of octets, from 1 to 255.
+    fn built_bytes_size(&self) -> usize
+        ensures size { result ≡ length (wire (labels_of self.now.slice.now)) }
+        ensures short { result ≤ 255 }
+    {
         self.len()
     }
 }

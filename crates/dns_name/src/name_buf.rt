@@ -181,7 +181,11 @@ impl BuildBytes for NameBuf {
         self.as_name().build_at(bytes, start)
     }
 
-    fn built_bytes_size(&self) -> usize {
+    /// The number of octets, from 1 to 255.
+    fn built_bytes_size(&self) -> usize
+        ensures size { result ≡ length (wire self.now) }
+        ensures short { result ≤ 255 }
+    {
         self.as_name().built_bytes_size()
     }
 }

@@ -113,7 +113,11 @@ impl BuildBytes for RevName<'_> {
         Ok(self.put_forward(bytes, start))
     }
 
-    fn built_bytes_size(&self) -> usize {
+    /// The number of octets, from 1 to 255.
+    fn built_bytes_size(&self) -> usize
+        ensures size { result ≡ length (wire (reversed_labels_of self.now.slice.now)) }
+        ensures short { result ≤ 255 }
+    {
         self.len()
     }
 }

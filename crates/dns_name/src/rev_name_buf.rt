@@ -216,7 +216,11 @@ impl BuildBytes for RevNameBuf {
         self.as_revname().build_at(bytes, start)
     }
 
-    fn built_bytes_size(&self) -> usize {
+    /// The number of octets, from 1 to 255.
+    fn built_bytes_size(&self) -> usize
+        ensures size { result ≡ length (wire self.now) }
+        ensures short { result ≤ 255 }
+    {
         self.as_revname().built_bytes_size()
     }
 }

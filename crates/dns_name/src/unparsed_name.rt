@@ -202,7 +202,11 @@ impl BuildBytes for UnparsedName<'_> {
         put(self.as_bytes(), bytes, start)
     }
 
-    fn built_bytes_size(&self) -> usize {
+    /// The number of octets, from 1 to 256.
+    fn built_bytes_size(&self) -> usize
+        ensures size { result ≡ length (unparsed_wire (unparsed_of self.now.slice.now)) }
+        ensures short { result ≤ 256 }
+    {
         self.len()
     }
 }
