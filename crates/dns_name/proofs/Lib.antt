@@ -4,7 +4,6 @@ pub mod Continued
 pub mod Followed
 pub mod Gathered
 pub mod Labelled
-pub mod Ordered
 pub mod Sameness
 pub mod Standing
 pub mod StandingAt

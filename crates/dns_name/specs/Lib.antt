@@ -1,6 +1,6 @@
 -- What the contracts of names cite.
-pub mod Cased
 pub mod Composed
 pub mod Hashing
 pub mod Order
+pub mod RowOrder
 pub mod Unparsed

@@ -2,6 +2,7 @@
 #![tactic(auto)]
 
 mod canonical_name;
+mod conversion;
 mod hash;
 mod in_message;
 mod label_row;
@@ -14,6 +15,7 @@ mod rev_canonical;
 mod rev_name;
 mod rev_name_buf;
 mod rev_order;
+mod row_order;
 mod unparsed_name;
 
 pub use canonical_name::CanonicalName;
