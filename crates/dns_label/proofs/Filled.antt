@@ -1,6 +1,6 @@
 -- What a label is in words, and what labels one after another are.
-use Rattle.std.proofs.Common.{◌≡◌, ℕ, zero, suc, ◌≤◌, inl, inr, false, ltb, List, [], ◌∷◌, ◌++◌, length, take, drop, Option, Some, None, refl, sym, ap, subst, ◌∙◌, arith}
-use Rattle.std.specs.Prelude.{◌||◌}
+use Rattle.std.proofs.Common.{◌≡◌, ℕ, zero, suc, ◌<◌, ◌≤◌, inl, inr, false, ltb, List, [], ◌∷◌, ◌++◌, length, take, drop, Option, Some, None, refl, sym, ap, subst, ◌∙◌, arith}
+use Rattle.std.specs.Prelude.{◌||◌, ◌↔◌}
 use Rattle.std.specs.List.{AllByRecursion}
 use Rattle.std.proofs.lemmas.Bool.Decides.{nat_tests}
 use Rattle.std.proofs.lemmas.Bool.{le-ltb}
@@ -149,3 +149,21 @@ none_left octets is e = (list_takes octets (labels_in octets) is).1 ∙ ap heads
 
 pub nothing_in : labels_in [] ≡ []
 nothing_in = (labels_in_heads [] [] tt refl).1
+
+-- ---- a test
+
+-- labels stand behind a label exactly where labels begin with it
+pub behind_label : (octets contents rest : List ℕ) → plain_label octets ≡ Some (contents, rest) → (AreLabels octets ↔ AreLabels rest) × (length rest < length octets)
+behind_label octets contents rest read =
+    let t = label_takes octets contents rest read in
+    let whole : AreLabels rest → AreLabels octets = λ are.
+    let s = list_takes rest (labels_in rest) are in
+    are_labels octets (contents ∷ labels_in rest) (t.0, s.0) (t.1 ∙ ap (λ (l : List ℕ). length contents ∷ (contents ++ l)) s.1) in
+    ((λ are. (first_in octets contents rest are read).left, whole), omega (arith, ap length t.1, length-append contents rest))
+
+-- where no label stands there are none exactly where no octets are
+pub nothing_left : (octets : List ℕ) → plain_label octets ≡ None → AreLabels octets ↔ (octets ≡ [])
+nothing_left octets none = (
+  λ are. none_left octets are (last_label octets are none),
+  λ e. are_labels octets [] tt e,
+)

@@ -2,4 +2,5 @@
 pub mod Cells
 pub mod Compared
 pub mod Filled
+pub mod Preceding
 pub mod Stored

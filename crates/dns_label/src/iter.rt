@@ -36,6 +36,17 @@ impl<'a> LabelIter<'a> {
         LabelIter { octets }
     }
 
+    /// Whether the octets are labels one after another, which is what `new` asks of them.
+    pub fn are_labels(octets: &[u8]) -> bool
+        ensures { IsTrue result ↔ AreLabels octets.now }
+    {
+        let mut rest = octets;
+        while let Ok((_label, behind)) = Label::split_bytes(rest) {
+            rest = behind;
+        }
+        rest.is_empty()
+    }
+
     /// The octets of the labels that are still to come.
     pub fn remaining(&self) -> &'a [u8]
         ensures octets { result.now ≡ heads self.now }

@@ -147,7 +147,11 @@ impl<'a> BuildBytes for Label<'a> {
         put(self.as_wire(), bytes, start)
     }
 
-    fn built_bytes_size(&self) -> usize {
+    /// The number of octets, from 1 to 64.
+    fn built_bytes_size(&self) -> usize
+        ensures size { result ≡ length (label_wire (contents_of self.now.slice.now)) }
+        ensures short { result ≤ 64 }
+    {
         self.as_wire().len()
     }
 }

@@ -217,7 +217,11 @@ impl BuildBytes for LabelBuf {
         self.as_label().build_at(bytes, start)
     }
 
-    fn built_bytes_size(&self) -> usize {
+    /// The number of octets, from 1 to 64.
+    fn built_bytes_size(&self) -> usize
+        ensures size { result ≡ length (label_wire self.now) }
+        ensures short { result ≤ 64 }
+    {
         self.as_label().built_bytes_size()
     }
 }

@@ -1,9 +1,12 @@
 //! The definitions of this crate in other words.
 
-ghost use Rattle.std.specs.Prelude.{◌≡◌, ◌++◌, ℕ, List, Some};
+ghost use Rattle.std.specs.Prelude.{◌≡◌, ◌<◌, ◌↔◌, ◌++◌, ℕ, List, Some};
 ghost use Rattle.std.specs.List.{AllByRecursion};
+ghost use Rattle.std.specs.Str.{str_to_ascii_lowercase};
+ghost use Rattle.std.specs.declared.cmp.Ordering.TheVariants.{Less, Equal};
 ghost use Rattle.dns_wire.specs.Names.{heads};
 ghost use Rattle.dns_label.specs.Labels.{AreLabels, IsShort, label_wire, labels_in, plain_label};
+ghost use Rattle.dns_label.specs.Order.{label_cmp, Precedes};
 
 /// A label is read exactly where its octets stand at the front: its length, which is at most 63, and so
 /// many octets (RFC 1035 section 3.1).
@@ -21,4 +24,14 @@ pub fn labels_fill()
         AllByRecursion IsShort (labels_in octets) × (octets ≡ heads (labels_in octets)) }
     ensures read { (labels : List (List ℕ)) → AllByRecursion IsShort labels →
         AreLabels (heads labels) × (labels_in (heads labels) ≡ labels) }
+{}
+
+/// A label comes before another exactly where, in small letters, it has the smaller octet at the first place
+/// at which the two differ, or is a proper prefix of the other (RFC 4034 section 6.1). Two labels tie exactly
+/// where they are one in small letters.
+pub fn order_of_labels()
+    ensures less { (label other : List ℕ) →
+        (label_cmp label other ≡ Less) ↔ Precedes ◌<◌ (str_to_ascii_lowercase label) (str_to_ascii_lowercase other) }
+    ensures ties { (label other : List ℕ) →
+        (label_cmp label other ≡ Equal) ↔ (str_to_ascii_lowercase label ≡ str_to_ascii_lowercase other) }
 {}

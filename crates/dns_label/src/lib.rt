@@ -12,7 +12,7 @@ mod storage;
 pub use iter::LabelIter;
 pub use label::Label;
 pub use label_buf::{LabelBuf, label_of};
-pub use laws::{labels_fill, one_label};
+pub use laws::{labels_fill, one_label, order_of_labels};
 
 #[cfg(test)]
 mod tests;

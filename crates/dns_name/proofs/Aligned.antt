@@ -9,14 +9,10 @@ use Rattle.std.specs.declared.cmp.Ordering.{Ordering}
 use Rattle.std.specs.declared.cmp.Ordering.TheVariants.{Less, Equal, Greater}
 use Rattle.std.specs.FinMap.{nat_cmp-IsAntisymmetric}
 use Rattle.std.proofs.lemmas.Bool.{cases_lt}
-use Rattle.std.proofs.lemmas.Bool.Decides.{nat_tests}
-use Rattle.std.proofs.lemmas.List.{reverse-append, drop-map, length-map, length-reverse, length-take, length-drop, take-append-drop, append-nil}
-use Rattle.dns_wire.specs.Names.{heads, wire, lowered, IsLabel, IsName}
-use Rattle.dns_wire.proofs.Lowered.{name_lowered}
-use Rattle.dns_name.specs.Cased.{cased, head_cmp}
+use Rattle.std.proofs.lemmas.List.{reverse-append, length-reverse, length-take, length-drop, take-append-drop, append-nil}
+use Rattle.dns_wire.specs.Names.{heads, wire, IsLabel}
+use Rattle.dns_name.specs.RowOrder.{head_cmp}
 use Rattle.dns_name.specs.Composed.{octets_cmp, composed_cmp}
-use Rattle.dns_name.specs.declared.rev_canonical.Case.{Case}
-use Rattle.dns_name.specs.declared.rev_canonical.Case.TheVariants.{Kept, Small}
 
 then_assoc : (a b c : Ordering) → ordering_then (ordering_then a b) c ≡ ordering_then a (ordering_then b c)
 then_assoc Less b c = refl
@@ -112,21 +108,10 @@ composed_by_heads (x ∷ xs) (y ∷ ys) is js =
     ∙ heads_decide x y (wire xs) (wire ys) (nat_cmp (length x) (length y)) refl
     ∙ ap (ordering_then (head_cmp x y)) (composed_by_heads xs ys is.1 js.1)
 
--- ---- labels as they count
+-- ---- lists in an order of what their items are seen as
 
--- the labels of two names, from the last to the first
-pub rows_skipped : (f : List ℕ → List ℕ) (xs ys : List (List ℕ)) → slice_cmp head_cmp (reverse (map f xs)) (reverse (map f ys)) ≡ ordering_then (slice_cmp head_cmp (reverse (map f (drop (length xs - length ys) xs))) (reverse (map f (drop (length ys - length xs) ys)))) (nat_cmp (length xs) (length ys))
-rows_skipped f xs ys =
-    rw (← drop-map f (length xs - length ys) xs, ← drop-map f (length ys - length xs) ys)
-    (rw (length-map xs f, length-map ys f) at (turned_skipped head_cmp (map f xs) (map f ys)))
-
-map_kept : (labels : List (List ℕ)) → map (cased Kept) labels ≡ labels
-map_kept [] = refl
-map_kept (label ∷ labels) = ap (λ (l : List (List ℕ)). label ∷ l) (map_kept labels)
-
-pub kept_labels : (labels : List (List ℕ)) → map (cased Kept) labels ≡ labels
-kept_labels = map_kept
-
-pub cased_name : (case : Case) (labels : List (List ℕ)) → IsName labels → IsName (map (cased case) labels)
-cased_name Kept labels is = rw (map_kept labels) is
-cased_name Small labels is = name_lowered labels is
+pub seen_by : (f : List ℕ → List ℕ) (R : List ℕ → List ℕ → Ordering) (xs ys : List (List ℕ)) → slice_cmp (λ x y. R (f x) (f y)) xs ys ≡ slice_cmp R (map f xs) (map f ys)
+seen_by f R [] [] = refl
+seen_by f R [] (y ∷ ys) = refl
+seen_by f R (x ∷ xs) [] = refl
+seen_by f R (x ∷ xs) (y ∷ ys) = ap (ordering_then (R (f x) (f y))) (seen_by f R xs ys)

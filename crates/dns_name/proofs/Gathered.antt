@@ -1,9 +1,8 @@
 -- Putting a name into a buffer from the root on: views of its end, and following a name in a message head by head.
-use Rattle.std.proofs.Common.{◌≡◌, ℕ, ◌+◌, ◌-◌, ◌<◌, ◌≤◌, List, [], ◌∷◌, ◌++◌, length, take, drop, Option, Some, None, refl, sym, ap, subst, ◌∙◌, append_assoc, arith}
+use Rattle.std.proofs.Common.{◌≡◌, ℕ, ◌+◌, ◌-◌, ◌<◌, ◌≤◌, List, [], ◌∷◌, ◌++◌, length, take, drop, Option, Some, None, refl, sym, ap, subst, ◌∙◌, arith}
 use Rattle.std.specs.Prelude.{reverse, unwrap_or, slice_index, slice_range}
 use Rattle.std.specs.List.{AllByRecursion}
 use Rattle.std.proofs.lemmas.List.{take_at, drop_at, drop_all, length-append, length-take, length-drop, append-nil, reverse-append}
-use Rattle.dns_wire.specs.declared.follow.Head.{Head}
 use Rattle.dns_wire.specs.declared.follow.Head.TheVariants.{Root, Label, Pointer}
 use Rattle.dns_wire.specs.Names.{heads, wire, IsLabel, IsName, labels_of}
 use Rattle.dns_wire.specs.Pointers.{head_at, name_at}

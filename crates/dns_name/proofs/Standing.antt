@@ -1,6 +1,6 @@
 -- What an unparsed name is, in words: labels, and the root or a pointer, whose octets stand at the front.
-use Rattle.std.proofs.Common.{◌≡◌, ℕ, zero, suc, ◌+◌, ◌-◌, ◌*◌, ◌<◌, ◌≤◌, ◌⊎◌, inl, inr, Bool, true, false, ltb, leb, List, [], ◌∷◌, ◌++◌, length, get_or, take, drop, Option, Some, None, refl, sym, ap, subst, ◌∙◌, append_assoc, arith}
-use Rattle.std.specs.Prelude.{option_map, unwrap_or, IfSome, ◌==◌, ◌||◌}
+use Rattle.std.proofs.Common.{◌≡◌, ℕ, zero, suc, ◌+◌, ◌-◌, ◌<◌, ◌≤◌, ◌⊎◌, inl, inr, Bool, true, false, ltb, leb, List, [], ◌∷◌, ◌++◌, length, get_or, take, drop, Option, Some, None, refl, sym, ap, subst, ◌∙◌, append_assoc, arith}
+use Rattle.std.specs.Prelude.{unwrap_or, IfSome, ◌==◌, ◌||◌}
 use Rattle.std.specs.List.{AllByRecursion}
 use Rattle.std.proofs.lemmas.Bool.Decides.{nat_tests}
 use Rattle.std.proofs.lemmas.Bool.{lt-ltb, le-ltb, ltb-false}
@@ -194,28 +194,31 @@ unparsed_size bytes name e =
 pub root_is_unparsed : IsUnparsed ([], None)
 root_is_unparsed = record { sizes = tt; size = omega arith; pointer = tt }
 
+-- the root alone has one octet
+pub root_alone_unparsed : (name : Unparsed) → length (unparsed_wire name) ≡ 1 → name ≡ ([], None)
+root_alone_unparsed ([], None) e = refl
+root_alone_unparsed ([], Some (high, low)) e = absurd (omega (arith, e))
+root_alone_unparsed (label ∷ labels, end) e = absurd (omega (arith, e, length-append (label ++ heads labels) (last_octets end), (last_long end).0))
+
 -- ---- the first head of an unparsed name
 
 -- what its first octet says
 pub record FirstHead (bytes : List ℕ) (name : Unparsed) : Type 0 where
   pub root : get_or bytes 0 0 ≡ 0 → name ≡ ([], None)
-  pub root_only : name ≡ ([], None) → get_or bytes 0 0 ≡ 0
   pub no_pointer : get_or bytes 0 0 < 192 → alone_offset name ≡ None
   pub pointer : 192 ≤ get_or bytes 0 0 → (1 < length bytes) × (name.0 ≡ []) × (alone_offset name ≡ Some (offset_of (get_or bytes 0 0, get_or bytes 1 0)))
 
 head_of : (name : Unparsed) → IsUnparsed name → FirstHead (unparsed_wire name) name
-head_of ([], None) is = record { root = λ e. refl; root_only = λ e. refl; no_pointer = λ low. refl; pointer = λ high. absurd (omega (arith, high)) }
+head_of ([], None) is = record { root = λ e. refl; no_pointer = λ low. refl; pointer = λ high. absurd (omega (arith, high)) }
 head_of ([], Some (high, low)) is =
     record {
       root = λ e. absurd (let first : high ≡ 0 = e in omega (arith, first, is.pointer));
-      root_only = λ e. absurd (let none : Some (high, low) ≡ None = ap (λ (n : Unparsed). n.1) e in cc);
       no_pointer = λ below. absurd (let first : high < 192 = below in omega (arith, first, is.pointer));
       pointer = λ above. (omega arith, refl, refl);
     }
 head_of (label ∷ labels, end) is =
     record {
       root = λ e. absurd (let first : length label ≡ 0 = e in omega (arith, first, is.sizes.0.0));
-      root_only = λ e. absurd (let none : label ∷ labels ≡ [] = ap (λ (n : Unparsed). n.0) e in cc);
       no_pointer = λ below. refl;
       pointer = λ high. absurd (let first : 192 ≤ length label = high in omega (arith, first, is.sizes.0.1));
     }

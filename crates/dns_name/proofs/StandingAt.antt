@@ -1,9 +1,8 @@
 -- Unparsed names at places of a message.
-use Rattle.std.proofs.Common.{◌≡◌, ℕ, ◌+◌, ◌-◌, ◌<◌, ◌≤◌, inl, inr, Bool, true, false, ltb, leb, List, [], ◌∷◌, ◌++◌, length, take, drop, Option, Some, None, refl, sym, ap, subst, ◌∙◌, append_assoc, arith}
-use Rattle.std.specs.Prelude.{IfSome, ◌&&◌}
+use Rattle.std.proofs.Common.{◌≡◌, ℕ, ◌+◌, ◌-◌, ◌<◌, ◌≤◌, inl, inr, true, false, ltb, leb, List, ◌++◌, length, take, drop, Option, Some, None, refl, sym, ap, subst, ◌∙◌, append_assoc, arith}
 use Rattle.std.proofs.lemmas.Bool.Decides.{nat_tests}
 use Rattle.std.proofs.lemmas.Bool.{le-ltb, ltb-false}
-use Rattle.std.proofs.lemmas.List.{take_at, drop_at, take-append-drop, take-append-le, length-append, length-take, length-drop}
+use Rattle.std.proofs.lemmas.List.{take_at, drop_at, take-append-drop, length-append, length-take, length-drop, drop-drop}
 use Rattle.std.proofs.lemmas.Option.{some_pair_parts}
 use Rattle.dns_wire.specs.Reading.{with_end, plain_at}
 use Rattle.dns_wire.proofs.Spelled.{chosen}
@@ -40,8 +39,16 @@ ended contents (Some (found, rest)) name end e =
     let same = some_pair_parts found name (length contents - length rest) end e in
     (rest, ap (λ (n : Unparsed). Some (n, rest)) same.0, same.1)
 
-pub unparsed_stands : (contents : List ℕ) (start : ℕ) (name : Unparsed) (end : ℕ) → unparsed_at contents start ≡ Some (name, end) → IsUnparsed name × (start ≤ end) × (take end contents ≡ take start contents ++ unparsed_wire name) × LeadsBack start (end_offset name)
-unparsed_stands contents start name end e =
+-- the name stands at the place, up to where it ends
+pub record UnparsedParts (contents : List ℕ) (start : ℕ) (name : Unparsed) (end : ℕ) : Type 0 where
+  pub is : IsUnparsed name
+  pub back : LeadsBack start (end_offset name)
+  pub within : start ≤ length contents
+  pub octets : drop start contents ≡ unparsed_wire name ++ drop end contents
+  pub end_is : start + length (unparsed_wire name) ≡ end
+
+pub unparsed_parts : (contents : List ℕ) (start : ℕ) (name : Unparsed) (end : ℕ) → unparsed_at contents start ≡ Some (name, end) → UnparsedParts contents start name end
+unparsed_parts contents start name end e =
     let t = at_is start (plain_at unparsed_name contents start) name end e in
     elim (chosen (ltb (length contents) start) _ _ _ t.0) [
       | inl past ↦ absurd (let h = past.1 in cc)
@@ -50,14 +57,21 @@ unparsed_stands contents start name end e =
           let found = ended contents (unparsed_name (drop start contents)) name end within.1 in
           let rest : List ℕ = found.0 in
           let read = unparsed_takes (drop start contents) name rest found.1 in
-          let long : length contents ≡ start + (length (unparsed_wire name) + length rest) = omega (arith, inside, length-drop start contents, ap length read.1, length-append (unparsed_wire name) rest) in
-          let ends : start + length (unparsed_wire name) ≡ end = omega (arith, long, found.2) in
-          let front : length (take start contents ++ unparsed_wire name) ≡ end = length-append (take start contents) (unparsed_wire name) ∙ omega (arith, ends, inside, length-take start contents) in
-          let parts : contents ≡ (take start contents ++ unparsed_wire name) ++ rest =
-          sym (take-append-drop start contents) ∙ ap (λ (l : List ℕ). take start contents ++ l) read.1 ∙ sym (append_assoc (take start contents) (unparsed_wire name) rest) in
-          let there : take end contents ≡ take start contents ++ unparsed_wire name = ap (take end) parts ∙ take_at (take start contents ++ unparsed_wire name) rest end front in
-          (read.0, omega (arith, ends), there, t.1)
+          let size : ℕ = length (unparsed_wire name) in
+          let ends : start + size ≡ end = omega (arith, inside, length-drop start contents, ap length read.1, length-append (unparsed_wire name) rest, found.2) in
+          let behind : drop end contents ≡ rest =
+          ap (λ (n : ℕ). drop n contents) (sym ends) ∙ sym (drop-drop size start contents) ∙ ap (drop size) read.1 ∙ drop_at (unparsed_wire name) rest size refl in
+          record { is = read.0; back = t.1; within = inside; octets = read.1 ∙ ap (λ (l : List ℕ). unparsed_wire name ++ l) (sym behind); end_is = ends }
     ]
+
+pub unparsed_stands : (contents : List ℕ) (start : ℕ) (name : Unparsed) (end : ℕ) → unparsed_at contents start ≡ Some (name, end) → IsUnparsed name × (start ≤ end) × (take end contents ≡ take start contents ++ unparsed_wire name) × LeadsBack start (end_offset name)
+unparsed_stands contents start name end e =
+    let p = unparsed_parts contents start name end e in
+    let octets : List ℕ = take start contents ++ unparsed_wire name in
+    let front : length octets ≡ end = length-append (take start contents) (unparsed_wire name) ∙ omega (arith, p.end_is, p.within, length-take start contents) in
+    let parts : contents ≡ octets ++ drop end contents =
+    sym (take-append-drop start contents) ∙ ap (λ (l : List ℕ). take start contents ++ l) p.octets ∙ sym (append_assoc (take start contents) (unparsed_wire name) (drop end contents)) in
+    (p.is, omega (arith, p.end_is), ap (take end) parts ∙ take_at octets (drop end contents) end front, p.back)
 
 pub unparsed_found : (before rest : List ℕ) (name : Unparsed) → IsUnparsed name → LeadsBack (length before) (end_offset name) → unparsed_at (before ++ (unparsed_wire name ++ rest)) (length before) ≡ Some (name, length before + length (unparsed_wire name))
 unparsed_found before rest name is back =

@@ -1,5 +1,5 @@
--- The orders of names by their octets (RFC 4034 section 6.3), and what it means to be in order.
-use Rattle.std.specs.Prelude.{◌≡◌, ℕ, List, ◌∷◌, ◌++◌}
+-- The orders of names by their octets (RFC 4034 section 6.3).
+use Rattle.std.specs.Prelude.{ℕ, List}
 use Rattle.std.specs.Ordering.{nat_cmp}
 use Rattle.std.specs.Cmp.Lexicographic.{slice_cmp}
 use Rattle.std.specs.declared.cmp.Ordering.{Ordering}
@@ -16,9 +16,3 @@ composed_cmp a b = octets_cmp (wire a) (wire b)
 -- names by their octets in small letters
 abbrev pub lowercase_composed_cmp : List (List ℕ) → List (List ℕ) → Ordering
 lowercase_composed_cmp a b = octets_cmp (wire (lowered a)) (wire (lowered b))
-
--- A list precedes another where the two agree up to some place, and there the first has ended and the other has not, or
--- what the first has is less. So no octet sorts before a zero octet.
-pub data Precedes {A : Type 0} (IsLess : A → A → Type 0) (xs ys : List A) : Type 0 where
-  ends : (y : A) (more : List A) → ys ≡ xs ++ y ∷ more → Precedes IsLess xs ys
-  differs : (front : List A) (x y : A) (more others : List A) → IsLess x y → xs ≡ front ++ x ∷ more → ys ≡ front ++ y ∷ others → Precedes IsLess xs ys

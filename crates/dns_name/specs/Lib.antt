@@ -1,7 +1,7 @@
 -- What the contracts of names cite.
-pub mod Cased
 pub mod Composed
 pub mod Hashing
 pub mod Left
 pub mod Order
+pub mod RowOrder
 pub mod Unparsed

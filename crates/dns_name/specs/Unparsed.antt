@@ -1,7 +1,8 @@
 -- Names as they stand, whatever their pointers lead to (RFC 1035 section 4.1.4).
-use Rattle.std.specs.Prelude.{ℕ, zero, suc, ◌+◌, ◌-◌, ◌*◌, ◌<◌, ◌≤◌, List, [], ◌∷◌, ◌++◌, length, take, drop, Bool, true, Option, Some, None, option_map, unwrap_or, IfSome, nat_lt, nat_le, ◌==◌, ◌||◌, ◌&&◌, if◌then◌else◌}
+use Rattle.std.specs.Prelude.{◌≡◌, ℕ, zero, suc, ◌+◌, ◌-◌, ◌*◌, ◌<◌, ◌≤◌, List, [], ◌∷◌, ◌++◌, length, take, drop, Bool, true, Option, Some, None, option_map, unwrap_or, IfSome, nat_lt, nat_le, ◌==◌, ◌||◌, ◌&&◌, if◌then◌else◌}
 use Rattle.std.specs.List.{AllByRecursion}
-use Rattle.dns_wire.specs.Names.{IsLabel, heads}
+use Rattle.dns_wire.specs.Names.{IsLabel, heads, wire}
+use Rattle.dns_wire.specs.Pointers.{name_at}
 use Rattle.dns_wire.specs.Reading.{all_of, plain_at}
 
 -- labels, and the two octets of the pointer behind them; where the root is behind them, there is none
@@ -93,3 +94,21 @@ if_it_leads_back start (Some (name, end)) = if leads_back start (end_offset name
 -- the unparsed name at a place of the contents, and where it ends
 abbrev pub unparsed_at : List ℕ → ℕ → Option (Unparsed × ℕ)
 unparsed_at contents start = if_it_leads_back start (plain_at unparsed_name contents start)
+
+-- ---- as the front of a name
+
+-- the labels behind those of an unparsed name, whose pointer leads to this offset, if it has one: none behind the root, and
+-- behind a pointer those of the name that is read at its target
+abbrev pub GoesOn : List ℕ → Option ℕ → List (List ℕ) → Type 0
+GoesOn contents None others = others ≡ []
+GoesOn contents (Some offset) others = (end : ℕ) × (name_at contents (offset - 12) ≡ Some (others, end))
+
+-- An unparsed name stands at the place and ends at end. Its labels and those behind them are these labels, whose octets are
+-- at most 255 in all.
+pub record Continued (contents : List ℕ) (start : ℕ) (labels : List (List ℕ)) (end : ℕ) : Type 0 where
+  pub front : Unparsed
+  pub stands : unparsed_at contents start ≡ Some (front, end)
+  pub others : List (List ℕ)
+  pub goes_on : GoesOn contents (end_offset front) others
+  pub labels_are : labels ≡ front.0 ++ others
+  pub short : length (wire labels) ≤ 255

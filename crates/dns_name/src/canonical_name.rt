@@ -19,6 +19,12 @@ pub trait CanonicalName: BuildBytes + Ord {
     /// The labels, without the root.
     ghost name: { Self → List (List ℕ) };
 
+    /// The number of octets, from 1 to 255. That the labels are a name is told by it, with no other name to
+    /// compare with.
+    fn composed_size(&self) -> usize
+        ensures size { result ≡ length (wire (name self.now)) }
+        ensures name { IsName (name self.now) };
+
     /// Writes the octets in small letters at a place of the buffer, and gives the place where they end.
     /// It is accepted exactly where they are at most the octets from `start` on. After `TruncationError`
     /// the octets before `start` are as before.
@@ -73,6 +79,10 @@ impl CanonicalName for Name<'_> {
 
     ghost ordered = { λ _ _. refl };
 
+    fn composed_size(&self) -> usize {
+        self.len()
+    }
+
     fn build_lowercased_at(
         &self,
         bytes: &mut [u8],
@@ -98,6 +108,10 @@ impl CanonicalName for NameBuf {
     ghost always_fits = { λ _. tt };
 
     ghost ordered = { λ _ _. refl };
+
+    fn composed_size(&self) -> usize {
+        self.as_name().composed_size()
+    }
 
     fn build_lowercased_at(
         &self,
@@ -125,6 +139,10 @@ impl<N: CanonicalName> CanonicalName for &N {
 
     ghost ordered = { λ v w. N.ordered v.now w.now };
 
+    fn composed_size(&self) -> usize {
+        (**self).composed_size()
+    }
+
     fn build_lowercased_at(
         &self,
         bytes: &mut [u8],
@@ -151,6 +169,10 @@ impl<N: CanonicalName> CanonicalName for Box<N> {
 
     ghost ordered = { λ v w. N.ordered v.value w.value };
 
+    fn composed_size(&self) -> usize {
+        self.as_ref().composed_size()
+    }
+
     fn build_lowercased_at(
         &self,
         bytes: &mut [u8],
@@ -176,6 +198,10 @@ impl<N: CanonicalName> CanonicalName for Rc<N> {
     ghost always_fits = { λ v. N.always_fits v.value };
 
     ghost ordered = { λ v w. N.ordered v.value w.value };
+
+    fn composed_size(&self) -> usize {
+        (**self).composed_size()
+    }
 
     fn build_lowercased_at(
         &self,

@@ -1,13 +1,15 @@
 //! The definitions of this crate in other words.
 
-ghost use Rattle.std.specs.Prelude.{◌≡◌, ◌<◌, ◌≤◌, ◌+◌, ◌++◌, ℕ, List, length, take, Some};
+ghost use Rattle.std.specs.Prelude.{◌≡◌, ◌<◌, ◌≤◌, ◌↔◌, ◌+◌, ◌++◌, ℕ, List, length, take, Some};
 ghost use Rattle.std.specs.Str.{str_to_ascii_lowercase};
 ghost use Rattle.std.specs.declared.cmp.Ordering.TheVariants.{Less, Equal};
 ghost use Rattle.dns_wire.specs.Names.{IsName, wire, lowered, labels_of};
 ghost use Rattle.dns_wire.specs.Reversed.{reversed_wire, reversed_name, reversed_labels_of};
-ghost use Rattle.dns_name.specs.Composed.{octets_cmp, composed_cmp, lowercase_composed_cmp, Precedes};
+ghost use Rattle.dns_wire.specs.Pointers.{name_at};
+ghost use Rattle.dns_label.specs.Order.{Precedes};
+ghost use Rattle.dns_name.specs.Composed.{octets_cmp, composed_cmp, lowercase_composed_cmp};
 ghost use Rattle.dns_name.specs.Order.{key, key_cmp};
-ghost use Rattle.dns_name.specs.Unparsed.{Unparsed, IsUnparsed, unparsed_wire, unparsed_name, unparsed_at, end_offset, LeadsBack};
+ghost use Rattle.dns_name.specs.Unparsed.{Unparsed, IsUnparsed, unparsed_wire, unparsed_name, unparsed_at, end_offset, LeadsBack, Continued};
 
 use crate::name::Name;
 use crate::name_buf::NameBuf;
@@ -20,29 +22,24 @@ use crate::rev_name_buf::RevNameBuf;
 /// name in small letters (RFC 4034 section 6.2).
 pub fn orders_by_octets()
     ensures less { (octets others : List ℕ) →
-        octets_cmp octets others ≡ Less → Precedes ◌<◌ octets others }
-    ensures precedes { (octets others : List ℕ) →
-        Precedes ◌<◌ octets others → octets_cmp octets others ≡ Less }
+        (octets_cmp octets others ≡ Less) ↔ Precedes ◌<◌ octets others }
     ensures ties { (a b : List (List ℕ)) →
-        IsName a → IsName b → composed_cmp a b ≡ Equal → a ≡ b }
+        IsName a → IsName b → (composed_cmp a b ≡ Equal) ↔ (a ≡ b) }
     ensures small_ties { (a b : List (List ℕ)) →
-        IsName a → IsName b → lowercase_composed_cmp a b ≡ Equal → lowered a ≡ lowered b }
+        IsName a → IsName b → (lowercase_composed_cmp a b ≡ Equal) ↔ (lowered a ≡ lowered b) }
     ensures small { (labels : List (List ℕ)) →
         IsName labels → str_to_ascii_lowercase (wire labels) ≡ wire (lowered labels) }
 {}
 
 /// A name comes before another exactly where, from the root on, it has the smaller label at the first place
-/// at which the two differ, or ends there; labels are compared in small letters, octet by octet (RFC 4034
-/// section 6.1). Two names tie exactly where they are one in small letters.
+/// at which the two differ, or ends there; of two labels in small letters the smaller is the one that
+/// `dns_label::order_of_labels` puts first (RFC 4034 section 6.1). Two names tie exactly where they are one in
+/// small letters.
 pub fn label_order()
     ensures less { (a b : List (List ℕ)) →
-        key_cmp (key a) (key b) ≡ Less → Precedes (Precedes ◌<◌) (key a) (key b) }
-    ensures precedes { (a b : List (List ℕ)) →
-        Precedes (Precedes ◌<◌) (key a) (key b) → key_cmp (key a) (key b) ≡ Less }
+        (key_cmp (key a) (key b) ≡ Less) ↔ Precedes (Precedes ◌<◌) (key a) (key b) }
     ensures ties { (a b : List (List ℕ)) →
-        key_cmp (key a) (key b) ≡ Equal → lowered a ≡ lowered b }
-    ensures tied { (a b : List (List ℕ)) →
-        lowered a ≡ lowered b → key_cmp (key a) (key b) ≡ Equal }
+        (key_cmp (key a) (key b) ≡ Equal) ↔ (lowered a ≡ lowered b) }
 {}
 
 /// Names stand in one order, whichever way their octets go: views of the same labels compare alike, and so
@@ -82,4 +79,12 @@ pub fn unparsed_names()
     ensures found { (before rest : List ℕ) (name : Unparsed) →
         IsUnparsed name → LeadsBack (length before) (end_offset name) →
         unparsed_at (before ++ (unparsed_wire name ++ rest)) (length before) ≡ Some (name, length before + length (unparsed_wire name)) }
+{}
+
+/// A name is read at a place exactly where an unparsed name is read there, and the pointer of that, if it has
+/// one, leads to a name that is read as the rest, within 255 octets in all (RFC 1035 section 4.1.4). Both end
+/// at one place.
+pub fn unparsed_names_continue()
+    ensures { (contents : List ℕ) (start : ℕ) (labels : List (List ℕ)) (end : ℕ) →
+        (name_at contents start ≡ Some (labels, end)) ↔ Continued contents start labels end }
 {}

@@ -2,6 +2,7 @@
 #![tactic(auto)]
 
 mod canonical_name;
+mod conversion;
 mod hash;
 mod in_message;
 mod label_row;
@@ -14,10 +15,14 @@ mod rev_canonical;
 mod rev_name;
 mod rev_name_buf;
 mod rev_order;
+mod row_order;
 mod unparsed_name;
 
 pub use canonical_name::CanonicalName;
-pub use laws::{label_order, one_order, orders_by_octets, reversed_names, unparsed_names};
+pub use laws::{
+    label_order, one_order, orders_by_octets, reversed_names, unparsed_names,
+    unparsed_names_continue,
+};
 pub use lowercased::Lowercased;
 pub use name::Name;
 pub use name_buf::NameBuf;

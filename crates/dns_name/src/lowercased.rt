@@ -23,7 +23,11 @@ impl<N: CanonicalName> BuildBytes for Lowercased<'_, N> {
         self.name.build_lowercased_at(bytes, start)
     }
 
-    fn built_bytes_size(&self) -> usize {
-        self.name.built_bytes_size()
+    /// The number of octets, from 1 to 255, which is the same in whatever case.
+    fn built_bytes_size(&self) -> usize
+        ensures size { result ≡ length (wire (lowered (N.name self.now.name.now))) }
+        ensures short { result ≤ 255 }
+    {
+        self.name.composed_size()
     }
 }

@@ -1,13 +1,14 @@
 //! A name as a view over its octets.
 
-ghost use Rattle.std.specs.Prelude.{◌≡◌, ◌≤◌, ◌<◌, ◌^◌, ◌↔◌, ℕ, List, [], ◌∷◌, ◌++◌, length, Option, Some, IfOk, IsTrue, MatchOption};
+ghost use Rattle.std.specs.Prelude.{◌≡◌, ◌+◌, ◌≤◌, ◌↔◌, ℕ, List, [], ◌∷◌, ◌++◌, length, Option, Some, IfOk, IsTrue};
 ghost use Rattle.std.proofs.Props.{props};
 ghost use Rattle.dns_wire.specs.Reading.{Gives, all_of, plain_at};
 ghost use Rattle.dns_wire.specs.Left.{plain_ends};
 ghost use Rattle.dns_wire.proofs.NamesLeft.{plain_name_leaves, plain_name_names};
 ghost use Rattle.dns_wire.specs.Names.{plain_name, labels_of, wire};
-ghost use Rattle.dns_label.specs.Labels.{contents_of};
+ghost use Rattle.dns_wire.specs.Reversed.{row_labels};
 
+use crate::label_row::LabelRow;
 use dns_label::{Label, LabelIter};
 use dns_wire::{
     AsBytes, BuildBytes, ParseBytes, ParseError, ParseName, SplitBytes, TruncationError, put, whole,
@@ -46,7 +47,7 @@ impl<'a> Name<'a> {
     pub fn is_root(&self) -> bool
         ensures { IsTrue result ↔ (labels_of self.now.slice.now ≡ []) }
     {
-        self.split_first().is_none()
+        self.len() == 1
     }
 
     /// The octets: the labels, each behind its length, and the root's 0.
@@ -67,17 +68,14 @@ impl<'a> Name<'a> {
         LabelIter::new(self.as_bytes())
     }
 
-    /// The first label, and the name behind it; none where the name is the root.
-    pub(crate) fn split_first(&self) -> Option<(Label<'a>, Name<'a>)>
-        ensures { MatchOption result (labels_of self.now.slice.now ≡ [])
-            (λ x. labels_of self.now.slice.now ≡ contents_of x.0.slice.now ∷ labels_of x.1.slice.now) }
+    /// The labels, from the first to the last.
+    pub(crate) fn row(&self) -> LabelRow<'a>
+        ensures labels { row_labels result.slice.now ≡ labels_of self.now.slice.now }
+        ensures short { length result.slice.now ≤ 254 }
     {
-        let size = self.slice[0] as usize;
-        if size == 0 {
-            return None;
-        }
-        let (label, rest) = self.slice.split_at(1 + size);
-        Some((Label { slice: label }, Name { slice: rest }))
+        let octets = self.as_bytes();
+        let (labels, _root) = octets.split_at(octets.len() - 1);
+        LabelRow { slice: labels }
     }
 }
 
@@ -114,7 +112,7 @@ impl<'a> SplitBytes<'a> for Name<'a> {
                 let (front, rest) = bytes.split_at(end + 1);
                 return Ok((Name { slice: front }, rest));
             }
-            if size > 63 || bytes.len() - end <= size {
+            if size > Label::MAX_SIZE || bytes.len() - end <= size {
                 return Err(ParseError);
             }
             end += 1 + size;
@@ -135,7 +133,11 @@ impl<'a> BuildBytes for Name<'a> {
         put(self.as_bytes(), bytes, start)
     }
 
-    fn built_bytes_size(&self) -> usize {
+    /// The number of octets, from 1 to 255.
+    fn built_bytes_size(&self) -> usize
+        ensures size { result ≡ length (wire (labels_of self.now.slice.now)) }
+        ensures short { result ≤ 255 }
+    {
         self.len()
     }
 }

@@ -1,6 +1,6 @@
 //! A name with its octets.
 
-ghost use Rattle.std.specs.Prelude.{◌≡◌, ◌+◌, ◌≤◌, ℕ, List, ◌++◌, length, take, IfOk, OnErr, ⊤};
+ghost use Rattle.std.specs.Prelude.{◌≡◌, ◌+◌, ◌≤◌, ℕ, List, ◌++◌, length, take, Some, IfOk, OnErr, ⊤};
 ghost use Rattle.dns_wire.specs.Reading.{Gives, all_of, all_at};
 ghost use Rattle.dns_wire.proofs.NamesLeft.{plain_name_leaves, name_ends, plain_name_names, name_at_names};
 ghost use Rattle.dns_wire.specs.Names.{plain_name, labels_of};
@@ -17,8 +17,8 @@ use std::marker::Model;
 /// A name that owns its octets, and is seen as its labels. It takes no memory.
 #[derive(Debug, Drop)]
 pub struct NameBuf {
-    pub(crate) size: u8,
-    pub(crate) buffer: [u8; Name::MAX_SIZE],
+    size: u8,
+    buffer: [u8; Name::MAX_SIZE],
 }
 
 impl Model for NameBuf {
@@ -42,8 +42,17 @@ impl NameBuf {
         let octets = name.as_bytes();
         let mut buffer = [0; Name::MAX_SIZE];
         copy_at(octets, &mut buffer, 0);
+        NameBuf::from_buffer(buffer, octets.len())
+    }
+
+    /// The name whose octets are so many at the front of the buffer.
+    pub(crate) fn from_buffer(buffer: [u8; Name::MAX_SIZE], size: usize) -> NameBuf
+        requires short { size ≤ 255 }
+        requires name { all_of (plain_name (take size buffer)) ≡ Some (labels_of (take size buffer)) }
+        ensures { result ≡ labels_of (take size buffer) }
+    {
         NameBuf {
-            size: octets.len() as u8,
+            size: size as u8,
             buffer,
         }
     }
@@ -81,10 +90,7 @@ fn read_name(contents: &[u8], start: usize) -> Result<(NameBuf, usize), ParseErr
         match read_head(contents, segment, at)? {
             Head::Root => {
                 copy_at(&[0], &mut buffer, size);
-                let name = NameBuf {
-                    size: (size + 1) as u8,
-                    buffer,
-                };
+                let name = NameBuf::from_buffer(buffer, size + 1);
                 return Ok((name, end.unwrap_or(at + 1)));
             }
             Head::Label(label) => {
@@ -110,7 +116,10 @@ impl Clone for NameBuf {
     ghost is_infallible = { λ _. ⊤ };
 
     fn clone(&self) -> Result<NameBuf, AllocError> {
-        Ok(NameBuf::copy_from(self.as_name()))
+        Ok(NameBuf {
+            size: self.size,
+            buffer: self.buffer,
+        })
     }
 }
 
@@ -186,7 +195,11 @@ ghost use Rattle.dns_wire.specs.Names.{wire};
         self.as_name().build_at(bytes, start)
     }
 
-    fn built_bytes_size(&self) -> usize {
+    /// The number of octets, from 1 to 255.
+    fn built_bytes_size(&self) -> usize
+        ensures size { result ≡ length (wire self.now) }
+        ensures short { result ≤ 255 }
+    {
         self.as_name().built_bytes_size()
     }
 }

@@ -1,81 +1,16 @@
 //! The order of names: by labels from the root on, each by its lowered octets (RFC 4034 section 6.1).
 
-ghost use Rattle.std.specs.Prelude.{◌≡◌, ◌≤◌, length, drop};
+ghost use Rattle.std.specs.Prelude.{◌≡◌};
 ghost use Rattle.std.proofs.Common.{rules};
 ghost use Rattle.std.specs.Cmp.{partial_order_from_own_ties};
 ghost use Rattle.std.specs.Cmp.Rules.{comparing};
-ghost use Rattle.std.specs.Ordering.{on, as_partial_cmp, eq_by_cmp, ordering_then};
-ghost use Rattle.dns_wire.specs.Names.{labels_of};
+ghost use Rattle.std.specs.Ordering.{on, as_partial_cmp, eq_by_cmp};
 ghost use Rattle.dns_name.specs.Order.{key, key_of, key_cmp};
 
 use crate::name::Name;
 use crate::name_buf::NameBuf;
+use crate::row_order::{LabelOrder, compare_from_last};
 use std::cmp::Ordering;
-
-/// How many labels a name has, without the root's.
-fn count_labels(name: Name<'_>) -> usize
-    ensures { result ≡ length (labels_of name.entry.slice.now) }
-{
-    let mut rest = name;
-    let mut count = 0;
-    while let Some((_label, next)) = rest.split_first() {
-        rest = next;
-        count += 1;
-    }
-    count
-}
-
-/// The name behind so many labels.
-fn skip_labels(name: Name<'_>, count: usize) -> Name<'_>
-    requires { count ≤ length (labels_of name.slice.now) }
-    ensures { labels_of result.slice.now ≡ drop count (labels_of name.entry.slice.now) }
-{
-    let mut rest = name;
-    let mut left = count;
-    while left > 0 {
-        let Some((_label, next)) = rest.split_first() else {
-            return rest;
-        };
-        rest = next;
-        left -= 1;
-    }
-    rest
-}
-
-/// The order of two names with as many labels, or else `ahead`: the last labels that differ decide.
-fn compare_aligned(a: Name<'_>, b: Name<'_>, ahead: Ordering) -> Ordering
-    requires { length (labels_of a.slice.now) ≡ length (labels_of b.slice.now) }
-    ensures { result ≡ ordering_then (key_cmp (key_of a.entry.slice.now) (key_of b.entry.slice.now)) ahead }
-{
-    let mut order = ahead;
-    let mut left = a;
-    let mut right = b;
-    while let Some((label, next)) = left.split_first() {
-        let Some((other, last)) = right.split_first() else {
-            return order;
-        };
-        order = label.cmp(&other).then(order);
-        left = next;
-        right = last;
-    }
-    order
-}
-
-/// The order of two names. The labels that the longer one has in front count only where all others are
-/// the same.
-fn compare(a: &Name<'_>, b: &Name<'_>) -> Ordering
-    ensures { result ≡ key_cmp (key_of a.now.slice.now) (key_of b.now.slice.now) }
-{
-    let left = count_labels(*a);
-    let right = count_labels(*b);
-    let more = left.saturating_sub(right);
-    let less = right.saturating_sub(left);
-    compare_aligned(
-        skip_labels(*a, more),
-        skip_labels(*b, less),
-        left.cmp(&right),
-    )
-}
 
 impl PartialEq for Name<'_> {
     ghost eq = { eq_by_cmp (on (λ v. key_of v.slice.now) key_cmp) };
@@ -104,7 +39,7 @@ impl Ord for Name<'_> {
     /// Label order: labels are compared from the root on, each by lowered octets, and a proper prefix
     /// comes first.
     fn cmp(&self, other: &Self) -> Ordering {
-        compare(self, other)
+        compare_from_last(self.row(), other.row(), LabelOrder::Canonical)
     }
 }
 

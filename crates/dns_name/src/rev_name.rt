@@ -7,8 +7,6 @@ ghost use Rattle.dns_wire.specs.Names.{wire};
 ghost use Rattle.dns_wire.specs.Reversed.{row_labels, reversed_wire, reversed_name, reversed_labels_of};
 
 use crate::label_row::{LabelRow, copy_before};
-use crate::name::Name;
-use crate::name_buf::NameBuf;
 use dns_label::LabelIter;
 use dns_wire::{BuildBytes, TruncationError};
 
@@ -67,18 +65,6 @@ impl<'a> RevName<'a> {
         LabelIter::new(self.as_bytes())
     }
 
-    /// The name with its first label in front.
-    pub fn to_name(&self) -> NameBuf
-        ensures { result ≡ reversed_labels_of self.now.slice.now }
-    {
-        let mut buffer = [0; Name::MAX_SIZE];
-        let size = self.put_forward(&mut buffer, 0);
-        NameBuf {
-            size: size as u8,
-            buffer,
-        }
-    }
-
     /// The labels, from the last to the first.
     pub(crate) fn row(&self) -> LabelRow<'a>
         ensures labels { row_labels result.slice.now ≡ reverse (reversed_labels_of self.now.slice.now) }
@@ -89,7 +75,7 @@ impl<'a> RevName<'a> {
     }
 
     /// Copies the labels to a place of the buffer, the first label first, and gives the place where they end.
-    fn put_forward(&self, bytes: &mut [u8], start: usize) -> usize
+    pub(crate) fn put_forward(&self, bytes: &mut [u8], start: usize) -> usize
         requires { start + length self.now.slice.now ≤ length bytes.old }
         ensures { Stands (wire (reversed_labels_of self.now.slice.now)) bytes.old start bytes.new result }
     {
@@ -113,7 +99,11 @@ impl BuildBytes for RevName<'_> {
         Ok(self.put_forward(bytes, start))
     }
 
-    fn built_bytes_size(&self) -> usize {
+    /// The number of octets, from 1 to 255.
+    fn built_bytes_size(&self) -> usize
+        ensures size { result ≡ length (wire (reversed_labels_of self.now.slice.now)) }
+        ensures short { result ≤ 255 }
+    {
         self.len()
     }
 }

@@ -1,15 +1,14 @@
 //! A name from the root on, with its octets.
 
-ghost use Rattle.std.specs.Prelude.{◌≡◌, ◌≤◌, ℕ, List, length, IfOk, OnErr, ⊤};
+ghost use Rattle.std.specs.Prelude.{◌≡◌, ◌≤◌, ◌<◌, ℕ, List, length, drop, Some, IfOk, OnErr, ⊤};
 ghost use Rattle.dns_wire.specs.Reading.{Gives, all_of, all_at};
 ghost use Rattle.dns_wire.proofs.NamesLeft.{plain_name_leaves, name_ends, plain_name_names, name_at_names};
-ghost use Rattle.dns_wire.specs.Names.{plain_name, labels_of, wire};
+ghost use Rattle.dns_wire.specs.Names.{plain_name, wire};
 ghost use Rattle.dns_wire.specs.Pointers.{NameAt, name_at};
-ghost use Rattle.dns_wire.specs.Reversed.{reversed_labels_of};
+ghost use Rattle.dns_wire.specs.Reversed.{reversed_name, reversed_labels_of};
 
-use crate::label_row::{LabelRow, copy_before};
+use crate::label_row::copy_before;
 use crate::name::Name;
-use crate::name_buf::NameBuf;
 use crate::rev_name::RevName;
 use dns_wire::{
     BuildBytes, Head, ParseBytes, ParseError, ParseMessageBytes, SplitBytes, SplitMessageBytes,
@@ -47,8 +46,17 @@ impl RevNameBuf {
         let octets = name.as_bytes();
         let mut buffer = [0; RevName::MAX_SIZE];
         copy_before(octets, &mut buffer, RevName::MAX_SIZE);
+        RevNameBuf::from_buffer(buffer, RevName::MAX_SIZE - octets.len())
+    }
+
+    /// The name whose octets are those of the buffer from `offset` on.
+    pub(crate) fn from_buffer(buffer: [u8; RevName::MAX_SIZE], offset: usize) -> RevNameBuf
+        requires early { offset < 255 }
+        requires name { reversed_name (drop offset buffer) ≡ Some (reversed_labels_of (drop offset buffer)) }
+        ensures { result ≡ reversed_labels_of (drop offset buffer) }
+    {
         RevNameBuf {
-            offset: (RevName::MAX_SIZE - octets.len()) as u8,
+            offset: offset as u8,
             buffer,
         }
     }
@@ -63,47 +71,16 @@ impl RevNameBuf {
     }
 }
 
-impl<'a> Name<'a> {
-    /// The name from the root on.
-    pub fn to_revname(&self) -> RevNameBuf
-        ensures { result ≡ labels_of self.now.slice.now }
-    {
-        let octets = self.as_bytes();
-        let (labels, _root) = octets.split_at(octets.len() - 1);
-        let mut buffer = [0; RevName::MAX_SIZE];
-        LabelRow { slice: labels }.put_reversed(&mut buffer, RevName::MAX_SIZE);
-        let offset = RevName::MAX_SIZE - labels.len();
-        copy_before(&[0], &mut buffer, offset);
-        RevNameBuf {
-            offset: (offset - 1) as u8,
-            buffer,
-        }
-    }
-}
-
-impl From<NameBuf> for RevNameBuf {
-    ghost from_gives = { λ name reversed. reversed ≡ name };
-
-    fn from(name: NameBuf) -> RevNameBuf {
-        name.as_name().to_revname()
-    }
-}
-
-impl From<RevNameBuf> for NameBuf {
-    ghost from_gives = { λ reversed name. name ≡ reversed };
-
-    fn from(name: RevNameBuf) -> NameBuf {
-        name.as_revname().to_name()
-    }
-}
-
 impl Clone for RevNameBuf {
     ghost is_clone = { λ a b. b ≡ a };
 
     ghost is_infallible = { λ _. ⊤ };
 
     fn clone(&self) -> Result<RevNameBuf, AllocError> {
-        Ok(RevNameBuf::copy_from(self.as_revname()))
+        Ok(RevNameBuf {
+            offset: self.offset,
+            buffer: self.buffer,
+        })
     }
 }
 
@@ -123,10 +100,7 @@ fn read_reversed(contents: &[u8], start: usize) -> Result<(RevNameBuf, usize), P
         match read_head(contents, segment, at)? {
             Head::Root => {
                 copy_before(&[0], &mut buffer, offset);
-                let name = RevNameBuf {
-                    offset: (offset - 1) as u8,
-                    buffer,
-                };
+                let name = RevNameBuf::from_buffer(buffer, offset - 1);
                 return Ok((name, end.unwrap_or(at + 1)));
             }
             Head::Label(label) => {
@@ -219,7 +193,11 @@ impl BuildBytes for RevNameBuf {
         self.as_revname().build_at(bytes, start)
     }
 
-    fn built_bytes_size(&self) -> usize {
+    /// The number of octets, from 1 to 255.
+    fn built_bytes_size(&self) -> usize
+        ensures size { result ≡ length (wire self.now) }
+        ensures short { result ≤ 255 }
+    {
         self.as_revname().built_bytes_size()
     }
 }

@@ -5,13 +5,20 @@ ghost use Rattle.std.proofs.Props.{props};
 ghost use Rattle.dns_wire.specs.Reading.{Gives, all_of, all_at, plain_at};
 ghost use Rattle.dns_label.specs.Labels.{contents_of};
 ghost use Rattle.dns_name.specs.Left.{unparsed_leaves, unparsed_ends, unparsed_names, unparsed_names_at};
-ghost use Rattle.dns_name.specs.Unparsed.{Unparsed, unparsed_wire, end_offset, alone_offset, unparsed_name, unparsed_of, unparsed_at};
+ghost use Rattle.dns_name.specs.Unparsed.{Unparsed, unparsed_wire, offset_of, end_offset, alone_offset, unparsed_name, unparsed_of, unparsed_at};
 
 use dns_label::Label;
 use dns_wire::{
     AsBytes, BuildBytes, ParseBytes, ParseError, ParseMessageBytes, SplitBytes, SplitMessageBytes,
     TruncationError, put, whole, whole_message,
 };
+
+/// The two bits in front of a pointer's offset are ones, so its first octet is at least this (RFC 1035 section
+/// 4.1.4).
+const POINTER_BITS: u8 = 0xc0;
+
+/// The octets of a message's header, which pointers count and places do not (RFC 1035 section 4.1.1).
+const HEADER_SIZE: usize = 12;
 
 /// Labels of 1 to 63 octets, each behind its length, and then the root's length 0 or a pointer, which begin
 /// at octet 254 at the latest, counted from 0. What a pointer leads to is not looked at.
@@ -47,7 +54,7 @@ impl<'a> UnparsedName<'a> {
     pub fn is_root(&self) -> bool
         ensures { IsTrue result ↔ (unparsed_of self.now.slice.now ≡ ([], None)) }
     {
-        self.slice[0] == 0
+        self.len() == 1
     }
 
     /// The octets: the labels, each behind its length, and the root's 0 or a pointer's two octets.
@@ -65,11 +72,11 @@ impl<'a> UnparsedName<'a> {
     pub fn pointer_value(&self) -> Option<u16>
         ensures { result ≡ alone_offset (unparsed_of self.now.slice.now) }
     {
-        let high = self.slice[0] as u16;
-        if high < 192 {
+        let high = self.slice[0];
+        if high < POINTER_BITS {
             return None;
         }
-        Some((high - 192) * 256 + self.slice[1] as u16)
+        Some(pointer_offset(high, self.slice[1]))
     }
 
     /// The first label, and the name behind it; none where the root or one pointer is all that stands here.
@@ -77,11 +84,11 @@ impl<'a> UnparsedName<'a> {
         ensures { MatchOption result ((unparsed_of self.now.slice.now).0 ≡ [])
             (λ x. unparsed_of self.now.slice.now ≡ (contents_of x.0.slice.now ∷ (unparsed_of x.1.slice.now).0, (unparsed_of x.1.slice.now).1)) }
     {
-        let size = self.slice[0] as usize;
-        if size == 0 || size >= 192 {
+        let size = self.slice[0];
+        if size == 0 || size >= POINTER_BITS {
             return None;
         }
-        let (label, rest) = self.slice.split_at(1 + size);
+        let (label, rest) = self.slice.split_at(1 + size as usize);
         Some((Label { slice: label }, UnparsedName { slice: rest }))
     }
 }
@@ -90,6 +97,14 @@ impl AsBytes for UnparsedName<'_> {
     fn as_bytes(&self) -> &[u8] {
         UnparsedName::as_bytes(self)
     }
+}
+
+/// Where a pointer of these two octets leads, by the 14 bits behind its first two.
+fn pointer_offset(high: u8, low: u8) -> u16
+    requires { 192 ≤ high }
+    ensures { result ≡ offset_of (high, low) }
+{
+    u16::from_be_bytes([high - POINTER_BITS, low])
 }
 
 /// Goes over the labels of the unparsed name at the front, and gives the place where it ends and where its
@@ -103,22 +118,23 @@ fn read_unparsed(bytes: &[u8]) -> Result<(usize, Option<usize>), ParseError>
 {
     let mut at = 0;
     while at < bytes.len() && at < UnparsedName::MAX_SIZE - 1 {
-        let head = bytes[at] as usize;
+        let head = bytes[at];
         if head == 0 {
             return Ok((at + 1, None));
         }
         let left = bytes.len() - at;
-        if head >= 192 {
+        if head >= POINTER_BITS {
             if left < 2 {
                 return Err(ParseError);
             }
-            let offset = (head - 192) * 256 + bytes[at + 1] as usize;
-            return Ok((at + 2, Some(offset)));
+            let offset = pointer_offset(head, bytes[at + 1]);
+            return Ok((at + 2, Some(offset as usize)));
         }
-        if head > 63 || left <= head {
+        let size = head as usize;
+        if size > Label::MAX_SIZE || left <= size {
             return Err(ParseError);
         }
-        at += 1 + head;
+        at += 1 + size;
     }
     Err(ParseError)
 }
@@ -171,7 +187,7 @@ impl<'a> SplitMessageBytes<'a> for UnparsedName<'a> {
         let (_before, bytes) = contents.split_at(start);
         let (size, pointer) = read_unparsed(bytes)?;
         if let Some(offset) = pointer {
-            if offset < 12 || start <= offset - 12 {
+            if offset < HEADER_SIZE || start <= offset - HEADER_SIZE {
                 return Err(ParseError);
             }
         }
@@ -193,7 +209,11 @@ impl BuildBytes for UnparsedName<'_> {
         put(self.as_bytes(), bytes, start)
     }
 
-    fn built_bytes_size(&self) -> usize {
+    /// The number of octets, from 1 to 256.
+    fn built_bytes_size(&self) -> usize
+        ensures size { result ≡ length (unparsed_wire (unparsed_of self.now.slice.now)) }
+        ensures short { result ≤ 256 }
+    {
         self.len()
     }
 }

@@ -3,7 +3,6 @@
 use crate::{Name, NameBuf};
 use dns_wire::{BuildInMessage, NameCompressor, ParseBytes, SplitMessageBytes};
 use std::process::Abort;
-use std::rc::Rc;
 use std::test::Fail;
 
 /// Names, each with the place where it ends in the contents of a message.
@@ -91,30 +90,17 @@ fn shares_the_names_of_the_standard(rt: HostRuntime) -> Result<(), Fail> {
     Ok(())
 }
 
-/// A name of 127 labels, and one of two, of which the first is the 128th that is kept.
 #[test]
-fn keeps_128_places(rt: HostRuntime) -> Result<(), Fail> {
-    let mut octets = [b'a'; 255];
-    for (place, octet) in octets.iter_mut().enumerate() {
-        if place % 2 == 0 {
-            *octet = 1;
-        }
-    }
-    octets[254] = 0;
-    let longest = Name::parse_bytes(&octets)?;
-    let two = Name::parse_bytes(b"\x01x\x01y\0")?;
-    let one = Name::parse_bytes(b"\x01Y\0")?;
-
-    let mut contents = [0; 265];
+fn two_names_compressed(rt: HostRuntime) -> Result<(), Fail> {
+    let mut contents = [0; 23];
     let mut compressor = NameCompressor::new();
-    let end = longest.build_in_message(&mut contents, 0, &mut compressor)?;
-    let end = two.build_in_message(&mut contents, end, &mut compressor)?;
-    let end = one.build_in_message(&mut contents, end, &mut compressor)?;
-    let end = two.build_in_message(&mut contents, end, &mut compressor)?;
-    assert_eq!(rt; end, 265);
-    assert_eq!(rt; &contents[255..], b"\x01x\x01y\0\x01Y\0\xc1\x0b".as_slice());
-    assert_eq!(rt; compressor.places().len(), 128);
-    assert_eq!(rt; compressor.places().last(), Some(&255));
+    let name = Name::parse_bytes(b"\x07example\x03org\0")?;
+    let end = name.build_in_message(&mut contents, 0, &mut compressor)?;
+    let name = Name::parse_bytes(b"\x07unequal\x03ORG\0")?;
+    let end = name.build_in_message(&mut contents, end, &mut compressor)?;
+    assert_eq!(rt; end, 23);
+    assert_eq!(rt; contents, *b"\x07example\x03org\0\x07unequal\xc0\x14");
+    assert_eq!(rt; compressor.places(), [0, 8, 13].as_slice());
     Ok(())
 }
 
@@ -141,31 +127,6 @@ fn keeps_places_in_reach(rt: HostRuntime) -> Result<(), Fail> {
     let end = one.build_in_message(contents, end, &mut compressor)?;
     assert_eq!(rt; end, 16376);
     assert_eq!(rt; &contents[16371..16376], b"\x01Y\0\xff\xff".as_slice());
-    Ok(())
-}
-
-#[test]
-fn refuses_names_without_a_trace(rt: HostRuntime) -> Result<(), Fail> {
-    let two = Name::parse_bytes(b"\x01x\x01y\0")?;
-    let three = Name::parse_bytes(b"\x03www\x01X\x01Y\0")?;
-    let octets: &[u8] = b"octets";
-    let mut contents = [b'.'; 10];
-
-    // The name has room, and the octets behind it have not.
-    let none: &[u16] = &[];
-    let mut compressor = NameCompressor::new();
-    let refused = (&two, octets).build_in_message(&mut contents, 0, &mut compressor);
-    assert!(rt; refused.is_err());
-    assert_eq!(rt; compressor.places(), none);
-
-    let mut compressor = NameCompressor::new();
-    let end = two.build_in_message(&mut contents, 0, &mut compressor)?;
-    let known = compressor.compress_name(&contents[..end], three.as_bytes());
-    assert_eq!(rt; known, Some((4, 0)));
-    let refused = three.build_in_message(&mut contents, end, &mut compressor);
-    assert!(rt; refused.is_err());
-    assert_eq!(rt; &contents[..end], b"\x01x\x01y\0".as_slice());
-    assert_eq!(rt; compressor.places(), [0, 2].as_slice());
     Ok(())
 }
 
@@ -205,35 +166,5 @@ fn lists_share_names(rt: HostRuntime) -> Result<(), Fail> {
     let three = b"\x01F\x03ISI\x04ARPA\0\x03FOO\xc0\x0d\xc0\x19";
     writes(&rt, &[isi, foo, foo], three, &[1, 3, 7, 13])?;
     writes(&rt, &((isi, foo), foo), three, &[1, 3, 7, 13])?;
-    Ok(())
-}
-
-#[test]
-fn what_is_held_shares_names(rt: HostRuntime) -> Result<(), Fail> {
-    let isi = Name::parse_bytes(b"\x01F\x03ISI\x04ARPA\0")?;
-    let two = b"\x01F\x03ISI\x04ARPA\0\xc0\x0d";
-    let boxed = Box::new(rt.alloc(), isi)?;
-    let shared = Rc::new(rt.alloc(), isi)?;
-    writes(&rt, &(&isi, &isi), two, &[1, 3, 7])?;
-    writes(&rt, &(isi, boxed), two, &[1, 3, 7])?;
-    writes(&rt, &(isi, shared), two, &[1, 3, 7])?;
-    Ok(())
-}
-
-/// The first name of the list has room, and the pointer behind it has not.
-#[test]
-fn refuses_lists_without_a_trace(rt: HostRuntime) -> Result<(), Fail> {
-    let isi = Name::parse_bytes(b"\x01F\x03ISI\x04ARPA\0")?;
-    let two = Name::parse_bytes(b"\x01x\x01y\0")?;
-    let mut contents = [b'.'; 18];
-    let mut compressor = NameCompressor::new();
-    let end = two.build_in_message(&mut contents, 0, &mut compressor)?;
-    assert_eq!(rt; end, 5);
-    let refused = [isi, isi].build_in_message(&mut contents, end, &mut compressor);
-    assert!(rt; refused.is_err());
-    assert_eq!(rt; &contents[..end], b"\x01x\x01y\0".as_slice());
-    assert_eq!(rt; compressor.places(), [0, 2].as_slice());
-    let end = [isi].build_in_message(&mut contents, end, &mut compressor)?;
-    assert_eq!(rt; end, 17);
     Ok(())
 }

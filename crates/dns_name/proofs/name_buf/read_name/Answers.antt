@@ -18,11 +18,11 @@ returns-in_err-read_head-clause-exact c =
 found : (c : In-Root) → Reads c.args.contents.now c.args.start (take c.loop-buffer.size c.loop-buffer.buffer ++ 0 ∷ []) (unwrap_or c.loop-buffer.end (c.loop-buffer.at + 1))
 found c = followed_root _ _ _ _ _ _ c.loop-buffer.invariant.followed (rw c.in-Root.is at c.in_ok-read_head.ensures.exact) (rw c.in-Root.is at c.in_ok-read_head.ensures.fits)
 
-pub invariant_of-name : goal.invariant_of-name
-invariant_of-name c = (omega arith, rw c.copy_at.ensures (found (goal.at.invariant_of-name c).In-Root).whole)
+pub from_buffer-name-requires-clause-name : goal.from_buffer-name-requires-clause-name
+from_buffer-name-requires-clause-name c = rw c.copy_at.ensures (found (goal.at.from_buffer-name-requires-clause-name c).In-Root).whole
 
 pub returns-in-Root-clause-exact : goal.returns-in-Root-clause-exact
-returns-in-Root-clause-exact c = rw (c.unwrap_or.ensures, c.copy_at.ensures) (found (goal.at.returns-in-Root-clause-exact c).In-Root).reads
+returns-in-Root-clause-exact c = rw (c.unwrap_or.ensures, c.from_buffer-name.ensures, c.copy_at.ensures) (found (goal.at.returns-in-Root-clause-exact c).In-Root).reads
 
 pub returns-in-Root-clause-within : goal.returns-in-Root-clause-within
 returns-in-Root-clause-within c = rw c.unwrap_or.ensures (found (goal.at.returns-in-Root-clause-within c).In-Root).within

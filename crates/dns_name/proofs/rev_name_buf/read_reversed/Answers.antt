@@ -1,4 +1,4 @@
-use Rattle.std.proofs.Common.{arith, ◌+◌, ◌-◌, ◌≡◌, drop, take, length, refl}
+use Rattle.std.proofs.Common.{arith, ◌+◌, ◌-◌, ◌≡◌, drop, length, refl}
 use Rattle.std.specs.Prelude.{unwrap_or, slice_range}
 use Rattle.std.proofs.lemmas.Result.{err_from_is_err_and}
 use Rattle.std.proofs.lemmas.List.{length-take, length-drop}
@@ -18,12 +18,15 @@ returns-in_err-read_head-clause-exact c =
 found : (c : After-copy_before) → GatheredName c.args.contents.now c.args.start (c.loop-buffer.offset - 1) (unwrap_or c.loop-buffer.end (c.loop-buffer.at + 1)) c.copy_before.new.buffer
 found c = gathered_root _ _ _ _ _ _ _ _ c.loop-buffer.invariant (rw c.in-Root.is at c.in_ok-read_head.ensures.exact) (rw c.in-Root.is at c.in_ok-read_head.ensures.fits) c.copy_before.ensures
 
-pub invariant_of-name : goal.invariant_of-name
-invariant_of-name c = let h = (found (goal.at.invariant_of-name c).After-copy_before).holds in (h.early, h.whole)
+pub from_buffer-name-requires-clause-early : goal.from_buffer-name-requires-clause-early
+from_buffer-name-requires-clause-early c = (found (goal.at.from_buffer-name-requires-clause-early c).After-copy_before).holds.early
+
+pub from_buffer-name-requires-clause-name : goal.from_buffer-name-requires-clause-name
+from_buffer-name-requires-clause-name c = (found (goal.at.from_buffer-name-requires-clause-name c).After-copy_before).holds.whole
 
 pub returns-in-Root-clause-exact : goal.returns-in-Root-clause-exact
 returns-in-Root-clause-exact c =
-    let f = found (goal.at.returns-in-Root-clause-exact c).After-copy_before in rw (c.unwrap_or.ensures, f.holds.labels_are) f.reads
+    let f = found (goal.at.returns-in-Root-clause-exact c).After-copy_before in rw (c.unwrap_or.ensures, c.from_buffer-name.ensures, f.holds.labels_are) f.reads
 
 pub returns-in-Root-clause-within : goal.returns-in-Root-clause-within
 returns-in-Root-clause-within c = rw c.unwrap_or.ensures (found (goal.at.returns-in-Root-clause-within c).After-copy_before).within

@@ -1,11 +1,21 @@
+use Rattle.std.proofs.Common.{sym, ap, ◌∙◌}
+use Rattle.std.specs.Prelude.{reverse}
+use Rattle.std.specs.Cmp.Lexicographic.{slice_cmp}
+use Rattle.std.proofs.lemmas.List.{reverse-reverse}
 use Rattle.dns_wire.proofs.Backward.{reversed_size}
-use Rattle.dns_wire.specs.Reversed.{reversed_labels_of}
-use Rattle.dns_name.proofs.Aligned.{kept_labels}
+use Rattle.dns_wire.specs.Reversed.{row_labels, reversed_labels_of}
+use Rattle.dns_name.specs.RowOrder.{head_cmp}
+use Rattle.dns_name.proofs.Aligned.{composed_by_heads}
 use Rattle.dns_name.proofs.rev_canonical.RevNameCanonicalName.cmp_composed.Goals as goal
 
 pub returns-clause-order : goal.returns-clause-order
 returns-clause-order c =
-    rw (kept_labels (reversed_labels_of c.args.self.now.slice.now), kept_labels (reversed_labels_of c.args.other.now.slice.now)) at c.compare_composed.ensures
+    let a = reversed_labels_of c.args.self.now.slice.now in
+    let b = reversed_labels_of c.args.other.now.slice.now in
+    c.compare_from_last.ensures
+    ∙ ap (λ l. slice_cmp head_cmp l (reverse (row_labels c.row-2.result.slice.now))) (ap reverse c.row.ensures.labels ∙ reverse-reverse a)
+    ∙ ap (slice_cmp head_cmp a) (ap reverse c.row-2.ensures.labels ∙ reverse-reverse b)
+    ∙ sym (composed_by_heads a b (reversed_size _ _ c.args.self.now.is_name).name.sizes (reversed_size _ _ c.args.other.now.is_name).name.sizes)
 
 pub returns-clause-names : goal.returns-clause-names
 returns-clause-names c = ((reversed_size _ _ c.args.self.now.is_name).name, (reversed_size _ _ c.args.other.now.is_name).name)

@@ -1,7 +1,7 @@
-use Rattle.std.proofs.Common.{arith, ap, ◌≡◌, ◌+◌, ◌∙◌, length}
+use Rattle.std.proofs.Common.{arith, ap, ◌≡◌, ◌∙◌, length}
 use Rattle.std.specs.Prelude.{reverse}
 use Rattle.std.proofs.lemmas.List.{reverse-reverse}
-use Rattle.dns_wire.specs.Names.{heads, wire}
+use Rattle.dns_wire.specs.Names.{heads}
 use Rattle.dns_wire.specs.Reversed.{row_labels, reversed_labels_of}
 use Rattle.dns_wire.proofs.Backward.{ReversedSize, reversed_size}
 use Rattle.dns_wire.proofs.Walk.{wire_long}

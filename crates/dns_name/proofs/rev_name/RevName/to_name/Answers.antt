@@ -1,4 +1,4 @@
-use Rattle.std.proofs.Common.{arith}
+use Rattle.std.proofs.Common.{arith, ◌∙◌}
 use Rattle.dns_wire.proofs.Backward.{reversed_size}
 use Rattle.dns_name.proofs.Turned.{HoldsName, holds_name}
 use Rattle.dns_wire.specs.Reversed.{reversed_labels_of}
@@ -11,8 +11,11 @@ held c = holds_name _ _ _ _ (reversed_size _ _ c.args.self.now.is_name).name c.p
 pub put_forward-size-requires : goal.put_forward-size-requires
 put_forward-size-requires c = omega (arith, (reversed_size _ _ c.args.self.now.is_name).short)
 
-pub invariant_of-result : goal.invariant_of-result
-invariant_of-result c = let h = held (goal.at.invariant_of-result c).After-put_forward-size in (h.short, h.whole)
+pub from_buffer-requires-clause-short : goal.from_buffer-requires-clause-short
+from_buffer-requires-clause-short c = (held (goal.at.from_buffer-requires-clause-short c).After-put_forward-size).short
+
+pub from_buffer-requires-clause-name : goal.from_buffer-requires-clause-name
+from_buffer-requires-clause-name c = (held (goal.at.from_buffer-requires-clause-name c).After-put_forward-size).whole
 
 pub returns : goal.returns
-returns c = (held (goal.at.returns c).After-put_forward-size).labels_are
+returns c = c.from_buffer.ensures ∙ (held (goal.at.returns c).After-put_forward-size).labels_are

@@ -1,6 +1,5 @@
 use Rattle.std.proofs.Common.{◌∙◌, ap, sym}
 use Rattle.std.specs.Str.{str_to_ascii_lowercase}
-use Rattle.dns_wire.specs.Names.{lowered}
 use Rattle.dns_wire.specs.Reversed.{reversed_wire, reversed_labels_of}
 use Rattle.dns_wire.proofs.Backward.{reversed_size, lower_reversed, reversed_one}
 use Rattle.dns_wire.proofs.Lowered.{name_lowered}
