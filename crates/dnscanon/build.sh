@@ -103,7 +103,7 @@ start() {
             { rt check --jobs "$2" & wait $!; } && { rt lib --jobs "$2" & wait $!; }
         echo $? >"$rooms/$1.status"
     ) </dev/null >"$out/$1.log" 2>&1 &
-    pids="$pids $!"
+    echo $! >"$rooms/$1.pid"
     echo "$2" >"$rooms/$1.jobs"
     free=$((free - $2))
     running="$running $1"
@@ -124,10 +124,11 @@ start_ready() {
     done
 }
 
-# Takes in the crates that have ended, and fails where one has failed.
+# Takes in the crates that have ended, and fails where one has failed, or was ended before it could tell.
 gather() {
     for name in $running; do
-        [ -f "$rooms/$name.status" ] || continue
+        kill -0 "$(cat "$rooms/$name.pid")" 2>/dev/null || [ -s "$rooms/$name.status" ] || echo 1 >"$rooms/$name.status"
+        [ -s "$rooms/$name.status" ] || continue
         running=$(echo " $running " | sed "s/ $name / /")
         free=$((free + $(cat "$rooms/$name.jobs")))
         clear_room "$name"
@@ -155,8 +156,8 @@ show() {
 
 stop() {
     trap '' INT TERM HUP
-    for pid in $pids; do
-        kill "$pid" 2>/dev/null
+    for name in $running; do
+        kill "$(cat "$rooms/$name.pid")" 2>/dev/null
     done
     wait
     clear_rooms
@@ -170,9 +171,12 @@ take_turn() {
     mkdir -p "$out" && echo $$ >"$out/builder.$$" || exit 1
     trap 'rm -f "$out/builder.$$"' EXIT
     until ln "$out/builder.$$" "$out/builder" 2>/dev/null; do
+        [ -z "$change" ] || echo "dnscanon: another run builds the program; waiting for it" >&2
+        change=
         kill -0 "$(cat "$out/builder" 2>/dev/null)" 2>/dev/null || rm -f "$out/builder"
         sleep 1
     done
+    change=yes
     trap 'rm -f "$out/builder.$$" "$out/builder"' EXIT
     trap stop INT TERM HUP
 }
@@ -205,12 +209,13 @@ build_program() {
     running=dnscanon change=yes
     show
     (cd "$crates/dnscanon" && exec rt run -- canon) </dev/null >"$out/dnscanon.log" 2>&1 &
-    pids=$!
-    wait "$pids"
+    echo $! >"$rooms/dnscanon.pid"
+    wait $!
+    running=
     [ -x "$out/dnscanon" ] || failed=dnscanon
 }
 
-running='' pids='' failed='' proved='' waiting='' seconds=0 change=yes
+running='' failed='' proved='' waiting='' seconds=0 change=yes
 take_turn
 clear_rooms
 for crate in "$crates"/*/; do
