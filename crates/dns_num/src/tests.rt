@@ -101,7 +101,7 @@ fn numbers_are_refused_where_octets_lack(rt: HostRuntime) -> Result<(), Fail> {
     Ok(())
 }
 
-/// The row `split-list-u16`.
+/// Of seven octets three numbers are read, and a fourth is not.
 #[test]
 fn lists_of_numbers(rt: HostRuntime) -> Result<(), Fail> {
     let octets = b"\0\x01\0\x02\0\x03\xff";
