@@ -150,9 +150,7 @@ fn nsec_keeps_the_case_of_its_next_name(rt: HostRuntime) -> Result<(), Fail> {
 #[test]
 fn nsec_refusals(rt: HostRuntime) -> Result<(), Fail> {
     let repeated_window = b"\0\0\x01\x40\0\x01\x40";
-    let without_window = b"\0";
     assert!(rt; Nsec::parse_bytes(repeated_window).is_err());
-    assert!(rt; Nsec::parse_bytes(without_window).is_err());
     assert!(rt; Nsec::parse_bytes(b"").is_err());
     let octets = b"\x01a\0\0\x02\0\x08*";
     assert!(rt; Nsec::parse_bytes(&octets[..6]).is_err());
@@ -164,12 +162,17 @@ fn nsec_refusals(rt: HostRuntime) -> Result<(), Fail> {
     assert!(rt; Nsec::parse_record_data_bytes(&octets[..7], RType::NSEC3).is_err());
     assert!(rt; Nsec::parse_record_data(&octets[..7], 0, RType::NSEC).is_ok());
     assert!(rt; Nsec::parse_record_data(&octets[..7], 0, RType::A).is_err());
+    Ok(())
+}
 
-    // Data without a window can be made, but not read.
+/// Data without a window can be made, but not read.
+#[test]
+fn nsec_without_window(rt: HostRuntime) -> Result<(), Fail> {
     let data = Nsec::new(Name::root(), TypeBitmaps::parse_bytes(b"")?);
     let mut buffer = [1; 1];
     assert_eq!(rt; data.build_at(&mut buffer, 0)?, 1);
-    assert_eq!(rt; buffer, *without_window);
+    assert_eq!(rt; buffer, *b"\0");
+    assert!(rt; Nsec::parse_bytes(&buffer).is_err());
     Ok(())
 }
 
@@ -187,7 +190,12 @@ fn nsec3_of_an_apex(rt: HostRuntime) -> Result<(), Fail> {
     assert_eq!(rt; data.next_owner().into_data(), &HASHED[10..30]);
     let found = numbers(data.types(), rt.alloc())?;
     assert_eq!(rt; found.as_slice(), [2, 6, 15, 46, 48, 51].as_slice());
+    Ok(())
+}
 
+#[test]
+fn nsec3_is_made_and_written(rt: HostRuntime) -> Result<(), Fail> {
+    let data = Nsec3::parse_bytes(HASHED)?;
     let made = Nsec3::new(
         Nsec3HashAlgorithm::SHA1,
         Nsec3Flags::default().set_optout(true),
@@ -206,8 +214,13 @@ fn nsec3_of_an_apex(rt: HostRuntime) -> Result<(), Fail> {
     let mut exact = [0; 39];
     assert_eq!(rt; canonical(&made, &mut exact)?, 0);
     assert_eq!(rt; exact.as_slice(), HASHED);
+    Ok(())
+}
 
-    // A longer salt comes later, whatever its octets.
+/// A longer salt comes later, whatever its octets.
+#[test]
+fn nsec3_by_the_size_of_its_salt(rt: HostRuntime) -> Result<(), Fail> {
+    let data = Nsec3::parse_bytes(HASHED)?;
     let longer = Nsec3::parse_bytes(b"\x01\x01\0\x0c\x05\0\0\0\0\0\0")?;
     assert_eq!(rt; longer.cmp_canonical(&data), Ordering::Greater);
     Ok(())
@@ -234,41 +247,54 @@ fn nsec3_refusals(rt: HostRuntime) -> Result<(), Fail> {
     Ok(())
 }
 
+/// NSEC3PARAM data, and an octet behind them.
+const PARAMETERS: &[u8] = b"\x01\0\0\x0c\x04\xaa\xbb\xcc\xdd*";
+
 #[test]
 fn parameters_of_hashed_owners(rt: HostRuntime) -> Result<(), Fail> {
-    let octets = b"\x01\0\0\x0c\x04\xaa\xbb\xcc\xdd*";
-    let (data, rest) = Nsec3Param::split_bytes(octets)?;
+    let (data, rest) = Nsec3Param::split_bytes(PARAMETERS)?;
     assert_eq!(rt; rest, b"*".as_slice());
     assert_eq!(rt; data.hash_algorithm(), Nsec3HashAlgorithm::SHA1);
     assert_eq!(rt; data.flags(), Nsec3Flags::default());
     assert!(rt; !data.opt_out_flag());
     assert_eq!(rt; data.iterations(), 12);
     assert_eq!(rt; data.salt().into_data(), b"\xaa\xbb\xcc\xdd".as_slice());
-    let salt = SizePrefixed::new(&octets[5..9]);
+    let (placed, end) = Nsec3Param::split_message_bytes(PARAMETERS, 0)?;
+    assert_eq!(rt; (placed, end), (data, 9));
+    Ok(())
+}
+
+#[test]
+fn parameters_are_made_and_written(rt: HostRuntime) -> Result<(), Fail> {
+    let data = Nsec3Param::parse_bytes(&PARAMETERS[..9])?;
+    let salt = SizePrefixed::new(&PARAMETERS[5..9]);
     let made = Nsec3Param::new(data.hash_algorithm(), data.flags(), 12, salt);
     assert_eq!(rt; made, data);
     assert_eq!(rt; hash_of(&made), hash_of(&data));
     let mut buffer = [0; 9];
     assert_eq!(rt; canonical(&made, &mut buffer)?, 0);
-    assert_eq!(rt; buffer.as_slice(), &octets[..9]);
+    assert_eq!(rt; buffer.as_slice(), &PARAMETERS[..9]);
     assert_eq!(rt; made.built_bytes_size(), 9);
 
     let optout = Nsec3Param::parse_bytes(b"\x01\x01\x0a\0\0")?;
     assert!(rt; optout.opt_out_flag());
     assert_eq!(rt; optout.iterations(), 2560);
     assert_eq!(rt; optout.cmp_canonical(&made), Ordering::Greater);
+    Ok(())
+}
 
-    assert!(rt; Nsec3Param::parse_bytes(octets).is_err());
+#[test]
+fn parameters_refusals(rt: HostRuntime) -> Result<(), Fail> {
+    let whole = &PARAMETERS[..9];
+    assert!(rt; Nsec3Param::parse_bytes(PARAMETERS).is_err());
     for size in 0..9 {
-        assert!(rt; Nsec3Param::split_bytes(&octets[..size]).is_err(), "{size}");
+        assert!(rt; Nsec3Param::split_bytes(&whole[..size]).is_err(), "{size}");
     }
-    let (placed, end) = Nsec3Param::split_message_bytes(octets, 0)?;
-    assert_eq!(rt; (placed, end), (data, 9));
-    assert!(rt; Nsec3Param::parse_message_bytes(octets, 0).is_err());
-    assert!(rt; Nsec3Param::parse_message_bytes(&octets[..9], 0).is_ok());
-    assert!(rt; Nsec3Param::parse_record_data_bytes(&octets[..9], RType::NSEC3PARAM).is_ok());
-    assert!(rt; Nsec3Param::parse_record_data_bytes(&octets[..9], RType::NSEC3).is_err());
-    assert!(rt; Nsec3Param::parse_record_data(&octets[..9], 0, RType::NSEC3PARAM).is_ok());
+    assert!(rt; Nsec3Param::parse_message_bytes(PARAMETERS, 0).is_err());
+    assert!(rt; Nsec3Param::parse_message_bytes(whole, 0).is_ok());
+    assert!(rt; Nsec3Param::parse_record_data_bytes(whole, RType::NSEC3PARAM).is_ok());
+    assert!(rt; Nsec3Param::parse_record_data_bytes(whole, RType::NSEC3).is_err());
+    assert!(rt; Nsec3Param::parse_record_data(whole, 0, RType::NSEC3PARAM).is_ok());
     Ok(())
 }
 

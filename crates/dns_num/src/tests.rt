@@ -26,6 +26,7 @@ fn stands_as<'a, T: SplitBytes<'a> + BuildBytes + BuildInMessage + PartialEq + D
     let end = number.build_at(&mut buffer, 1)?;
     assert_eq!(rt; &buffer[1..end], octets);
     assert_eq!(rt; buffer[0], 0xee);
+    assert_eq!(rt; number.built_bytes_size(), octets.len());
 
     let mut contents = [0xee; 10];
     let mut compressor = NameCompressor::new();
@@ -84,20 +85,23 @@ fn numbers_are_read_at_places(rt: HostRuntime) -> Result<(), Fail> {
         U64::parse_message_bytes(contents, 1)?,
         U64::new(0x0102030405)
     );
+    wire_numbers();
+    Ok(())
+}
+
+#[test]
+fn numbers_are_refused_where_octets_lack(rt: HostRuntime) -> Result<(), Fail> {
+    let contents = b"\0\0\0\0\x01\x02\x03\x04\x05";
     assert!(rt; U16::split_message_bytes(contents, 8).is_err());
     assert!(rt; U16::split_message_bytes(contents, 10).is_err());
     assert!(rt; U32::parse_message_bytes(contents, 4).is_err());
     assert!(rt; U16::parse_bytes(b"\x01").is_err());
     assert!(rt; U32::parse_bytes(b"\x01\x02\x03\x04\x05").is_err());
     assert!(rt; U64::parse_bytes(b"\x01\x02\x03\x04\x05\x06\x07").is_err());
-    assert_eq!(rt; U16::new(7).built_bytes_size(), 2);
-    assert_eq!(rt; U32::new(7).built_bytes_size(), 4);
-    assert_eq!(rt; U64::new(7).built_bytes_size(), 8);
-    wire_numbers();
     Ok(())
 }
 
-/// The row `split-list-u16`.
+/// Of seven octets three numbers are read, and a fourth is not.
 #[test]
 fn lists_of_numbers(rt: HostRuntime) -> Result<(), Fail> {
     let octets = b"\0\x01\0\x02\0\x03\xff";
@@ -117,7 +121,7 @@ fn lists_of_numbers(rt: HostRuntime) -> Result<(), Fail> {
 }
 
 #[test]
-fn numbers_are_made_and_compared(rt: HostRuntime) -> Result<(), Fail> {
+fn numbers_of_two_octets_are_made(rt: HostRuntime) -> Result<(), Fail> {
     let mut short = U16::new(5);
     short.set(0x0105);
     assert_eq!(rt; short.get(), 0x0105);
@@ -128,7 +132,12 @@ fn numbers_are_made_and_compared(rt: HostRuntime) -> Result<(), Fail> {
     assert_eq!(rt; u16::from(U16::from(9)), 9);
     assert_eq!(rt; U16::try_from(65535usize)?, U16 { value: 65535 });
     assert!(rt; U16::try_from(65536usize).is_err());
+    assert_eq!(rt; U16::default(), U16::new(0));
+    Ok(())
+}
 
+#[test]
+fn longer_numbers_are_made(rt: HostRuntime) -> Result<(), Fail> {
     let mut long = U32::from(7);
     long.set(0x01000000);
     assert_eq!(rt; u32::from(long), long.get());
@@ -141,13 +150,17 @@ fn numbers_are_made_and_compared(rt: HostRuntime) -> Result<(), Fail> {
     assert!(rt; longest.eq_base(8));
     assert_eq!(rt; longest.cmp_base(8), Ordering::Equal);
 
-    assert_eq!(rt; U16::default(), U16::new(0));
     assert_eq!(rt; U32::default(), U32::new(0));
     assert_eq!(rt; U64::default(), U64::new(0));
-    assert_eq!(rt; short.compare(&U16::new(300)), Ordering::Less);
-    assert_eq!(rt; long.compare(&U32::new(0x01000000)), Ordering::Equal);
-    assert_eq!(rt; longest.compare(&U64::new(7)), Ordering::Greater);
-    // By number, where the octets in memory may stand the other way round.
+    Ok(())
+}
+
+/// By number, where the octets in memory may stand the other way round.
+#[test]
+fn numbers_are_compared_by_value(rt: HostRuntime) -> Result<(), Fail> {
+    assert_eq!(rt; U16::new(261).compare(&U16::new(300)), Ordering::Less);
+    assert_eq!(rt; U32::new(256).compare(&U32::new(256)), Ordering::Equal);
+    assert_eq!(rt; U64::new(8).compare(&U64::new(7)), Ordering::Greater);
     assert!(rt; U16::new(0x0102) < U16::new(0x0201));
     assert_eq!(rt; U32::new(256).cmp(&U32::new(255)), Ordering::Greater);
     assert!(rt; U64::new(1) != U64::new(1 << 56));

@@ -32,6 +32,11 @@ fn codes_are_numbers_of_two_octets(rt: HostRuntime) -> Result<(), Fail> {
     assert_eq!(rt; RType::split_message_bytes(b".\0\x06", 1)?, (RType::SOA, 3));
     assert_eq!(rt; QType::parse_message_bytes(b".\0\xfc", 1)?, QType::AXFR);
     assert!(rt; RClass::split_message_bytes(b".\0", 3).is_err());
+    Ok(())
+}
+
+#[test]
+fn codes_are_made_and_written(rt: HostRuntime) -> Result<(), Fail> {
     assert_eq!(rt; u16::from(RType::from(41)), 41);
     assert_eq!(rt; u16::from(QType::from(251)), 251);
     assert_eq!(rt; u16::from(RClass::from(3)), 3);
@@ -128,7 +133,14 @@ fn questions_of_any_name(rt: HostRuntime) -> Result<(), Fail> {
         Question::<u8>::parse_message_bytes(b".n\0\x01\0\x03", 1)?,
         question
     );
+    items_in_words();
+    whole_data_are_short();
+    Ok(())
+}
 
+#[test]
+fn questions_are_written_and_transformed(rt: HostRuntime) -> Result<(), Fail> {
+    let question = Question::new(b'n', QType::A, QClass::CH);
     let mut buffer = *b".......";
     assert_eq!(rt; question.build_at(&mut buffer, 1)?, 6);
     assert_eq!(rt; buffer, *b".n\0\x01\0\x03.");
@@ -142,17 +154,17 @@ fn questions_of_any_name(rt: HostRuntime) -> Result<(), Fail> {
     );
     let named = question.transform(|name| (name, name));
     assert_eq!(rt; named, Question::new((b'n', b'n'), QType::A, QClass::CH));
-    items_in_words();
-    whole_data_are_short();
     Ok(())
 }
 
 type Raw<'a> = Record<u8, UnparsedRecordData<'a>>;
 
+/// A record between two octets.
+const RECORD: &[u8] = b".n\0\x02\0\x01\0\0\0\x2a\0\x03abc*";
+
 #[test]
 fn records_of_any_owner_and_data(rt: HostRuntime) -> Result<(), Fail> {
-    let octets = b".n\0\x02\0\x01\0\0\0\x2a\0\x03abc*";
-    let (record, rest) = Raw::split_bytes(&octets[1..])?;
+    let (record, rest) = Raw::split_bytes(&RECORD[1..])?;
     assert_eq!(rt; record.rname, b'n');
     assert_eq!(rt;
         (record.rtype, record.rclass, record.ttl),
@@ -161,17 +173,28 @@ fn records_of_any_owner_and_data(rt: HostRuntime) -> Result<(), Fail> {
     assert_eq!(rt; record.rdata.octets(), b"abc".as_slice());
     assert_eq!(rt; record.rdata.as_bytes(), b"abc".as_slice());
     assert_eq!(rt; rest, b"*".as_slice());
-    assert!(rt; Raw::parse_bytes(&octets[1..]).is_err());
-    assert!(rt; Raw::parse_bytes(&octets[1..15]).is_ok());
-    for size in 0..13 {
-        assert!(rt; Raw::split_bytes(&octets[1..1 + size]).is_err(), "{size}");
-    }
-    let (record, end) = Raw::split_message_bytes(octets, 1)?;
+    let (placed, end) = Raw::split_message_bytes(RECORD, 1)?;
+    assert_eq!(rt; placed.rdata.octets(), b"abc".as_slice());
     assert_eq!(rt; end, 15);
-    assert!(rt; Raw::split_message_bytes(octets, 17).is_err());
-    assert!(rt; Raw::parse_message_bytes(octets, 1).is_err());
-    assert!(rt; Raw::parse_message_bytes(&octets[..15], 1).is_ok());
+    Ok(())
+}
 
+#[test]
+fn records_end_where_their_size_says(rt: HostRuntime) -> Result<(), Fail> {
+    assert!(rt; Raw::parse_bytes(&RECORD[1..]).is_err());
+    assert!(rt; Raw::parse_bytes(&RECORD[1..15]).is_ok());
+    for size in 0..13 {
+        assert!(rt; Raw::split_bytes(&RECORD[1..1 + size]).is_err(), "{size}");
+    }
+    assert!(rt; Raw::split_message_bytes(RECORD, 17).is_err());
+    assert!(rt; Raw::parse_message_bytes(RECORD, 1).is_err());
+    assert!(rt; Raw::parse_message_bytes(&RECORD[..15], 1).is_ok());
+    Ok(())
+}
+
+#[test]
+fn records_are_written_and_transformed(rt: HostRuntime) -> Result<(), Fail> {
+    let record = Raw::parse_bytes(&RECORD[1..15])?;
     let mut buffer = *b"................";
     assert_eq!(rt; record.build_at(&mut buffer, 1)?, 15);
     assert_eq!(rt; buffer, *b".n\0\x02\0\x01\0\0\0\x2a\0\x03abc.");

@@ -45,7 +45,7 @@ impl Timestamp {
     }
 
     /// The seconds since the beginning of 1970 that the time means to one who looks at it at the reference,
-    /// which is such seconds too: those nearest to it, from 2^31 before it to 2^31 - 1 behind it. Where they
+    /// which is such seconds too: those nearest to it, from 2^31 before it to 2^31 - 1 after it. Where they
     /// would lie before 1970, it is the number itself.
     pub fn to_system_time(self, reference: u64) -> u64
         requires { reference < 2 ^ 63 }

@@ -54,6 +54,11 @@ fn codes_are_numbers_of_one_octet(rt: HostRuntime) -> Result<(), Fail> {
     );
     assert_eq!(rt; read::<SecAlg>(b".\x03."), None);
     assert_eq!(rt; read::<DigestType>(b"."), None);
+    Ok(())
+}
+
+#[test]
+fn codes_are_written_as_one_octet(rt: HostRuntime) -> Result<(), Fail> {
     assert_eq!(rt; written(&SecAlg::RSA_SHA1)?, *b".\x05\x05.");
     assert_eq!(rt; written(&DigestType::SHA1)?, *b".\x01\x01.");
     assert_eq!(rt; written(&ZoneMDScheme::SIMPLE)?, *b".\x01\x01.");
@@ -76,6 +81,13 @@ fn flags_change_one_by_one(rt: HostRuntime) -> Result<(), Fail> {
     assert_eq!(rt; entry.set_zone_key(true), entry);
     assert_eq!(rt; entry.set_zone_key(false).bits(), 1);
     assert_eq!(rt; entry.set_secure_entry_point(false), zone);
+    Ok(())
+}
+
+#[test]
+fn flags_are_two_octets(rt: HostRuntime) -> Result<(), Fail> {
+    let none = DNSKeyFlags::default();
+    let entry = none.set_zone_key(true).set_secure_entry_point(true);
     assert_eq!(rt; read::<DNSKeyFlags>(b".\x01\x01"), Some(entry));
     assert_eq!(rt; read::<DNSKeyFlags>(b".\x01\x01."), None);
     assert_eq!(rt; read::<DNSKeyFlags>(b".\x01"), None);
