@@ -6,6 +6,7 @@ use Rattle.std.proofs.lemmas.Bool.Decides.{nat_tests}
 use Rattle.std.proofs.lemmas.Bool.{lt-ltb, le-ltb, ltb-false}
 use Rattle.std.proofs.lemmas.List.{take_at, drop_at, drop_all, take-append-drop, length-append, length-take, length-drop, drop-drop, drop-take, append-nil}
 use Rattle.std.proofs.lemmas.Option.{some_pair_parts}
+use Rattle.dns_wire.proofs.NamesLeft.{few_labels}
 use Rattle.dns_wire.specs.Names.{IsLabel, heads}
 use Rattle.dns_wire.specs.Reading.{all_of}
 use Rattle.dns_wire.proofs.Spelled.{chosen}
@@ -349,3 +350,7 @@ module _ (bytes : List ℕ) (at : ℕ) (walked : Walked bytes at) where
   walked_to_half head within is high short =
       let nothing : drop (at + 1) bytes ≡ [] = drop_all (at + 1) bytes (omega arith) in
       rest_none (λ steps. rw (next_head bytes at head within is ∙ ap (λ (rest : List ℕ). head ∷ rest) nothing) (half_step steps head high))
+
+-- at most 127 labels stand before the root or the pointer
+pub few_unparsed : (name : Unparsed) → IsUnparsed name → length name.0 ≤ 127
+few_unparsed name is = few_labels name.0 (record { sizes = is.sizes; size = omega (arith, is.size, length-append (heads name.0) (0 ∷ [])) })

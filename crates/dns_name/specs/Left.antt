@@ -5,7 +5,7 @@ use Rattle.std.specs.List.{AllByRecursion}
 use Rattle.std.proofs.lemmas.Bool.{ltb-false}
 use Rattle.std.proofs.lemmas.Bool.Decides.{nat_tests}
 use Rattle.std.proofs.lemmas.Option.{some_pair_parts}
-use Rattle.dns_wire.specs.Left.{follows_both, plain_ends}
+use Rattle.dns_wire.specs.Left.{follows_both, plain_ends, placed_some}
 use Rattle.dns_wire.specs.Names.{IsLabel, IsName, heads, wire}
 use Rattle.dns_wire.specs.Reading.{Follows, LeavesRest, EndsWithin, plain_at}
 use Rattle.dns_name.specs.Unparsed.{Unparsed, end_offset, pointer_from, behind_labels, unparsed_within, up_to_254, unparsed_name, leads_back, if_it_leads_back, unparsed_at}
@@ -106,17 +106,7 @@ back_is start (Some (found, last)) name end e = by (leads_back start (end_offset
 pub unparsed_ends : EndsWithin unparsed_at
 unparsed_ends contents at name end e = plain_ends unparsed_name unparsed_leaves contents at name end (back_is at (plain_at unparsed_name contents at) name end e)
 
-placed_names : (b : Bool) (contents : List ℕ) (at : ℕ) (name : Unparsed) (end : ℕ) → ltb (length contents) at ≡ b → plain_at unparsed_name contents at ≡ Some (name, end) → (rest : List ℕ) × (unparsed_name (drop at contents) ≡ Some (name, rest))
-placed_names true contents at name end is e = let n : plain_at unparsed_name contents at ≡ None = rw is refl in absurd cc
-placed_names false contents at name end is e = by (unparsed_name (drop at contents)) refl where
-  by : (read : Option (Unparsed × List ℕ)) → unparsed_name (drop at contents) ≡ read → (rest : List ℕ) × (unparsed_name (drop at contents) ≡ Some (name, rest))
-  by None h = let n : plain_at unparsed_name contents at ≡ None = rw (is, h) refl in absurd cc
-  by (Some (found, rest)) h =
-      let n : plain_at unparsed_name contents at ≡ Some (found, length contents - length rest) = rw (is, h) refl in
-      let same = some_pair_parts found name _ end (sym n ∙ e) in
-      (rest, h ∙ ap (λ (f : Unparsed). Some (f, rest)) same.0)
-
 pub unparsed_names_at : (name : Unparsed) (contents : List ℕ) (at end : ℕ) → unparsed_at contents at ≡ Some (name, end) → IsName name.0
 unparsed_names_at name contents at end e =
-    let p = placed_names (ltb (length contents) at) contents at name end refl (back_is at (plain_at unparsed_name contents at) name end e) in
+    let p = placed_some unparsed_name contents at name end (back_is at (plain_at unparsed_name contents at) name end e) in
     unparsed_names name (drop at contents) p.0 p.1

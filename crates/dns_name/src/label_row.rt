@@ -25,9 +25,10 @@ impl<'a> LabelRow<'a> {
         Some((label, LabelRow { slice: rest }))
     }
 
-    /// How many labels there are.
+    /// How many labels there are, at most 127.
     pub fn count(&self) -> usize
-        ensures { result ≡ length (row_labels self.now.slice.now) }
+        ensures count { result ≡ length (row_labels self.now.slice.now) }
+        ensures few { result ≤ 127 }
     {
         let mut rest = *self;
         let mut count = 0;

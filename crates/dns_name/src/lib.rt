@@ -11,6 +11,7 @@ mod lowercased;
 mod name;
 mod name_buf;
 mod order;
+mod read_name;
 mod rev_canonical;
 mod rev_name;
 mod rev_name_buf;
@@ -26,6 +27,7 @@ pub use laws::{
 pub use lowercased::Lowercased;
 pub use name::Name;
 pub use name_buf::NameBuf;
+pub use read_name::{ReadMessageName, ReadName};
 pub use rev_name::RevName;
 pub use rev_name_buf::RevNameBuf;
 pub use unparsed_name::UnparsedName;

@@ -85,3 +85,14 @@ plain_within false contents at (Some (x, rest)) y end is leaves e =
 
 pub plain_ends : {Y : Type 0} (grammar : List ℕ → Option (Y × List ℕ)) → LeavesRest grammar → EndsWithin (plain_at grammar)
 plain_ends grammar leaves contents at y end e = plain_within (ltb (length contents) at) contents at (grammar (drop at contents)) y end refl (λ x rest h. leaves (drop at contents) x rest h) e
+
+placed_within : {Y : Type 0} (b : Bool) (contents : List ℕ) (read : Option (Y × List ℕ)) (y : Y) (end : ℕ) → cond b None (with_end contents read) ≡ Some (y, end) → (rest : List ℕ) × (read ≡ Some (y, rest))
+placed_within true contents read y end e = absurd cc
+placed_within false contents None y end e = absurd cc
+placed_within false contents (Some (x, rest)) y end e =
+    let same = some_pair_parts x y (length contents - length rest) end e in
+    (rest, ap (λ z. Some (z, rest)) same.0)
+
+-- what is read at a place is read from the octets there
+pub placed_some : {Y : Type 0} (grammar : List ℕ → Option (Y × List ℕ)) (contents : List ℕ) (at : ℕ) (y : Y) (end : ℕ) → plain_at grammar contents at ≡ Some (y, end) → (rest : List ℕ) × (grammar (drop at contents) ≡ Some (y, rest))
+placed_some grammar contents at y end e = placed_within (ltb (length contents) at) contents (grammar (drop at contents)) y end e

@@ -6,4 +6,4 @@ use Rattle.dns_name.proofs.row_order.compare_from_last.Goals as goal
 
 pub returns : goal.returns
 returns c =
-    rw (c.compare_aligned.ensures, c.skip.ensures, c.skip-2.ensures, c.saturating_sub-more.ensures, c.saturating_sub-less.ensures, c.cmp.ensures, c.count-left.ensures, c.count-right.ensures, turned_skipped (ordered_by c.args.by) (row_labels c.args.a.slice.now) (row_labels c.args.b.slice.now)) refl
+    rw (c.compare_aligned.ensures, c.skip.ensures, c.skip-2.ensures, c.saturating_sub-more.ensures, c.saturating_sub-less.ensures, c.cmp.ensures, c.count-left.ensures.count, c.count-right.ensures.count, turned_skipped (ordered_by c.args.by) (row_labels c.args.a.slice.now) (row_labels c.args.b.slice.now)) refl

@@ -1,0 +1,8 @@
+use Rattle.std.proofs.Common.{arith, length-append}
+use Rattle.dns_wire.proofs.NamesLeft.{few_labels}
+use Rattle.dns_name.specs.Unparsed.{unparsed_of}
+use Rattle.dns_name.proofs.Standing.{unparsed_octets, few_unparsed}
+use Rattle.dns_name.proofs.read_name.UnparsedNameParseName.label_count.Goals as goal
+
+pub loop-label-init : goal.loop-label-init
+loop-label-init c = (omega arith, few_unparsed _ (unparsed_octets c.args.self.now.slice.now (unparsed_of c.args.self.now.slice.now) c.args.self.now.is_name).0)
