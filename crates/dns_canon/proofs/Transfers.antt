@@ -1,15 +1,15 @@
 -- What several writes do together.
-use Rattle.std.proofs.Common.{◌≡◌, ℕ, ◌+◌, ◌-◌, length, length-drop, length-append, arith, Result, Err, suc, [], ◌∷◌, ◌<◌, ◌≤◌, ap, ◌∙◌, get_or, flat_map, take-append-drop, append_assoc, drop-cons, take_all, List, ◌++◌, Bool, take, drop, Some, None, IfSome, Ok, sym, subst, refl}
+use Rattle.std.proofs.Common.{◌≡◌, ℕ, ◌+◌, ◌-◌, length, length-take, length-drop, length-append, arith, Result, Err, suc, [], ◌∷◌, ◌<◌, ◌≤◌, ap, ◌∙◌, get_or, flat_map, take-append-drop, append_assoc, drop-cons, take_all, List, ◌++◌, Bool, take, drop, Some, None, IfSome, Ok, sym, subst, refl}
 use Rattle.std.specs.Prelude.{IsSome}
 use Rattle.std.specs.declared.option.Option.{Option}
-use Rattle.std.proofs.KnownBytes.{Appends-trans}
+use Rattle.std.proofs.KnownBytes.{Appends-trans, Consumes-trans}
 use Rattle.std.proofs.Math.Seq.{take-add, take-append-add}
 use Rattle.std.proofs.lemmas.List.{take-append-le}
 use Rattle.std.proofs.lemmas.List.Concat.{flat_map-cons}
 use Rattle.std.proofs.lemmas.Grind.{flat_map-append}
 use Rattle.dns_wire.specs.Outside.{WritesFront, Puts}
-use Rattle.dns_canon.specs.Run.{spaced, note_line}
-use Rattle.std.specs.Io.KnownBytes.{Appends}
+use Rattle.dns_canon.specs.Run.{TakesAtMost, spaced, note_line}
+use Rattle.std.specs.Io.KnownBytes.{Appends, Consumes}
 use Rattle.dns_wire.specs.Outside.{WriteFlag}
 use Rattle.dns_wire.specs.declared.outside.Failed.{Failed}
 
@@ -23,6 +23,12 @@ pub appends_next : (a b c : Option (List ℕ)) (text : List ℕ) (i n : ℕ) →
 appends_next a b c text i n p q =
     let q' : Appends b c (take n (drop i text)) = subst (λ (l : List ℕ). Appends b c (take n l)) (rest_of text i) q in
     subst (Appends a c) (sym (take-add i n text)) (Appends-trans a b c _ _ p q')
+
+-- a piece that was taken behind others
+pub taken_more : (a b c : Option (List ℕ)) (text buffer : List ℕ) (n limit : ℕ) → Consumes a b text → Consumes b c (take n buffer) → length text ≤ limit → length buffer ≡ 4096
+    → TakesAtMost a c (limit + 4096)
+taken_more a b c text buffer n limit p q within room =
+    (text ++ take n buffer, Consumes-trans a b c text (take n buffer) p q, omega (arith, length-append text (take n buffer), length-take n buffer))
 
 -- a flag that was told is told still after a write
 pub flag_told : (a b c : Option Bool) (n : ℕ) → IfSome a (λ _. IsSome b) → WriteFlag b c (let r : Result ℕ Failed = Ok n in r) → IfSome a (λ _. IsSome c)

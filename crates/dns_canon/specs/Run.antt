@@ -1,7 +1,7 @@
 -- What a text calls for.
 use Rattle.std.specs.Prelude.{◌≡◌, ℕ, ◌<◌, ◌≤◌, ◌⊎◌, List, [], ◌∷◌, ◌++◌, length, codes, flat_map, Option, Some, IfSome}
 use Rattle.std.specs.Fmt.{decimal}
-use Rattle.std.specs.Io.KnownBytes.{Appends}
+use Rattle.std.specs.Io.KnownBytes.{Appends, Consumes}
 use Rattle.dns_wire.specs.Hexadecimal.{Spells, SpellsNothing, lines}
 use Rattle.dns_wire.specs.Outside.{WritesFront}
 use Rattle.dns_canon.specs.Messages.{Rec, Valid}
@@ -121,6 +121,10 @@ WritesLines t old new status = Unit {0}
 -- nothing is left of what was told
 abbrev pub IsEmptied : Option (List ℕ) → Option (List ℕ) → Type 0
 IsEmptied old new = IfSome old (λ _. new ≡ Some [])
+
+-- no more octets than so many have been taken of what was told
+abbrev pub TakesAtMost : Option (List ℕ) → Option (List ℕ) → ℕ → Type 0
+TakesAtMost old new most = (taken : List ℕ) × Consumes old new taken × (length taken ≤ most)
 
 -- where the whole text has been read, nothing of it is left
 abbrev pub Empties : Status → Option (List ℕ) → Option (List ℕ) → Type 0

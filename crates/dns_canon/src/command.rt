@@ -1,15 +1,15 @@
 //! From the text of a message to its canonical lines.
 
-ghost use Rattle.std.specs.Prelude.{◌↔◌, true, ◌≡◌, ◌≢◌, ◌⊎◌, ◌<◌, ◌≤◌, List, ℕ, IfOk, IfErr, IfSome, OnOk};
+ghost use Rattle.std.specs.Prelude.{◌↔◌, true, ◌≡◌, ◌≢◌, ◌⊎◌, ◌+◌, ◌<◌, ◌≤◌, List, ℕ, IfOk, IfErr, IfSome, OnOk};
 ghost use Rattle.dns_wire.specs.Outside.{Rose, HasCause, BecomesFlag, WritesFront, Puts};
 ghost use Rattle.std.specs.Io.KnownBytes.{Appends};
 ghost use Rattle.dns_canon.specs.Words.{IsCanon};
-ghost use Rattle.dns_canon.specs.Run.{HasLines, Suits, IsEmptied, Empties, IsExcuse, AnswersOr, WritesLines, note_of};
+ghost use Rattle.dns_canon.specs.Run.{HasLines, Suits, TakesAtMost, IsEmptied, Empties, IsExcuse, AnswersOr, WritesLines, note_of};
 
 use crate::canonical::canonicalise;
 use crate::spelling::{octets_of, text_of};
 use crate::status::Status;
-use crate::transfer::{put_line, put_text, read_text};
+use crate::transfer::{PIECE, put_line, put_text, read_text};
 use crate::words::Words;
 use dns_wire::{Failed, Sink, Source};
 use std::alloc::Global;
@@ -25,7 +25,8 @@ fn lines_of<S: Source>(alloc: Global, source: &mut S) -> Result<Vec<u8>, Status>
     ensures read_fault { result ≡ Err Status.ReadFault → Rose (S.faults source.old) (S.faults source.new) }
     ensures emptied { OnOk result (IsEmptied (S.left source.old) (S.left source.new)) }
     ensures emptied_err { IfErr result (λ status. Empties status (S.left source.old) (S.left source.new)) }
-    ensures later { S.faults source.old ≤ S.faults source.new }
+    ensures read_steady { (result ≢ Err Status.ReadFault) → S.faults source.new ≡ S.faults source.old }
+    ensures taken { TakesAtMost (S.left source.old) (S.left source.new) (LIMIT + PIECE) }
 {
     let text = read_text(alloc, source, LIMIT)?;
     let message = octets_of(alloc, &text)?;
@@ -40,6 +41,9 @@ fn answer<S: Source, K: Sink>(alloc: Global, words: &Words, source: &mut S, sink
     ensures suits { IfSome (S.left source.old) (λ t. Suits t result) }
     ensures read_fault { result ≡ Status.ReadFault → Rose (S.faults source.old) (S.faults source.new) }
     ensures write_fault { result ≡ Status.WriteFault → Rose (K.faults sink.old) (K.faults sink.new) }
+    ensures read_steady { (result ≢ Status.ReadFault) → S.faults source.new ≡ S.faults source.old }
+    ensures write_steady { (result ≢ Status.WriteFault) → K.faults sink.new ≡ K.faults sink.old }
+    ensures taken { TakesAtMost (S.left source.old) (S.left source.new) (LIMIT + PIECE) }
     ensures written { IfSome (S.left source.old) (λ t. WritesLines t (K.written sink.old) (K.written sink.new) result) }
     ensures unwritten { (result ≢ Status.Done) → (result ≢ Status.WriteFault) → sink.new ≡ sink.old }
     ensures flushed { result ≡ Status.Done → BecomesFlag (K.is_flushed sink.old) (K.is_flushed sink.new) true }
@@ -114,6 +118,10 @@ pub fn run<S: Source, K: Sink, N: Sink>(
     ensures read_fault { result ≡ Status.ReadFault → Rose (S.faults source.old) (S.faults source.new) }
     ensures write_fault { result ≡ Status.WriteFault → Rose (K.faults sink.old) (K.faults sink.new) }
 
+    // At any other answer the device has counted no fault.
+    ensures read_steady { (result ≢ Status.ReadFault) → S.faults source.new ≡ S.faults source.old }
+    ensures write_steady { (result ≢ Status.WriteFault) → K.faults sink.new ≡ K.faults sink.old }
+
     // With no fault the answer is the one that the text calls for, or memory was refused.
     ensures complete { IsCanon words.now → (Rose (S.faults source.old) (S.faults source.new) → ⊥)
         → (Rose (K.faults sink.old) (K.faults sink.new) → ⊥)
@@ -124,6 +132,9 @@ pub fn run<S: Source, K: Sink, N: Sink>(
     ensures unwritten { (result ≢ Status.Done) → (result ≢ Status.WriteFault) → sink.new ≡ sink.old }
     ensures flushed { result ≡ Status.Done → BecomesFlag (K.is_flushed sink.old) (K.is_flushed sink.new) true }
     ensures emptied { Empties result (S.left source.old) (S.left source.new) }
+
+    // No read comes once the limit is passed.
+    ensures taken { TakesAtMost (S.left source.old) (S.left source.new) (LIMIT + PIECE) }
 
     // The line for the answer goes to the notes.
     ensures quiet { result ≡ Status.Done → notes.new ≡ notes.old }

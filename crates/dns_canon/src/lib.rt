@@ -22,6 +22,7 @@ pub use laws::{
     canonical_lists, four_kinds_of_messages, one_status, order_of_records, readings_in_words,
 };
 pub use status::Status;
+pub use transfer::PIECE;
 pub use words::Words;
 
 #[cfg(test)]

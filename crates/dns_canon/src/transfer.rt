@@ -1,16 +1,16 @@
 //! Whole texts, in and out.
 
-ghost use Rattle.std.specs.Prelude.{◌≡◌, ◌<◌, ◌≤◌, length, true, OnOk, IfOk, IfSome, IsErrOf, IsSome, vec_len};
+ghost use Rattle.std.specs.Prelude.{◌≡◌, ◌≢◌, ◌+◌, ◌<◌, ◌≤◌, length, Err, true, OnOk, IfOk, IfSome, IsErrOf, IsSome, vec_len};
 ghost use Rattle.dns_wire.specs.Outside.{Rose, HasCause, BecomesFlag, ReadsAll, Puts};
-ghost use Rattle.dns_canon.specs.Run.{spaced, note_line};
+ghost use Rattle.dns_canon.specs.Run.{TakesAtMost, spaced, note_line};
 
 use crate::error::TextError;
 use dns_wire::{Failed, Sink, Source};
 use itoa::Buffer;
 use std::alloc::Global;
 
-/// The octets that one read may give.
-const PIECE: usize = 4096;
+/// The most octets that one read gives.
+pub const PIECE: usize = 4096;
 
 /// Reads all that is left, if that is at most `limit` octets. No read comes once the limit is passed.
 pub(crate) fn read_text<S: Source>(
@@ -20,10 +20,10 @@ pub(crate) fn read_text<S: Source>(
 ) -> Result<Vec<u8>, TextError>
     ensures all { IfOk result (λ text. ReadsAll (S.left source.old) (S.left source.new) text.items) }
     ensures within { IfOk result (λ text. vec_len text ≤ limit) }
-    ensures steady { OnOk result (S.faults source.new ≡ S.faults source.old) }
     ensures too_long { IsErrOf result TextError.TooLong → IfSome (S.left source.old) (λ all. limit < length all) }
     ensures read_fault { IsErrOf result TextError.ReadFault → Rose (S.faults source.old) (S.faults source.new) }
-    ensures later { S.faults source.old ≤ S.faults source.new }
+    ensures steady { (result ≢ Err TextError.ReadFault) → S.faults source.new ≡ S.faults source.old }
+    ensures taken { TakesAtMost (S.left source.old) (S.left source.new) (limit + PIECE) }
 {
     let mut text = Vec::new(alloc);
     let mut buffer = [0u8; PIECE];
