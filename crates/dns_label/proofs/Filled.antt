@@ -1,6 +1,6 @@
 -- What a label is in words, and what labels one after another are.
 use Rattle.std.proofs.Common.{◌≡◌, ℕ, zero, suc, ◌<◌, ◌≤◌, inl, inr, false, ltb, List, [], ◌∷◌, ◌++◌, length, take, drop, Option, Some, None, refl, sym, ap, subst, ◌∙◌, arith}
-use Rattle.std.specs.Prelude.{◌||◌, ◌↔◌}
+use Rattle.std.specs.Prelude.{unwrap_or, ◌||◌, ◌↔◌}
 use Rattle.std.specs.List.{AllByRecursion}
 use Rattle.std.proofs.lemmas.Bool.Decides.{nat_tests}
 use Rattle.std.proofs.lemmas.Bool.{le-ltb}
@@ -9,7 +9,7 @@ use Rattle.std.proofs.lemmas.Option.{some_pair_parts}
 use Rattle.dns_wire.specs.Names.{heads}
 use Rattle.dns_wire.specs.Reading.{all_of}
 use Rattle.dns_wire.proofs.Spelled.{chosen}
-use Rattle.dns_label.specs.Labels.{IsShort, AreLabels, label_wire, plain_label, with_label, then_labels, labels_to_end, label_list, labels_or_none, labels_in}
+use Rattle.dns_label.specs.Labels.{IsShort, AreLabels, label_wire, plain_label, with_label, then_labels, labels_to_end, label_list, labels_in}
 
 -- ---- one label
 
@@ -104,7 +104,7 @@ pub labels_in_heads : (octets : List ℕ) (labels : List (List ℕ)) → AllByRe
 unfolding labels_in
 labels_in_heads octets labels sizes e =
     let read : label_list octets ≡ Some labels = ap label_list e ∙ list_again labels sizes in
-    (read, ap labels_or_none read)
+    (read, ap (λ (o : Option (List (List ℕ))). unwrap_or o []) read)
 
 pub are_labels : (octets : List ℕ) (labels : List (List ℕ)) → AllByRecursion IsShort labels → octets ≡ heads labels → AreLabels octets
 are_labels octets labels sizes e = let t = labels_in_heads octets labels sizes e in t.0 ∙ ap Some (sym t.1)

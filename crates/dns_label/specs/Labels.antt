@@ -1,6 +1,6 @@
 -- Labels, and how they stand on the wire (RFC 1035 section 3.1): a length of at most 63, and so many octets. The root's
 -- label is the empty one.
-use Rattle.std.specs.Prelude.{◌≡◌, ℕ, zero, suc, ◌<◌, List, [], ◌∷◌, length, take, drop, Option, Some, None, nat_lt, ◌||◌, if◌then◌else◌}
+use Rattle.std.specs.Prelude.{◌≡◌, ℕ, zero, suc, ◌<◌, List, [], ◌∷◌, length, take, drop, Option, Some, None, unwrap_or, nat_lt, ◌||◌, if◌then◌else◌}
 
 -- a label's octets: its length, and its contents
 abbrev pub label_wire : List ℕ → List ℕ
@@ -41,13 +41,9 @@ labels_to_end (suc steps) (size ∷ rest) = then_labels (λ more. labels_to_end 
 unfoldable pub label_list : List ℕ → Option (List (List ℕ))
 label_list octets = labels_to_end (length octets) octets
 
-abbrev pub labels_or_none : Option (List (List ℕ)) → List (List ℕ)
-labels_or_none None = []
-labels_or_none (Some labels) = labels
-
 -- the labels of octets that they fill
 unfoldable pub labels_in : List ℕ → List (List ℕ)
-labels_in octets = labels_or_none (label_list octets)
+labels_in octets = unwrap_or (label_list octets) []
 
 -- Octets are labels one after another. `labels_fill` says it in other words.
 abbrev pub AreLabels : List ℕ → Type 0

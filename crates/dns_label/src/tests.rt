@@ -1,6 +1,6 @@
 //! Each public call once, the sizes at which calls refuse, and the order of labels that RFC 4034 shows.
 
-use crate::{Label, LabelBuf, LabelIter, label_of, labels_fill, one_label};
+use crate::{Label, LabelBuf, LabelIter, label_of, labels_fill, one_label, order_of_labels};
 use dns_wire::{
     AsBytes, BuildBytes, BuildInMessage, NameCompressor, ParseBytes, ParseMessageBytes, SplitBytes,
     SplitMessageBytes, TruncationError,
@@ -179,6 +179,17 @@ fn equal_labels_hash_alike(rt: HostRuntime) -> Result<(), Fail> {
     assert_eq!(rt; hash_of(&one), hash_of(&other));
     assert_eq!(rt; hash_of(&one.as_label()), hash_of(&other));
     assert!(rt; hash_of(&one) != hash_of(&Label::root()));
+    Ok(())
+}
+
+#[test]
+fn tells_labels(rt: HostRuntime) -> Result<(), Fail> {
+    assert!(rt; LabelIter::are_labels(b"\x03www\x02ab\0"));
+    assert!(rt; LabelIter::are_labels(b"\0\x01a"));
+    assert!(rt; LabelIter::are_labels(b""));
+    assert!(rt; !LabelIter::are_labels(b"\x03www\x02a"));
+    assert!(rt; !LabelIter::are_labels(b"\x01a\xc0\x0c"));
+    order_of_labels();
     Ok(())
 }
 

@@ -8,7 +8,7 @@ use Rattle.std.proofs.Math.Seq.{drop-cons}
 use Rattle.dns_wire.specs.Reading.{Gives, all_of}
 use Rattle.dns_wire.specs.declared.follow.Head.{Head}
 use Rattle.dns_wire.specs.declared.follow.Head.TheVariants.{Root, Label, Pointer}
-use Rattle.dns_wire.specs.Names.{heads, wire, IsLabel, plain_name, labels_or_none, labels_of}
+use Rattle.dns_wire.specs.Names.{heads, wire, IsLabel, plain_name, labels_of}
 use Rattle.dns_wire.specs.Pointers.{NameAt, head_at, joined, after_head, segment_within, short_name, name_at}
 use Rattle.dns_wire.proofs.Following.{name_at_is, name_at_finds}
 use Rattle.dns_wire.proofs.Walk.{AllByRecursion-append, heads-append, wire_long, plain_wire}
@@ -142,7 +142,7 @@ followed_root contents start segment at end front followed is within =
     let octets : front ++ 0 ∷ [] ≡ wire followed.labels = ap (λ (f : List ℕ). f ++ 0 ∷ []) followed.front_is in
     let long : length (wire followed.labels) ≤ 255 = omega (arith, wire_long followed.labels, ap length followed.front_is, followed.short) in
     let alone : plain_name (wire followed.labels) ≡ Some (followed.labels, []) = ap plain_name (sym (append-nil (wire followed.labels))) ∙ plain_wire followed.labels [] followed.sizes long in
-    let of : labels_or_none (plain_name (wire followed.labels)) ≡ followed.labels = ap labels_or_none alone in
+    let of : unwrap_or (all_of (plain_name (wire followed.labels))) [] ≡ followed.labels = ap (λ (r : Option (List (List ℕ) × List ℕ)). unwrap_or (all_of r) []) alone in
     let fits : ltb 255 (length (wire followed.labels)) ≡ false = le-ltb _ _ long in
     let read : short_name (segment_within (256 + start) contents start start) ≡ Some (followed.labels, unwrap_or end (at + 1)) =
     ap short_name (read_head_is contents start segment at end front (Some Root) followed is ∙ ap (λ (l : List (List ℕ)). Some (l, unwrap_or end (at + 1))) (append-nil followed.labels)) ∙ rw fits refl in

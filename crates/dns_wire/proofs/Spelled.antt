@@ -1,13 +1,13 @@
 -- What a name without pointers is, in words: labels whose octets stand at the front.
-use Rattle.std.proofs.Common.{◌≡◌, ℕ, zero, suc, ◌+◌, ◌<◌, ◌≤◌, ◌⊎◌, inl, inr, Bool, true, false, cond, ltb, List, [], ◌∷◌, ◌++◌, length, get_or, take, drop, Some, None, refl, sym, ap, subst, ◌∙◌, append_assoc, arith}
-use Rattle.std.specs.Prelude.{◌==◌, ◌||◌}
+use Rattle.std.proofs.Common.{◌≡◌, ℕ, zero, suc, ◌+◌, ◌<◌, ◌≤◌, ◌⊎◌, inl, inr, Bool, true, false, cond, ltb, List, [], ◌∷◌, ◌++◌, length, get_or, take, drop, Option, Some, None, refl, sym, ap, subst, ◌∙◌, append_assoc, arith}
+use Rattle.std.specs.Prelude.{unwrap_or, ◌==◌, ◌||◌}
 use Rattle.std.specs.List.{AllByRecursion}
 use Rattle.std.proofs.lemmas.Bool.Decides.{nat_tests}
 use Rattle.std.proofs.lemmas.Bool.{ltb-false}
 use Rattle.std.proofs.lemmas.List.{take_at, drop_at, take-append-drop, length-append, length-take, append-nil}
 use Rattle.std.proofs.lemmas.Option.{some_pair_parts}
 use Rattle.dns_wire.specs.Reading.{all_of}
-use Rattle.dns_wire.specs.Names.{heads, wire, IsLabel, IsName, after_labels, labels_within, up_to_255, plain_name, labels_of, labels_or_none}
+use Rattle.dns_wire.specs.Names.{heads, wire, IsLabel, IsName, after_labels, labels_within, up_to_255, plain_name, labels_of}
 use Rattle.dns_wire.proofs.Walk.{Read, plain_wire, wire_long}
 
 -- the two cases of a choice that gives z
@@ -101,7 +101,7 @@ pub labels_of_wire : (labels : List (List ℕ)) → IsName labels → (all_of (p
 unfolding labels_of
 labels_of_wire labels is =
     let read : plain_name (wire labels) ≡ Some (labels, []) = ap plain_name (sym (append-nil (wire labels))) ∙ plain_wire labels [] is.sizes is.size in
-    (ap all_of read, ap labels_or_none read)
+    (ap all_of read, ap (λ (o : Option (List (List ℕ))). unwrap_or o []) (ap all_of read))
 
 first_of : (labels : List (List ℕ)) (size : ℕ) → IsName labels → get_or (wire labels) 0 0 ≡ size → 0 < size → FirstLabel (wire labels) size
 first_of [] size is at_front some = absurd (omega arith)

@@ -1,7 +1,8 @@
 -- Names: lists of labels without the root, and how they stand on the wire (RFC 1035 sections 2.3.4 and 3.1).
-use Rattle.std.specs.Prelude.{ℕ, zero, suc, ◌<◌, ◌≤◌, List, [], ◌∷◌, ◌++◌, length, take, drop, map, Option, Some, None, nat_lt, ◌==◌, ◌||◌, if◌then◌else◌}
+use Rattle.std.specs.Prelude.{ℕ, zero, suc, ◌<◌, ◌≤◌, List, [], ◌∷◌, ◌++◌, length, take, drop, map, Option, Some, None, unwrap_or, nat_lt, ◌==◌, ◌||◌, if◌then◌else◌}
 use Rattle.std.specs.List.{AllByRecursion}
 use Rattle.std.specs.Str.{str_to_ascii_lowercase}
+use Rattle.dns_wire.specs.Reading.{all_of}
 
 -- ---- names, and their octets
 
@@ -53,10 +54,6 @@ up_to_255 (Some (labels, rest)) = if nat_lt 255 (length (wire labels)) then None
 unfoldable pub plain_name : List ℕ → Option (List (List ℕ) × List ℕ)
 plain_name bytes = up_to_255 (labels_within (length bytes) bytes)
 
-abbrev pub labels_or_none : Option (List (List ℕ) × List ℕ) → List (List ℕ)
-labels_or_none None = []
-labels_or_none (Some (labels, rest)) = labels
-
 -- the labels of a name's octets
 unfoldable pub labels_of : List ℕ → List (List ℕ)
-labels_of bytes = labels_or_none (plain_name bytes)
+labels_of bytes = unwrap_or (all_of (plain_name bytes)) []
