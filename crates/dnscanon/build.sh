@@ -49,14 +49,14 @@ processors() {
     echo "$count"
 }
 
-# A library is kept where it was built after the last change of its sources and of the toolchain, and after those below it.
-# Only time hangs on this: rt itself goes by what the files hold.
+# A library is kept where its proof began after the last change of its sources and of the toolchain, and after the proofs of
+# those below it. Only time hangs on this: rt itself goes by what the files hold.
 is_kept() {
-    stamp=$crates/$1/out/rlib/stamp
-    [ -f "$stamp" ] || return 1
-    set -- "$crates/$1" $(below "$1" | sed "s|[^ ]*|../&/out/rlib/stamp|g")
+    mark=$crates/$1/out/proved
+    [ -f "$mark" ] && [ -d "$crates/$1/out/rlib" ] || return 1
+    set -- "$crates/$1" $(below "$1" | sed "s|[^ ]*|../&/out/proved|g")
     cd "$1" && shift && [ -z "$(find -L "$(command -v rt)" "$list" . "$@" -name out -prune -o \
-        ! -path '*/must-fail*' -newer "$stamp" -print)" ]
+        ! -path '*/must-fail*' -newer "$mark" -print)" ]
 }
 
 # A crate's folder is as old as the last change in it, so what lies in its out/ is moved, and not that folder.
@@ -95,8 +95,10 @@ clear_rooms() {
     rm -rf "$rooms"
 }
 
-# Proves the library $1 with $2 processes, in the background. As it ends, its status stands in a file.
+# Proves the library $1 with $2 processes, in the background. As it ends, its status stands in a file. A mark tells when it
+# began.
 start() {
+    : >"$rooms/$1.mark"
     (
         trap 'kill $! 2>/dev/null; exit 1' TERM
         furnish "$1" && cd "$rooms/$1/crates/$1" &&
@@ -133,6 +135,7 @@ gather() {
         free=$((free + $(cat "$rooms/$name.jobs")))
         clear_room "$name"
         [ "$(cat "$rooms/$name.status")" = 0 ] || { failed=$name && return 1; }
+        mv "$rooms/$name.mark" "$crates/$name/out/proved"
         proved="$proved $name"
         change=yes
     done
