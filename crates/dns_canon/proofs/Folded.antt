@@ -6,7 +6,6 @@ use Rattle.dns_record.proofs.Sizes.{folded_long}
 use Rattle.dns_basic.specs.Types.{ns_fields, cname_fields, soa_fields, ptr_fields, mx_fields, rp_fields}
 use Rattle.dns_plain.specs.Types.{srv_fields, dname_fields}
 use Rattle.dns_sec.specs.Types.{rrsig_fields}
-
 use Rattle.dns_canon.specs.Seen.{data_seen, data_folded, is_data_of}
 use Rattle.dns_canon.specs.declared.record_data.RecordData.{RecordData}
 use Rattle.dns_canon.specs.declared.record_data.RecordData.TheVariants.{A, Ns, CName, Soa, Ptr, HInfo, Mx, Txt, Rp, Aaaa, Srv, DName, Ds, Rrsig, Nsec, DNSKey, Nsec3, Nsec3Param, ZoneMD, Unknown}

@@ -8,6 +8,7 @@ pub mod Kept
 pub mod NoItem
 pub mod Ordering
 pub mod Phrased
+pub mod PlainData
 pub mod Sections
 pub mod Short
 pub mod Sorting
