@@ -5,7 +5,7 @@ use Rattle.dns_wire.specs.Pointers.{name_at}
 use Rattle.dns_record.specs.Data.{data_as, data_in}
 use Rattle.dns_record.specs.Fields.{Field}
 
--- OPT will have a row of its own, and its data are not read before
+-- the data of OPT are options (RFC 6891 section 6.1.2), which are not read yet
 abbrev pub is_waiting : ℕ → Bool
 is_waiting rtype = rtype == 41
 

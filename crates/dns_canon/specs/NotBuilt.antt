@@ -1,4 +1,4 @@
--- The form that is not read yet: a record whose type waits for its row.
+-- The form that is not read yet: a record of type OPT (RFC 6891).
 use Rattle.std.specs.Prelude.{◌≡◌, ℕ, List, drop, Option, Some, None, Bool, true, false, not, ◌==◌, ◌&&◌}
 use Rattle.std.specs.Int.{w16}
 use Rattle.dns_wire.specs.Pointers.{name_at}

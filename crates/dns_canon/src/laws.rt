@@ -33,9 +33,9 @@ pub fn four_kinds_of_messages()
 
 /// The reading of a message in words: it stops at an item exactly where all items that are counted before
 /// stand one after another and none stands at the item's place; it is whole exactly where all counted items
-/// stand one after another. An item of section 0 is a question that stands at its place, and any other a
-/// record that stands there, of a type that is read (RFC 1035 sections 4.1.2 to 4.1.4). At a place one item
-/// is read at the most, and none where a form stands that is not read yet.
+/// stand one after another. In section 0 a question is read exactly where it stands, and in the others a
+/// record exactly where it stands and its type is one that is read (RFC 1035 sections 4.1.2 to 4.1.4). At a
+/// place one item is read at the most, and none where a form stands that is not read yet.
 pub fn readings_in_words()
     ensures stops { (m : List ℕ) (s i p : ℕ) → StopsAt m s i p ↔ FailsAt m s i p }
     ensures whole { (m : List ℕ) (items : List Item) (end : ℕ) → (message_reading m ≡ Whole items end) ↔ ReadsWhole m items end }

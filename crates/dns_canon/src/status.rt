@@ -31,8 +31,8 @@ pub enum Status {
     WriteFault,
     /// Memory ran out.
     Memory,
-    /// This item is the first of a message that can't be read, because it is a record with data of a type
-    /// that waits for its turn.
+    /// This item is the first of a message that can't be read, because it is a record of type OPT, whose
+    /// data are not read yet.
     NotBuilt {
         message: u8,
         section: u8,

@@ -146,6 +146,16 @@ fn writes_signed_zones_as_other_software_does(rt: HostRuntime) -> Result<(), Fai
     Ok(())
 }
 
+/// Lines of hexadecimal digits, one for each list of octets.
+fn lines_of(alloc: Global, lists: &[&[u8]]) -> Result<Vec<u8>, Fail> {
+    let mut lines = Vec::new(alloc);
+    for octets in lists {
+        lines.extend_from_slice(hex::encode(alloc, octets)?.as_bytes())?;
+        lines.push(b'\n')?;
+    }
+    Ok(lines)
+}
+
 /// The owner of the second record leads through 8,000 pointers, each to the one before it and the first to
 /// a root, and so it is the root.
 #[test]
@@ -160,15 +170,44 @@ fn follows_8000_pointers(rt: HostRuntime) -> Result<(), Fail> {
         message.extend_from_slice(&(0xc000 | target).to_be_bytes())?;
         target = place;
     }
+    assert_eq!(rt; target, 0x3e96);
     message.extend_from_slice(b"\xfe\x96\0\x01\0\x01\0\0\0\0\0\x04\xc0\0\x02\x01")?;
     assert_eq!(rt; message.len(), 16_040);
-    assert_eq!(rt; target, 0x3e96);
 
-    let list = canonicalise(alloc, &message)?;
-    assert_eq!(rt; list.len(), 2);
+    let text = lines_of(alloc, &[message.as_slice()])?;
     let address = b"\0\0\x01\0\x01\0\0\0\0\0\x04\xc0\0\x02\x01";
-    assert_eq!(rt; list.get(0), Some(address.as_slice()));
-    assert_eq!(rt; list.get(1), Some(&message[12..16_024]));
+    let lines = lines_of(alloc, &[address.as_slice(), &message[12..16_024]])?;
+    writes(&rt, alloc, &text, &lines)
+}
+
+#[test]
+fn writes_a_thousand_equal_lines(rt: HostRuntime) -> Result<(), Fail> {
+    let alloc = rt.alloc();
+    let record = b"016100000100010000003c0004c0000201";
+    let mut text = Vec::from_slice(alloc, b"12348180000003e800000000")?;
+    let mut lines = Vec::new(alloc);
+    for _ in 0..1000u16 {
+        text.extend_from_slice(record)?;
+        lines.extend_from_slice(record)?;
+        lines.push(b'\n')?;
+    }
+    writes(&rt, alloc, &text, &lines)
+}
+
+/// The text is answered with these lines.
+fn writes(rt: &impl Abort, alloc: Global, text: &[u8], lines: &[u8]) -> Result<(), Fail> {
+    let words = words_of(alloc, &["canon"])?;
+    let mut buffer = vec![in alloc; 0u8; 65_536]?;
+    let mut sink = TextSink::new(&mut buffer, 4096, &[]);
+    let status = run(
+        alloc,
+        &words,
+        &mut PlainSource::new(text),
+        &mut sink,
+        &mut NullSink,
+    );
+    assert_eq!(rt; status, Status::Done);
+    assert_eq!(rt; sink.written(), lines);
     Ok(())
 }
 
@@ -176,11 +215,18 @@ fn follows_8000_pointers(rt: HostRuntime) -> Result<(), Fail> {
 fn keeps_its_limit(rt: HostRuntime) -> Result<(), Fail> {
     let alloc = rt.alloc();
     let words = words_of(alloc, &["canon"])?;
-    for (count, status) in [(LIMIT, Status::Done), (LIMIT + 1, Status::TooLong)] {
+    let answers = [
+        (LIMIT, Status::Done, ""),
+        (LIMIT + 1, Status::TooLong, "too long\n"),
+    ];
+    for (count, status, line) in answers {
         let digits = vec![in alloc; b'0'; count]?;
+        let mut buffer = [0u8; 20];
+        let mut notes = TextSink::new(&mut buffer, 7, &[]);
         let mut source = PlainSource::new(&digits);
-        let answer = run(alloc, &words, &mut source, &mut NullSink, &mut NullSink);
+        let answer = run(alloc, &words, &mut source, &mut NullSink, &mut notes);
         assert_eq!(rt; answer, status, "{count}");
+        assert_eq!(rt; notes.written(), line.as_bytes(), "{count}");
     }
     Ok(())
 }

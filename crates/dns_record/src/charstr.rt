@@ -151,7 +151,8 @@ impl PartialEq for CharStr<'_> {
 
     ghost laws = { partial_equiv_from_equiv (on_equiv (λ v. octets_of v.slice.now) (on_texts_equal str_to_ascii_lowercase)) };
 
-    /// Whether the octets are the same, ASCII case aside (RFC 1035 section 2.3.3).
+    /// Whether the octets are the same, ASCII case aside (RFC 1035 section 2.3.3). Equal strings may have
+    /// unequal canonical octets, which keep the case (RFC 4034 section 6.2).
     fn eq(&self, other: &Self) -> bool {
         self.octets().eq_ignore_ascii_case(other.octets())
     }

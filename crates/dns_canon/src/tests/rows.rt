@@ -15,7 +15,7 @@ pub(super) struct Row {
 }
 
 /// The rows. The canonical octets agree with dnspython and ldns.
-pub(super) const ROWS: [Row; 38] = [
+pub(super) const ROWS: [Row; 41] = [
     Row {
         name: "twelve-zero-octets",
         words: &["canon"],
@@ -83,6 +83,22 @@ pub(super) const ROWS: [Row; 38] = [
     Row {
         name: "usage-make",
         words: &["make"],
+        input: "",
+        status: Status::Usage,
+        notes: "usage\n",
+        output: "",
+    },
+    Row {
+        name: "usage-make-1001",
+        words: &["make", "1001"],
+        input: "",
+        status: Status::Usage,
+        notes: "usage\n",
+        output: "",
+    },
+    Row {
+        name: "usage-make-007",
+        words: &["make", "007"],
         input: "",
         status: Status::Usage,
         notes: "usage\n",
@@ -179,6 +195,14 @@ pub(super) const ROWS: [Row; 38] = [
         status: Status::Done,
         notes: "",
         output: "00ff00000100000000000161\n",
+    },
+    Row {
+        name: "cds-three-octets-before-it-has-a-row",
+        words: &["canon"],
+        input: "123481800000000100000000016100003b000100000e100003000000",
+        status: Status::Done,
+        notes: "",
+        output: "016100003b000100000e100003000000\n",
     },
     Row {
         name: "pointer-in-data-at-own-owner",
