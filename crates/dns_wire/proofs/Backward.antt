@@ -1,12 +1,12 @@
 -- What names from the root on are, in words.
-use Rattle.std.proofs.Common.{◌≡◌, ℕ, ◌+◌, ◌≤◌, ◌<◌, inl, inr, List, [], ◌∷◌, ◌++◌, length, get_or, take, drop, Option, Some, None, refl, sym, ap, subst, ◌∙◌, append_assoc, arith}
+use Rattle.std.proofs.Common.{◌≡◌, ℕ, ◌≤◌, ◌<◌, inl, inr, List, [], ◌∷◌, ◌++◌, length, get_or, take, drop, Option, Some, None, refl, sym, ap, subst, ◌∙◌, arith}
 use Rattle.std.specs.Prelude.{map, reverse, option_map, unwrap_or, ◌==◌}
 use Rattle.std.specs.List.{AllByRecursion}
 use Rattle.std.proofs.lemmas.Bool.Decides.{nat_tests}
 use Rattle.std.proofs.lemmas.List.{take_at, drop_at, length-append, append-nil, map-append, reverse-append, reverse-reverse}
 use Rattle.std.specs.Char.{to_ascii_lowercase}
 use Rattle.std.specs.Str.{str_to_ascii_lowercase}
-use Rattle.dns_wire.specs.Names.{heads, wire, IsLabel, IsName, labels_of, lowered}
+use Rattle.dns_wire.specs.Names.{heads, wire, IsLabel, IsName, lowered}
 use Rattle.dns_wire.specs.Reversed.{label_row, row_labels, reversed_wire, reversed_name, reversed_labels_of}
 use Rattle.dns_wire.proofs.Spelled.{chosen, name_octets, labels_of_wire}
 use Rattle.dns_wire.proofs.Lowered.{lower_wire}

@@ -1,6 +1,5 @@
 -- Values that are written in a message whole, and one behind another.
 use Rattle.std.proofs.Common.{◌≡◌, ℕ, ◌≤◌, List, [], ◌++◌, length, take, refl, sym, ap, subst, ◌∙◌, append_assoc, arith, Result, Ok, Err}
-use Rattle.std.specs.Prelude.{⊤}
 use Rattle.std.proofs.lemmas.List.{length-append, append-nil, take_at}
 use Rattle.dns_wire.specs.Building.{Stands, Builds}
 use Rattle.dns_wire.specs.Compression.{Pressing, FitsIn, Grows}

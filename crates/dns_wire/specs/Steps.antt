@@ -1,5 +1,5 @@
 -- Reading by steps.
-use Rattle.std.specs.Prelude.{List, Option, Some, None}
+use Rattle.std.specs.Prelude.{Option, Some, None}
 
 -- what is read, and then what is read with it
 infixl 10 ◌>>=◌
