@@ -100,8 +100,10 @@ impl BuildBytes for Nsec3Flags {
         self.bits.build_at(bytes, start)
     }
 
-    fn built_bytes_size(&self) -> usize {
-        self.bits.built_bytes_size()
+    fn built_bytes_size(&self) -> usize
+        ensures { result ≡ 1 }
+    {
+        1
     }
 }
 

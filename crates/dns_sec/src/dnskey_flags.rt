@@ -130,8 +130,10 @@ impl BuildBytes for DNSKeyFlags {
         self.bits.build_at(bytes, start)
     }
 
-    fn built_bytes_size(&self) -> usize {
-        self.bits.built_bytes_size()
+    fn built_bytes_size(&self) -> usize
+        ensures { result ≡ 2 }
+    {
+        2
     }
 }
 
