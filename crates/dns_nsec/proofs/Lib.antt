@@ -2,6 +2,5 @@
 mod Alike
 mod Bits
 mod Named
-mod OptOut
 mod Parted
 mod Rising

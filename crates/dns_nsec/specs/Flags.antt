@@ -3,5 +3,5 @@ use Rattle.std.specs.Prelude.{ℕ}
 use Rattle.dns_nsec.specs.declared.flags.Nsec3Flags.{Nsec3Flags}
 
 -- their 8 bits as a number
-abbrev pub flag_bits : Nsec3Flags → ℕ
-flag_bits flags = flags.bits
+abbrev pub nsec3_flag_bits : Nsec3Flags → ℕ
+nsec3_flag_bits flags = flags.bits

@@ -1,6 +1,6 @@
 -- What is seen of the data of hashed owners, field by field.
 use Rattle.std.specs.Prelude.{ℕ, List}
-use Rattle.dns_nsec.specs.Flags.{flag_bits}
+use Rattle.dns_nsec.specs.Flags.{nsec3_flag_bits}
 use Rattle.dns_nsec.specs.declared.nsec3.Nsec3.{Nsec3}
 use Rattle.dns_nsec.specs.declared.nsec3param.Nsec3Param.{Nsec3Param}
 
@@ -8,7 +8,7 @@ abbrev pub algorithm_of : Nsec3 → ℕ
 algorithm_of v = v.algorithm.code
 
 abbrev pub flags_of : Nsec3 → ℕ
-flags_of v = flag_bits v.flags
+flags_of v = nsec3_flag_bits v.flags
 
 abbrev pub iterations_of : Nsec3 → ℕ
 iterations_of v = v.iterations.value
@@ -26,7 +26,7 @@ abbrev pub param_algorithm_of : Nsec3Param → ℕ
 param_algorithm_of v = v.algorithm.code
 
 abbrev pub param_flags_of : Nsec3Param → ℕ
-param_flags_of v = flag_bits v.flags
+param_flags_of v = nsec3_flag_bits v.flags
 
 abbrev pub param_iterations_of : Nsec3Param → ℕ
 param_iterations_of v = v.iterations.value

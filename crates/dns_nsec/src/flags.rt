@@ -5,13 +5,17 @@ ghost use Rattle.std.specs.Prelude.{◌≡◌, ◌≢◌, ◌↔◌, ◌∷◌, 
 ghost use Rattle.std.specs.Int.{bit_at};
 ghost use Rattle.dns_wire.specs.Pieces.{whole_presses};
 ghost use Rattle.dns_wire.specs.Reading.{octet, plain_at};
-ghost use Rattle.dns_nsec.specs.Flags.{flag_bits};
+ghost use Rattle.dns_nsec.specs.Flags.{nsec3_flag_bits};
 
+use dns_num::octet_with_bit;
 use dns_wire::{
     BuildBytes, BuildInMessage, NameCompressor, ParseBytes, ParseError, ParseMessageBytes,
     SplitBytes, SplitMessageBytes, TruncationError, build_whole, parse_without_compression,
     split_without_compression,
 };
+
+/// The place of the bit of names without security between owners, counted from the lowest.
+const OPT_OUT: u32 = 0;
 
 /// Flags of hashed owners: one octet on the wire (RFC 5155 section 3.1.2).
 #[derive(Clone, Copy, Debug, PartialEq, Eq, Hash, Default)]
@@ -22,7 +26,7 @@ pub struct Nsec3Flags {
 impl Nsec3Flags {
     /// The 8 bits.
     pub fn bits(&self) -> u8
-        ensures { result ≡ flag_bits self.now }
+        ensures { result ≡ nsec3_flag_bits self.now }
     {
         self.bits
     }
@@ -30,19 +34,18 @@ impl Nsec3Flags {
     /// Whether bit 0, the last, is 1: names without security may stand between two owners (RFC 5155
     /// section 3.1.2.1).
     pub fn is_optout(&self) -> bool
-        ensures { IsTrue result ↔ (bit_at (flag_bits self.now) 0 ≡ 1) }
+        ensures { IsTrue result ↔ (bit_at (nsec3_flag_bits self.now) 0 ≡ 1) }
     {
-        self.bits % 2 == 1
+        self.bits >> OPT_OUT & 1 == 1
     }
 
     /// The flags with bit 0 as told. Every other bit stays.
-    #[tactic(auto, using(crate::proofs::OptOut::last_bit, crate::proofs::OptOut::other_bits))]
     pub fn set_optout(self, value: bool) -> Nsec3Flags
-        ensures told { bit_at (flag_bits result) 0 ≡ (if value then 1 else 0) }
-        ensures others { (i : ℕ) → i ≢ 0 → bit_at (flag_bits result) i ≡ bit_at (flag_bits self) i }
+        ensures told { bit_at (nsec3_flag_bits result) 0 ≡ (if value then 1 else 0) }
+        ensures others { (i : ℕ) → i ≢ 0 → bit_at (nsec3_flag_bits result) i ≡ bit_at (nsec3_flag_bits self) i }
     {
         Nsec3Flags {
-            bits: self.bits / 2 * 2 + value as u8,
+            bits: octet_with_bit(self.bits, OPT_OUT, value),
         }
     }
 }
@@ -50,7 +53,7 @@ impl Nsec3Flags {
 impl<'a> ParseBytes<'a> for Nsec3Flags {
     ghost Seen = { ℕ };
 
-    ghost seen = { flag_bits };
+    ghost seen = { nsec3_flag_bits };
 
     ghost reads = { octet };
 
@@ -89,7 +92,7 @@ impl<'a> SplitMessageBytes<'a> for Nsec3Flags {
 }
 
 impl BuildBytes for Nsec3Flags {
-    ghost octets = { λ v. flag_bits v ∷ [] };
+    ghost octets = { λ v. nsec3_flag_bits v ∷ [] };
 
     ghost fits = { λ _. ⊤ };
 
@@ -97,14 +100,16 @@ impl BuildBytes for Nsec3Flags {
         self.bits.build_at(bytes, start)
     }
 
-    fn built_bytes_size(&self) -> usize {
-        self.bits.built_bytes_size()
+    fn built_bytes_size(&self) -> usize
+        ensures { result ≡ 1 }
+    {
+        1
     }
 }
 
 /// Whole, with no name in it.
 impl BuildInMessage for Nsec3Flags {
-    ghost presses = { λ v. whole_presses (flag_bits v ∷ []) };
+    ghost presses = { λ v. whole_presses (nsec3_flag_bits v ∷ []) };
 
     ghost fits_in = { λ _ _ _. ⊤ };
 

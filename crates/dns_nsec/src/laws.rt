@@ -6,6 +6,13 @@ ghost use Rattle.dns_wire.specs.Reading.{AreOctets};
 ghost use Rattle.dns_record.specs.Windows.{is_bitmap};
 ghost use Rattle.dns_nsec.specs.Bitmaps.{types_in};
 
+use crate::hash_algorithm::Nsec3HashAlgorithm;
+
+/// The number of the one algorithm that hashes owners (RFC 5155 section 11).
+pub fn code_numbers()
+    ensures { Nsec3HashAlgorithm.SHA1.code ≡ 1 }
+{}
+
 /// The types of bitmaps (RFC 4034 section 4.1.2): they strictly rise, there is none exactly where there is no
 /// window, and bitmaps with the same types have the same octets.
 pub fn types_of_bitmaps()

@@ -13,7 +13,7 @@ ghost use Rattle.dns_record.specs.Kinds.{fields_of, no_name};
 ghost use Rattle.dns_record.specs.Left.{bare_leave, bare_end};
 ghost use Rattle.dns_record.specs.Rows.{row};
 ghost use Rattle.dns_record.specs.Whole.{whole_pieces, told_whole};
-ghost use Rattle.dns_nsec.specs.Flags.{flag_bits};
+ghost use Rattle.dns_nsec.specs.Flags.{nsec3_flag_bits};
 ghost use Rattle.dns_nsec.specs.Hashed.{algorithm_of, flags_of, iterations_of, salt_of, next_owner_of, types_of};
 ghost use Rattle.dns_nsec.specs.Types.{nsec3_fields};
 
@@ -55,7 +55,7 @@ impl<'a> Nsec3<'a> {
         requires salt { length salt.now ≤ 255 }
         requires next_owner { length next_owner.now ≤ 255 }
         ensures algorithm { algorithm_of result ≡ hash_algorithm.code }
-        ensures flags { flags_of result ≡ flag_bits flags }
+        ensures flags { flags_of result ≡ nsec3_flag_bits flags }
         ensures iterations { iterations_of result ≡ iterations }
         ensures salt { salt_of result ≡ salt.entry.now }
         ensures next_owner { next_owner_of result ≡ next_owner.entry.now }
@@ -80,7 +80,7 @@ impl<'a> Nsec3<'a> {
 
     /// The flags.
     pub fn flags(&self) -> Nsec3Flags
-        ensures { flag_bits result ≡ flags_of self.now }
+        ensures { nsec3_flag_bits result ≡ flags_of self.now }
     {
         self.flags
     }

@@ -1,7 +1,7 @@
 //! The parameters of hashed owners.
 
-ghost use Rattle.std.specs.Prelude.{◌≡◌, ◌%◌, ◌==◌, ◌≤◌, ◌<◌, ◌^◌, ℕ, List, [], ◌∷◌, length, map, take, Option, Some, IfOk, ⊤};
-ghost use Rattle.std.specs.Int.{w16};
+ghost use Rattle.std.specs.Prelude.{◌≡◌, ◌↔◌, IsTrue, ◌≤◌, ◌<◌, ◌^◌, ℕ, List, [], ◌∷◌, length, map, take, Option, Some, IfOk, ⊤};
+ghost use Rattle.std.specs.Int.{w16, bit_at};
 ghost use Rattle.dns_wire.specs.Building.{Builds};
 ghost use Rattle.dns_wire.specs.Compression.{FitsIn};
 ghost use Rattle.dns_wire.specs.InMessage.{BuildsIn};
@@ -13,7 +13,7 @@ ghost use Rattle.dns_record.specs.Kinds.{fields_of, no_name};
 ghost use Rattle.dns_record.specs.Left.{bare_leave, bare_end};
 ghost use Rattle.dns_record.specs.Rows.{row};
 ghost use Rattle.dns_record.specs.Whole.{whole_pieces, told_whole};
-ghost use Rattle.dns_nsec.specs.Flags.{flag_bits};
+ghost use Rattle.dns_nsec.specs.Flags.{nsec3_flag_bits};
 ghost use Rattle.dns_nsec.specs.Hashed.{param_algorithm_of, param_flags_of, param_iterations_of, param_salt_of};
 ghost use Rattle.dns_nsec.specs.Types.{nsec3param_fields};
 
@@ -49,7 +49,7 @@ impl<'a> Nsec3Param<'a> {
     ) -> Nsec3Param<'a>
         requires { length salt.now ≤ 255 }
         ensures algorithm { param_algorithm_of result ≡ hash_algorithm.code }
-        ensures flags { param_flags_of result ≡ flag_bits flags }
+        ensures flags { param_flags_of result ≡ nsec3_flag_bits flags }
         ensures iterations { param_iterations_of result ≡ iterations }
         ensures salt { param_salt_of result ≡ salt.entry.now }
     {
@@ -70,14 +70,14 @@ impl<'a> Nsec3Param<'a> {
 
     /// The flags.
     pub fn flags(&self) -> Nsec3Flags
-        ensures { flag_bits result ≡ param_flags_of self.now }
+        ensures { nsec3_flag_bits result ≡ param_flags_of self.now }
     {
         self.flags
     }
 
     /// Whether names without security may stand between two owners (RFC 5155 section 3.1.2.1).
     pub fn opt_out_flag(&self) -> bool
-        ensures { result ≡ (param_flags_of self.now % 2 == 1) }
+        ensures { IsTrue result ↔ (bit_at (param_flags_of self.now) 0 ≡ 1) }
     {
         self.flags.is_optout()
     }

@@ -1,3 +1,4 @@
 -- The crate's own lemmas.
 pub mod Counted
+pub mod OneBit
 pub mod Prefixes

@@ -6,6 +6,7 @@ mod laws;
 mod number16;
 mod number32;
 mod number64;
+mod one_bit;
 mod size_prefix;
 mod size_prefixed;
 mod sums;
@@ -14,6 +15,7 @@ pub use laws::{prefixed_data, wire_numbers};
 pub use number16::U16;
 pub use number32::U32;
 pub use number64::U64;
+pub use one_bit::octet_with_bit;
 pub use size_prefix::SizePrefix;
 pub use size_prefixed::SizePrefixed;
 

@@ -1,3 +1,2 @@
 -- The crate's own lemmas.
-pub mod Bits
 pub mod Digests

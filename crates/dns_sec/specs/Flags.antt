@@ -3,5 +3,5 @@ use Rattle.std.specs.Prelude.{ℕ}
 use Rattle.dns_sec.specs.declared.dnskey_flags.DNSKeyFlags.{DNSKeyFlags}
 
 -- their 16 bits as a number
-abbrev pub flag_bits : DNSKeyFlags → ℕ
-flag_bits flags = flags.bits.value
+abbrev pub key_flag_bits : DNSKeyFlags → ℕ
+key_flag_bits flags = flags.bits.value

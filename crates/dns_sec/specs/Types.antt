@@ -4,7 +4,7 @@ use Rattle.std.specs.Int.{w16, w32}
 use Rattle.dns_wire.specs.Names.{labels_of}
 use Rattle.dns_record.specs.Fields.{Field}
 use Rattle.dns_record.specs.Fields.FieldOf.{Bare, Raw, Byte, Number}
-use Rattle.dns_sec.specs.Flags.{flag_bits}
+use Rattle.dns_sec.specs.Flags.{key_flag_bits}
 use Rattle.dns_sec.specs.declared.dnskey.DNSKey.{DNSKey}
 use Rattle.dns_sec.specs.declared.ds.Ds.{Ds}
 use Rattle.dns_sec.specs.declared.rrsig.Rrsig.{Rrsig}
@@ -14,7 +14,7 @@ abbrev pub ds_fields : Ds → List Field
 ds_fields v = Number w16 v.keytag.value ∷ Byte v.algorithm.code ∷ Byte v.digest_type.code ∷ Raw v.digest.now ∷ []
 
 abbrev pub dnskey_fields : DNSKey → List Field
-dnskey_fields v = Number w16 (flag_bits v.flags) ∷ Byte v.protocol ∷ Byte v.algorithm.code ∷ Raw v.key.now ∷ []
+dnskey_fields v = Number w16 (key_flag_bits v.flags) ∷ Byte v.protocol ∷ Byte v.algorithm.code ∷ Raw v.key.now ∷ []
 
 abbrev pub rrsig_fields : Rrsig → List Field
 rrsig_fields v =

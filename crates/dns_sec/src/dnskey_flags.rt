@@ -6,7 +6,7 @@ ghost use Rattle.std.specs.Int.{w16, bit_at, to_be_bytes};
 ghost use Rattle.std.specs.Ordering.{nat_cmp};
 ghost use Rattle.dns_wire.specs.Pieces.{whole_presses};
 ghost use Rattle.dns_wire.specs.Reading.{number, plain_at};
-ghost use Rattle.dns_sec.specs.Flags.{flag_bits};
+ghost use Rattle.dns_sec.specs.Flags.{key_flag_bits};
 
 use dns_num::U16;
 use dns_wire::{
@@ -16,11 +16,11 @@ use dns_wire::{
 };
 use std::cmp::Ordering;
 
-/// The bit of a key of a zone.
-const ZONE_KEY: u16 = 256;
+/// The place of the bit of a key of a zone, counted from the lowest.
+const ZONE_KEY: u32 = 8;
 
-/// The bit of a key that others are to trust first.
-const SECURE_ENTRY_POINT: u16 = 1;
+/// The place of the bit of a key that others are to trust first.
+const SECURE_ENTRY_POINT: u32 = 0;
 
 /// What a key is for: 16 bits, two octets on the wire (RFC 4034 section 2.1.1).
 #[derive(Clone, Copy, Debug, Default, PartialEq, Eq, Hash)]
@@ -31,7 +31,7 @@ pub struct DNSKeyFlags {
 impl DNSKeyFlags {
     /// All the bits as a number.
     pub fn bits(&self) -> u16
-        ensures { result ≡ flag_bits self.now }
+        ensures { result ≡ key_flag_bits self.now }
     {
         self.bits.get()
     }
@@ -39,54 +39,42 @@ impl DNSKeyFlags {
     /// Whether it is a key of the zone that owns it, which may sign its records: the bit that counts 256 (RFC
     /// 4034 section 2.1.1).
     pub fn is_zone_key(&self) -> bool
-        ensures { IsTrue result ↔ (bit_at (flag_bits self.now) 8 ≡ 1) }
+        ensures { IsTrue result ↔ (bit_at (key_flag_bits self.now) 8 ≡ 1) }
     {
-        self.bits.get() >> 8 & 1 == 1
+        self.bits.get() >> ZONE_KEY & 1 == 1
     }
 
     /// Whether it is meant to be the key that others trust first: the bit that counts 1 (RFC 3757 section 2).
     pub fn is_secure_entry_point(&self) -> bool
-        ensures { IsTrue result ↔ (bit_at (flag_bits self.now) 0 ≡ 1) }
+        ensures { IsTrue result ↔ (bit_at (key_flag_bits self.now) 0 ≡ 1) }
     {
-        self.bits.get() & SECURE_ENTRY_POINT != 0
+        self.bits.get() >> SECURE_ENTRY_POINT & 1 == 1
     }
 
     /// The flags with the bit that counts 256 as told. Every other bit stays.
     pub fn set_zone_key(self, value: bool) -> DNSKeyFlags
-        ensures told { bit_at (flag_bits result) 8 ≡ (if value then 1 else 0) }
-        ensures others { (i : ℕ) → i ≢ 8 → bit_at (flag_bits result) i ≡ bit_at (flag_bits self) i }
+        ensures told { bit_at (key_flag_bits result) 8 ≡ (if value then 1 else 0) }
+        ensures others { (i : ℕ) → i ≢ 8 → bit_at (key_flag_bits result) i ≡ bit_at (key_flag_bits self) i }
     {
-        if value {
-            DNSKeyFlags {
-                bits: self.bits | ZONE_KEY,
-            }
-        } else {
-            DNSKeyFlags {
-                bits: self.bits & !ZONE_KEY,
-            }
+        DNSKeyFlags {
+            bits: self.bits.with_bit(ZONE_KEY, value),
         }
     }
 
     /// The flags with the bit that counts 1 as told. Every other bit stays.
     pub fn set_secure_entry_point(self, value: bool) -> DNSKeyFlags
-        ensures told { bit_at (flag_bits result) 0 ≡ (if value then 1 else 0) }
-        ensures others { (i : ℕ) → i ≢ 0 → bit_at (flag_bits result) i ≡ bit_at (flag_bits self) i }
+        ensures told { bit_at (key_flag_bits result) 0 ≡ (if value then 1 else 0) }
+        ensures others { (i : ℕ) → i ≢ 0 → bit_at (key_flag_bits result) i ≡ bit_at (key_flag_bits self) i }
     {
-        if value {
-            DNSKeyFlags {
-                bits: self.bits | SECURE_ENTRY_POINT,
-            }
-        } else {
-            DNSKeyFlags {
-                bits: self.bits & !SECURE_ENTRY_POINT,
-            }
+        DNSKeyFlags {
+            bits: self.bits.with_bit(SECURE_ENTRY_POINT, value),
         }
     }
 
     /// How it compares with others, by number, and that both have 16 bits.
     pub(crate) fn compare(&self, other: &DNSKeyFlags) -> Ordering
-        ensures order { result ≡ nat_cmp (flag_bits self.now) (flag_bits other.now) }
-        ensures fits { (flag_bits self.now < 2 ^ 16) × (flag_bits other.now < 2 ^ 16) }
+        ensures order { result ≡ nat_cmp (key_flag_bits self.now) (key_flag_bits other.now) }
+        ensures fits { (key_flag_bits self.now < 2 ^ 16) × (key_flag_bits other.now < 2 ^ 16) }
     {
         self.bits.compare(&other.bits)
     }
@@ -95,7 +83,7 @@ impl DNSKeyFlags {
 impl<'a> ParseBytes<'a> for DNSKeyFlags {
     ghost Seen = { ℕ };
 
-    ghost seen = { flag_bits };
+    ghost seen = { key_flag_bits };
 
     ghost reads = { number w16 };
 
@@ -134,7 +122,7 @@ impl<'a> SplitMessageBytes<'a> for DNSKeyFlags {
 }
 
 impl BuildBytes for DNSKeyFlags {
-    ghost octets = { λ v. to_be_bytes w16 (flag_bits v) };
+    ghost octets = { λ v. to_be_bytes w16 (key_flag_bits v) };
 
     ghost fits = { λ _. ⊤ };
 
@@ -142,14 +130,16 @@ impl BuildBytes for DNSKeyFlags {
         self.bits.build_at(bytes, start)
     }
 
-    fn built_bytes_size(&self) -> usize {
-        self.bits.built_bytes_size()
+    fn built_bytes_size(&self) -> usize
+        ensures { result ≡ 2 }
+    {
+        2
     }
 }
 
 /// Whole, with no name in it.
 impl BuildInMessage for DNSKeyFlags {
-    ghost presses = { λ v. whole_presses (to_be_bytes w16 (flag_bits v)) };
+    ghost presses = { λ v. whole_presses (to_be_bytes w16 (key_flag_bits v)) };
 
     ghost fits_in = { λ _ _ _. ⊤ };
 
