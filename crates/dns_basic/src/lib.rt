@@ -4,6 +4,7 @@
 mod cname;
 mod mx;
 mod ns;
+mod order_laws;
 mod ptr;
 mod rp;
 mod soa;
@@ -11,6 +12,9 @@ mod soa;
 pub use cname::CName;
 pub use mx::Mx;
 pub use ns::Ns;
+pub use order_laws::{
+    data_are_equal_by_fields, data_are_hashed_by_fields, data_are_ordered_by_fields,
+};
 pub use ptr::Ptr;
 pub use rp::Rp;
 pub use soa::Soa;

@@ -6,6 +6,7 @@ mod aaaa;
 mod dname;
 mod hinfo;
 mod laws;
+mod order_laws;
 mod srv;
 mod txt;
 mod txt_iter;
@@ -15,6 +16,9 @@ pub use aaaa::Aaaa;
 pub use dname::DName;
 pub use hinfo::HInfo;
 pub use laws::strings_of_texts;
+pub use order_laws::{
+    data_are_equal_by_fields, data_are_hashed_by_fields, data_are_ordered_by_fields,
+};
 pub use srv::Srv;
 pub use txt::Txt;
 pub use txt_iter::TxtIter;
