@@ -8,6 +8,7 @@ mod order_laws;
 mod ptr;
 mod rp;
 mod soa;
+mod type_laws;
 
 pub use cname::CName;
 pub use mx::Mx;
@@ -18,6 +19,10 @@ pub use order_laws::{
 pub use ptr::Ptr;
 pub use rp::Rp;
 pub use soa::Soa;
+pub use type_laws::{
+    names_that_are_read_are_written, names_that_are_read_in_messages_are_written,
+    types_are_canonical_by_number, types_are_read_by_number, types_are_read_by_number_in_messages,
+};
 
 #[cfg(test)]
 mod tests;

@@ -10,6 +10,7 @@ mod order_laws;
 mod srv;
 mod txt;
 mod txt_iter;
+mod type_laws;
 
 pub use a::A;
 pub use aaaa::Aaaa;
@@ -22,6 +23,9 @@ pub use order_laws::{
 pub use srv::Srv;
 pub use txt::Txt;
 pub use txt_iter::TxtIter;
+pub use type_laws::{
+    types_are_canonical_by_number, types_are_read_by_number, types_are_read_by_number_in_messages,
+};
 
 #[cfg(test)]
 mod tests;
