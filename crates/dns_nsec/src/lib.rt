@@ -8,6 +8,7 @@ mod laws;
 mod nsec;
 mod nsec3;
 mod nsec3param;
+mod order_laws;
 mod short_octets;
 mod type_iter;
 mod window;
@@ -19,6 +20,7 @@ pub use laws::{code_numbers, types_of_bitmaps};
 pub use nsec::Nsec;
 pub use nsec3::Nsec3;
 pub use nsec3param::Nsec3Param;
+pub use order_laws::{data_are_equal_by_fields, data_are_hashed_by_fields};
 pub use type_iter::TypeIter;
 
 #[cfg(test)]

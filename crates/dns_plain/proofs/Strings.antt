@@ -1,16 +1,20 @@
 -- Strings that are read one by one: what they are of all the octets, and what is left of a test.
-use Rattle.std.proofs.Common.{◌≡◌, ℕ, zero, suc, ◌<◌, ◌≤◌, true, false, ltb, List, [], ◌∷◌, length, Option, Some, None, refl, sym, ap, ◌∙◌, arith}
-use Rattle.std.specs.Prelude.{◌↔◌, IsTrue}
+use Rattle.std.proofs.Common.{◌≡◌, ℕ, zero, suc, ◌<◌, ◌≤◌, true, false, ltb, Bool, List, [], ◌∷◌, length, Option, Some, None, refl, sym, ap, ◌∙◌, arith}
+use Rattle.std.specs.Prelude.{◌↔◌, IsTrue, map}
 use Rattle.std.specs.Cmp.Lexicographic.{pointwise, pointwise_decides, bytes_decides}
 use Rattle.std.specs.Cmp.Derive.Mapped.{pointwise-map}
 use Rattle.std.specs.Str.{str_to_ascii_lowercase}
 use Rattle.std.proofs.lemmas.Bool.{le-ltb, lt-ltb}
 use Rattle.std.proofs.lemmas.List.{length-append}
 use Rattle.dns_wire.specs.Names.{lowered}
+use Rattle.dns_record.specs.CharStrHashing.{charstr_writes}
+use Rattle.dns_record.specs.CharStrs.{charstr_wire, same_charstr}
+use Rattle.dns_record.specs.FieldOrder.{field_eq, fields_eq, fields_writes}
+use Rattle.dns_record.specs.Fields.FieldOf.{Sized}
 use Rattle.dns_record.specs.Texts.{text, behind_text, texts_within, is_texts, is_text_data, texts_octets}
 use Rattle.dns_record.proofs.Places.{text_spelled, text_read}
 use Rattle.dns_record.proofs.Strings.{texts_are}
-use Rattle.dns_plain.specs.Strings.{then_strings, strings_within, strings_in, same_strings, lowered_from_same}
+use Rattle.dns_plain.specs.Strings.{then_strings, strings_within, strings_in, same_strings, strings_writes, lowered_from_same}
 
 -- ---- the strings of octets
 
@@ -137,3 +141,12 @@ many_read bytes many = rw (lt-ltb 65535 (length bytes) many) refl
 
 pub same_is : (a b : List (List ℕ)) → IsTrue (same_strings a b) ↔ (lowered a ≡ lowered b)
 same_is a b = (lowered_from_same a b, λ e. sym (pointwise-map str_to_ascii_lowercase (pointwise _) a b) ∙ (pointwise_decides bytes_decides (lowered a) (lowered b)).1 e)
+
+-- ---- strings as fields
+
+pub strings_as_fields : (named bare : List (List ℕ) → List (List ℕ) → Bool) (a b : List (List ℕ)) → same_strings a b ≡ fields_eq named bare same_charstr (map Sized a) (map Sized b)
+strings_as_fields named bare a b = sym (pointwise-map Sized (field_eq named bare same_charstr) a b)
+
+pub strings_fed : (named bare : List (List ℕ) → List (List ℕ)) (strings : List (List ℕ)) → strings_writes strings ≡ fields_writes named bare charstr_writes (map Sized strings)
+strings_fed named bare [] = refl
+strings_fed named bare (string ∷ strings) = ap (λ (l : List (List ℕ)). charstr_wire (str_to_ascii_lowercase string) ∷ l) (strings_fed named bare strings)

@@ -6,18 +6,26 @@ mod aaaa;
 mod dname;
 mod hinfo;
 mod laws;
+mod order_laws;
 mod srv;
 mod txt;
 mod txt_iter;
+mod type_laws;
 
 pub use a::A;
 pub use aaaa::Aaaa;
 pub use dname::DName;
 pub use hinfo::HInfo;
 pub use laws::strings_of_texts;
+pub use order_laws::{
+    data_are_equal_by_fields, data_are_hashed_by_fields, data_are_ordered_by_fields,
+};
 pub use srv::Srv;
 pub use txt::Txt;
 pub use txt_iter::TxtIter;
+pub use type_laws::{
+    types_are_canonical_by_number, types_are_read_by_number, types_are_read_by_number_in_messages,
+};
 
 #[cfg(test)]
 mod tests;

@@ -6,6 +6,7 @@ pub mod CharStrStorage
 pub mod CharStrTexts
 pub mod CharStrs
 pub mod Data
+pub mod FieldOrder
 pub mod Fields
 pub mod InPlace
 pub mod Kinds
