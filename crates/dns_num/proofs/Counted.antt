@@ -12,7 +12,7 @@ use Rattle.dns_wire.specs.Steps.{◌>>=◌}
 use Rattle.dns_num.specs.Prefixed.{sized, prefixed}
 
 -- one octet, or two
-abbrev Narrow : Width → Type 0
+abbrev pub Narrow : Width → Type 0
 Narrow w = (w ≡ w8) ⊎ (w ≡ w16)
 
 -- ---- what is written is read
@@ -23,7 +23,7 @@ one_back n rest fits = search rules
 two_back : (n : ℕ) (rest : List ℕ) → n < 256 ^ byte_len w16 → number w16 (to_be_bytes w16 n ++ rest) ≡ Some (n, rest)
 two_back n rest fits = search rules
 
-number_back : (w : Width) → Narrow w → (n : ℕ) (rest : List ℕ) → n < 256 ^ byte_len w → number w (to_be_bytes w n ++ rest) ≡ Some (n, rest)
+pub number_back : (w : Width) → Narrow w → (n : ℕ) (rest : List ℕ) → n < 256 ^ byte_len w → number w (to_be_bytes w n ++ rest) ≡ Some (n, rest)
 number_back w (inl e) n rest = subst (λ (v : Width). n < 256 ^ byte_len v → number v (to_be_bytes v n ++ rest) ≡ Some (n, rest)) (sym e) (one_back n rest)
 number_back w (inr e) n rest = subst (λ (v : Width). n < 256 ^ byte_len v → number v (to_be_bytes v n ++ rest) ≡ Some (n, rest)) (sym e) (two_back n rest)
 
@@ -40,7 +40,7 @@ then_some : {A B : Type 0} (read : Option A) (next : A → Option B) (b : B) →
 then_some None next b e = absurd cc
 then_some (Some a) next b e = (a, refl, e)
 
-octets_front : (bytes : List ℕ) (k : ℕ) → AreOctets bytes → (i : ℕ) → get_or (take k bytes) i 0 < 256
+pub octets_front : (bytes : List ℕ) (k : ℕ) → AreOctets bytes → (i : ℕ) → get_or (take k bytes) i 0 < 256
 octets_front bytes k are i =
     elim (cases_lt i k) [
       | inl before ↦ rw (get_or-take k bytes i 0 before) (are i)
@@ -55,7 +55,7 @@ one_octet (x ∷ []) n long are is =
     rw same refl
 one_octet (x ∷ y ∷ bytes) n long are is = absurd (omega arith)
 
-spelled : (w : Width) → Narrow w → (bytes : List ℕ) (n : ℕ) → length bytes ≡ byte_len w → ((i : ℕ) → get_or bytes i 0 < 256) → n ≡ from_be_bytes w bytes → to_be_bytes w n ≡ bytes
+pub spelled : (w : Width) → Narrow w → (bytes : List ℕ) (n : ℕ) → length bytes ≡ byte_len w → ((i : ℕ) → get_or bytes i 0 < 256) → n ≡ from_be_bytes w bytes → to_be_bytes w n ≡ bytes
 spelled w (inl e) bytes n = subst (λ (v : Width). length bytes ≡ byte_len v → ((i : ℕ) → get_or bytes i 0 < 256) → n ≡ from_be_bytes v bytes → to_be_bytes v n ≡ bytes) (sym e) (one_octet bytes n)
 spelled w (inr e) bytes n = subst (λ (v : Width). length bytes ≡ byte_len v → ((i : ℕ) → get_or bytes i 0 < 256) → n ≡ from_be_bytes v bytes → to_be_bytes v n ≡ bytes) (sym e) (be_bytes_2 bytes n)
 
@@ -68,7 +68,7 @@ two_small bytes are =
     let low : get_or bytes 1 0 < 256 = are 1 in
     omega arith
 
-small : (w : Width) → Narrow w → (bytes : List ℕ) → ((i : ℕ) → get_or bytes i 0 < 256) → from_be_bytes w bytes < 256 ^ byte_len w
+pub small : (w : Width) → Narrow w → (bytes : List ℕ) → ((i : ℕ) → get_or bytes i 0 < 256) → from_be_bytes w bytes < 256 ^ byte_len w
 small w (inl e) bytes = subst (λ (v : Width). ((i : ℕ) → get_or bytes i 0 < 256) → from_be_bytes v bytes < 256 ^ byte_len v) (sym e) (one_small bytes)
 small w (inr e) bytes = subst (λ (v : Width). ((i : ℕ) → get_or bytes i 0 < 256) → from_be_bytes v bytes < 256 ^ byte_len v) (sym e) (two_small bytes)
 

@@ -2,3 +2,4 @@
 pub mod Counted
 pub mod OneBit
 pub mod Prefixes
+pub mod Placed

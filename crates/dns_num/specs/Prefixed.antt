@@ -1,6 +1,6 @@
 -- Data behind the number of their octets.
-use Rattle.std.specs.Prelude.{ℕ, ◌+◌, List, ◌++◌, length, take, Option, Some, None, nat_lt, if◌then◌else◌}
-use Rattle.std.specs.Int.{Width, to_be_bytes}
+use Rattle.std.specs.Prelude.{◌≡◌, ◌≤◌, ◌<◌, ◌^◌, ℕ, ◌+◌, List, ◌++◌, length, take, drop, Option, Some, None, nat_lt, if◌then◌else◌}
+use Rattle.std.specs.Int.{Width, byte_len, to_be_bytes}
 use Rattle.dns_wire.specs.Reading.{number, octets, all_of, all_at, plain_at}
 use Rattle.dns_wire.specs.Steps.{◌>>=◌}
 
@@ -29,3 +29,15 @@ prefixed_at w grammar contents start = do
   size ← plain_at (number w) contents start
   value ← all_up_to grammar contents size.1 (size.1 + size.0)
   Some (value, size.1 + size.0)
+
+-- ---- in words
+
+-- At a place stand so many octets as the number says that stands in front of them, up to the end, and the value is what the
+-- grammar reads from just these, seeing nothing behind them.
+pub record PrefixedAt {Y : Type 0} (w : Width) (grammar : List ℕ → ℕ → Option (Y × ℕ)) (contents : List ℕ) (at : ℕ) (value : Y) (end : ℕ) : Type 0 where
+  pub count : ℕ
+  pub few : count < 256 ^ byte_len w
+  pub number : take (byte_len w) (drop at contents) ≡ to_be_bytes w count
+  pub end_is : end ≡ at + byte_len w + count
+  pub within : end ≤ length contents
+  pub content : all_at (take end contents) (grammar (take end contents) (at + byte_len w)) ≡ Some value

@@ -1,9 +1,9 @@
 //! The definitions of this crate in other words.
 
-ghost use Rattle.std.specs.Prelude.{◌≡◌, length, ◌+◌, ◌*◌, ◌<◌, ◌^◌, ◌∷◌, ◌++◌, ℕ, List, Some};
+ghost use Rattle.std.specs.Prelude.{◌≡◌, ◌↔◌, length, ◌+◌, ◌*◌, ◌<◌, ◌^◌, ◌∷◌, ◌++◌, ℕ, List, Some};
 ghost use Rattle.std.specs.Int.{w16, w32, w64, byte_len, to_be_bytes};
 ghost use Rattle.dns_wire.specs.Reading.{AreOctets, number, all_of};
-ghost use Rattle.dns_num.specs.Prefixed.{sized, prefixed};
+ghost use Rattle.dns_num.specs.Prefixed.{sized, prefixed, prefixed_at, PrefixedAt};
 
 use crate::size_prefix::SizePrefix;
 use dns_wire::ParseBytes;
@@ -23,7 +23,7 @@ pub fn wire_numbers()
 {}
 
 /// Prefixed data are read exactly where they stand as they are written: the number of their octets in front, and
-/// behind it just these octets.
+/// behind it just these octets. In a message it is the same from the place on.
 pub fn prefixed_data<'a, S: SizePrefix, T: ParseBytes<'a>>()
     ensures read { (content rest : List ℕ) (value : T.Seen) → length content < 256 ^ byte_len S.number_width →
         all_of (T.reads content) ≡ Some value →
@@ -32,4 +32,6 @@ pub fn prefixed_data<'a, S: SizePrefix, T: ParseBytes<'a>>()
         prefixed S.number_width T.reads bytes ≡ Some (value, rest) →
         (content : List ℕ) × (length content < 256 ^ byte_len S.number_width)
         × (bytes ≡ sized S.number_width content ++ rest) × (all_of (T.reads content) ≡ Some value) }
+    ensures in_messages { (contents : List ℕ) (at : ℕ) (value : T.Seen) (end : ℕ) → AreOctets contents →
+        (prefixed_at S.number_width T.reads_at contents at ≡ Some (value, end)) ↔ PrefixedAt S.number_width T.reads_at contents at value end }
 {}

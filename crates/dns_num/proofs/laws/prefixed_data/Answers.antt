@@ -1,3 +1,4 @@
+use Rattle.dns_num.proofs.Placed.{prefixed_is, prefixed_found}
 use Rattle.dns_num.proofs.Counted.{read_back, stands_so}
 use Rattle.dns_num.proofs.laws.prefixed_data.Goals as goal
 
@@ -8,3 +9,6 @@ returns-clause-read g c = λ content rest value fits is.
 pub returns-clause-stand : goal.returns-clause-stand
 returns-clause-stand g c = λ bytes rest value octets is.
     stands_so g.S.SizePrefix.number_width g.met.S.SizePrefix.one_or_two g.T.ParseBytes.reads bytes rest value octets is
+
+pub returns-clause-in_messages : goal.returns-clause-in_messages
+returns-clause-in_messages g c = λ contents at value end are. (prefixed_is g.S.SizePrefix.number_width g.met.S.SizePrefix.one_or_two g.T.ParseBytes.reads_at contents at value end are, prefixed_found g.S.SizePrefix.number_width g.met.S.SizePrefix.one_or_two g.T.ParseBytes.reads_at contents at value end)
