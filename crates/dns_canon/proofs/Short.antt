@@ -1,6 +1,7 @@
 -- The data of a record are no longer than its size can say.
 use Rattle.std.proofs.Common.{◌≡◌, ℕ, ◌+◌, ◌<◌, ◌^◌, Bool, true, false, cond, List, length, take, Option, Some, None, refl, arith}
 use Rattle.std.proofs.lemmas.List.{length-take}
+use Rattle.dns_wire.specs.Pointers.{name_at}
 use Rattle.dns_record.specs.Data.{data_in}
 use Rattle.dns_record.specs.Fields.{Field, fields_octets}
 use Rattle.dns_record.specs.Records.{SizedDataIn}
