@@ -83,10 +83,9 @@ module _ (contents : List ℕ) (start segment at size : ℕ) (end : Option ℕ) 
   label_reads : segment_within (256 + start) contents start start ≡ joined (followed.labels ++ take size (drop (at + 1) contents) ∷ []) end (segment_within (pred followed.steps) contents segment (at + 1 + size))
   label_reads = read_head_is contents start segment at end front (Some (Label size)) followed is ∙ joined_label followed.labels (take size (drop (at + 1) contents)) end _
 
-  pub followed_label : length front + size ≤ 253 → Followed contents start segment (at + (1 + size)) end (front ++ slice_range contents at (at + 1 + size))
+  pub followed_label : length front + size ≤ 253 → Followed contents start segment (at + 1 + size) end (front ++ slice_range contents at (at + 1 + size))
   followed_label room =
       let long : length (front ++ slice_range contents at (at + 1 + size)) ≡ length front + (1 + size) = length-append front (slice_range contents at (at + 1 + size)) ∙ ap (λ (l : List ℕ). length front + length l) label_octets ∙ omega (arith, label_long) in
-      let place : at + 1 + size ≡ at + (1 + size) = omega arith in
       record {
         steps = pred followed.steps;
         labels = followed.labels ++ take size (drop (at + 1) contents) ∷ [];
@@ -94,10 +93,10 @@ module _ (contents : List ℕ) (start segment at size : ℕ) (end : Option ℕ) 
         front_is = sym grown;
         short = omega (arith, long);
         room = omega (arith, long, followed.room, followed.short, pred_less followed.steps (omega (arith, followed.room, followed.short)));
-        reads = rw (← place) label_reads;
+        reads = label_reads;
         ends = later end followed.ends;
       } where
-        later : (end : Option ℕ) → EndFits contents start at end → EndFits contents start (at + (1 + size)) end
+        later : (end : Option ℕ) → EndFits contents start at end → EndFits contents start (at + 1 + size) end
         later None h = omega arith
         later (Some e) h = h
 

@@ -79,7 +79,7 @@ module _ (contents : List ℕ) (start segment at size : ℕ) (end : Option ℕ) 
       label_octets contents start segment at size end (heads gathered.labels) gathered.followed is fits
       ∙ ap (λ (n : ℕ). n ∷ take size (drop (at + 1) contents)) (sym (label_long contents start segment at size end (heads gathered.labels) gathered.followed is fits))
 
-  pub gathered_label : (newer : List ℕ) → 1 + size < offset → newer ≡ take (offset - (1 + size)) buffer ++ (slice_range contents at (at + 1 + size) ++ drop offset buffer) → Gathered contents start segment (at + (1 + size)) end (offset - (1 + size)) newer
+  pub gathered_label : (newer : List ℕ) → 1 + size < offset → newer ≡ take (offset - (1 + size)) buffer ++ (slice_range contents at (at + 1 + size) ++ drop offset buffer) → Gathered contents start segment (at + 1 + size) end (offset - (1 + size)) newer
   gathered_label newer room put =
       let label : List ℕ = take size (drop (at + 1) contents) in
       let piece : List ℕ = slice_range contents at (at + 1 + size) in
@@ -95,7 +95,7 @@ module _ (contents : List ℕ) (start segment at size : ℕ) (end : Option ℕ) 
       record {
         labels = gathered.labels ++ label ∷ [];
         sizes = AllByRecursion-append gathered.labels (label ∷ []) gathered.sizes ((omega (arith, label_size, fits), omega (arith, label_size, fits)), tt);
-        followed = subst (λ (l : List ℕ). Followed contents start segment (at + (1 + size)) end l) (sym grown)
+        followed = subst (λ (l : List ℕ). Followed contents start segment (at + 1 + size) end l) (sym grown)
             (followed_label _ _ _ _ _ _ _ gathered.followed is fits (omega (arith, gathered.offset_is)));
         array = ap length put ∙ length-append (take (offset - (1 + size)) buffer) (piece ++ drop offset buffer)
             ∙ omega (arith, long, room, gathered.array, gathered.offset_is, length-take (offset - (1 + size)) buffer, length-append piece (drop offset buffer), length-drop offset buffer);

@@ -1,12 +1,12 @@
 -- What the reading of an unparsed name leaves over, where it ends, and that its labels are a name.
-use Rattle.std.proofs.Common.{◌≡◌, ℕ, zero, suc, ◌+◌, ◌-◌, ◌<◌, ◌≤◌, Bool, true, false, cond, ltb, List, [], ◌∷◌, ◌++◌, length, take, drop, Option, Some, None, refl, sym, ap, subst, ◌∙◌, arith, length-append, length-take}
+use Rattle.std.proofs.Common.{◌≡◌, ℕ, zero, suc, ◌<◌, ◌≤◌, Bool, true, false, cond, List, [], ◌∷◌, length, take, drop, Option, Some, None, refl, sym, subst, arith, length-append, length-take}
 use Rattle.std.specs.Prelude.{◌==◌, ◌||◌, nat_le, nat_lt}
 use Rattle.std.specs.List.{AllByRecursion}
 use Rattle.std.proofs.lemmas.Bool.{ltb-false}
 use Rattle.std.proofs.lemmas.Bool.Decides.{nat_tests}
 use Rattle.std.proofs.lemmas.Option.{some_pair_parts}
 use Rattle.dns_wire.specs.Left.{follows_both, plain_ends, placed_some}
-use Rattle.dns_wire.specs.Names.{IsLabel, IsName, heads, wire}
+use Rattle.dns_wire.specs.Names.{IsLabel, IsName, heads}
 use Rattle.dns_wire.specs.Reading.{Follows, LeavesRest, EndsWithin, plain_at}
 use Rattle.dns_name.specs.Unparsed.{Unparsed, end_offset, pointer_from, behind_labels, unparsed_within, up_to_254, unparsed_name, leads_back, if_it_leads_back, unparsed_at}
 
@@ -76,11 +76,13 @@ short_takes (Some (found, behind)) bytes name rest took e = by (nat_lt 254 (leng
   by true is e = absurd cc
   by false is e =
       let same = some_pair_parts found name behind rest e in
-      let t = took found behind refl in
-      (record {
-        sizes = subst (λ (n : Unparsed). AllByRecursion IsLabel n.0) same.0 t.sizes;
-        follows = subst (λ (r : List ℕ). Follows r bytes) same.1 t.follows;
-      }, subst (λ (n : Unparsed). length (heads n.0) ≤ 254) same.0 (ltb-false _ _ is))
+      let t = took found behind refl in (
+        record {
+          sizes = subst (λ (n : Unparsed). AllByRecursion IsLabel n.0) same.0 t.sizes;
+          follows = subst (λ (r : List ℕ). Follows r bytes) same.1 t.follows;
+        },
+        subst (λ (n : Unparsed). length (heads n.0) ≤ 254) same.0 (ltb-false _ _ is),
+      )
 
 name_takes : (bytes : List ℕ) (name : Unparsed) (rest : List ℕ) → unparsed_name bytes ≡ Some (name, rest) → Took name rest bytes × (length (heads name.0) ≤ 254)
 unfolding unparsed_name

@@ -9,9 +9,10 @@ ghost use Rattle.dns_wire.specs.Names.{plain_name, labels_of, wire};
 ghost use Rattle.dns_wire.specs.Reversed.{row_labels};
 
 use crate::label_row::LabelRow;
-use dns_label::{Label, LabelIter};
+use dns_label::LabelIter;
 use dns_wire::{
-    AsBytes, BuildBytes, ParseBytes, ParseError, ParseName, SplitBytes, TruncationError, put, whole,
+    AsBytes, BuildBytes, MAX_LABEL_SIZE, ParseBytes, ParseError, ParseName, SplitBytes,
+    TruncationError, put, whole,
 };
 
 /// A name without pointers: labels of 1 to 63 octets, each behind its length, and the root's length 0,
@@ -112,7 +113,7 @@ impl<'a> SplitBytes<'a> for Name<'a> {
                 let (front, rest) = bytes.split_at(end + 1);
                 return Ok((Name { slice: front }, rest));
             }
-            if size > Label::MAX_SIZE || bytes.len() - end <= size {
+            if size > MAX_LABEL_SIZE || bytes.len() - end <= size {
                 return Err(ParseError);
             }
             end += 1 + size;

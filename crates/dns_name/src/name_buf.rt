@@ -8,8 +8,8 @@ ghost use Rattle.dns_wire.specs.Pointers.{NameAt, name_at};
 
 use crate::name::Name;
 use dns_wire::{
-    BuildBytes, Head, ParseBytes, ParseError, ParseMessageBytes, SplitBytes, SplitMessageBytes,
-    TruncationError, read_head,
+    BuildBytes, Head, NameCursor, ParseBytes, ParseError, ParseMessageBytes, SplitBytes,
+    SplitMessageBytes, TruncationError,
 };
 use std::alloc::AllocError;
 use std::marker::Model;
@@ -25,7 +25,7 @@ impl Model for NameBuf {
     ghost use Rattle.std.specs.Prelude.{◌≡◌, ◌≤◌, ℕ, List, take, Some};
     ghost use Rattle.dns_wire.specs.Reading.{all_of};
     ghost use Rattle.dns_wire.proofs.NamesLeft.{plain_name_leaves, name_ends, plain_name_names, name_at_names};
-ghost use Rattle.dns_wire.specs.Names.{plain_name, labels_of};
+    ghost use Rattle.dns_wire.specs.Names.{plain_name, labels_of};
 
     ghost Value = { List (List ℕ) };
 
@@ -83,15 +83,14 @@ fn read_name(contents: &[u8], start: usize) -> Result<(NameBuf, usize), ParseErr
 {
     let mut buffer = [0; Name::MAX_SIZE];
     let mut size = 0;
-    let mut segment = start;
-    let mut at = start;
-    let mut end = None;
+    let mut cursor = NameCursor::new(start);
     loop {
-        match read_head(contents, segment, at)? {
+        let at = cursor.at;
+        match cursor.next_head(contents)? {
             Head::Root => {
                 copy_at(&[0], &mut buffer, size);
                 let name = NameBuf::from_buffer(buffer, size + 1);
-                return Ok((name, end.unwrap_or(at + 1)));
+                return Ok((name, cursor.end.unwrap_or(at + 1)));
             }
             Head::Label(label) => {
                 if size + 1 + label >= Name::MAX_SIZE {
@@ -99,13 +98,8 @@ fn read_name(contents: &[u8], start: usize) -> Result<(NameBuf, usize), ParseErr
                 }
                 copy_at(&contents[at..at + 1 + label], &mut buffer, size);
                 size += 1 + label;
-                at += 1 + label;
             }
-            Head::Pointer(target) => {
-                end = Some(end.unwrap_or(at + 2));
-                segment = target;
-                at = target;
-            }
+            Head::Pointer(_) => {}
         }
     }
 }
@@ -185,7 +179,7 @@ impl BuildBytes for NameBuf {
     ghost use Rattle.std.specs.Prelude.{⊤};
     ghost use Rattle.dns_wire.specs.Building.{Builds};
     ghost use Rattle.dns_wire.proofs.NamesLeft.{plain_name_leaves, name_ends, plain_name_names, name_at_names};
-ghost use Rattle.dns_wire.specs.Names.{wire};
+    ghost use Rattle.dns_wire.specs.Names.{wire};
 
     ghost octets = { λ v. wire v };
 

@@ -11,8 +11,8 @@ use crate::label_row::copy_before;
 use crate::name::Name;
 use crate::rev_name::RevName;
 use dns_wire::{
-    BuildBytes, Head, ParseBytes, ParseError, ParseMessageBytes, SplitBytes, SplitMessageBytes,
-    TruncationError, read_head,
+    BuildBytes, Head, NameCursor, ParseBytes, ParseError, ParseMessageBytes, SplitBytes,
+    SplitMessageBytes, TruncationError,
 };
 use std::alloc::AllocError;
 use std::marker::Model;
@@ -93,15 +93,14 @@ fn read_reversed(contents: &[u8], start: usize) -> Result<(RevNameBuf, usize), P
 {
     let mut buffer = [0; RevName::MAX_SIZE];
     let mut offset = RevName::MAX_SIZE;
-    let mut segment = start;
-    let mut at = start;
-    let mut end = None;
+    let mut cursor = NameCursor::new(start);
     loop {
-        match read_head(contents, segment, at)? {
+        let at = cursor.at;
+        match cursor.next_head(contents)? {
             Head::Root => {
                 copy_before(&[0], &mut buffer, offset);
                 let name = RevNameBuf::from_buffer(buffer, offset - 1);
-                return Ok((name, end.unwrap_or(at + 1)));
+                return Ok((name, cursor.end.unwrap_or(at + 1)));
             }
             Head::Label(label) => {
                 if offset <= 1 + label {
@@ -109,13 +108,8 @@ fn read_reversed(contents: &[u8], start: usize) -> Result<(RevNameBuf, usize), P
                 }
                 copy_before(&contents[at..at + 1 + label], &mut buffer, offset);
                 offset -= 1 + label;
-                at += 1 + label;
             }
-            Head::Pointer(target) => {
-                end = Some(end.unwrap_or(at + 2));
-                segment = target;
-                at = target;
-            }
+            Head::Pointer(_) => {}
         }
     }
 }

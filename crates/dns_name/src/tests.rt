@@ -5,8 +5,8 @@ mod in_message;
 mod reversed;
 mod unparsed_name;
 
-use crate::{Name, NameBuf, RevName, RevNameBuf};
-use dns_wire::{AsBytes, BuildBytes, ParseBytes, SplitBytes, SplitMessageBytes};
+use crate::{Name, NameBuf, RevName, RevNameBuf, UnparsedName};
+use dns_wire::{AsBytes, BuildBytes, ParseBytes, ParseName, SplitBytes, SplitMessageBytes};
 use std::hash::{DefaultHasher, Hash, Hasher};
 use std::test::Fail;
 
@@ -26,6 +26,24 @@ fn reads_and_writes_names(rt: HostRuntime) -> Result<(), Fail> {
     assert_eq!(rt; name.build_at(&mut buffer, 1)?, 14);
     assert_eq!(rt; buffer, *b"\0\x03www\x07Example\0\0");
     assert_eq!(rt; name.build_bytes(&mut buffer)?.len(), 2);
+    Ok(())
+}
+
+fn labels_in<'a, T: ParseName<'a>>(name: &T) -> usize {
+    name.label_count()
+}
+
+/// The root is no label, and neither is what a pointer leads to.
+#[test]
+fn tells_how_many_labels_there_are(rt: HostRuntime) -> Result<(), Fail> {
+    let octets = b"\x03www\x07example\0";
+    assert_eq!(rt; labels_in(&Name::parse_bytes(octets)?), 2);
+    assert_eq!(rt; labels_in(&NameBuf::parse_bytes(octets)?), 2);
+    assert_eq!(rt; labels_in(&RevNameBuf::parse_bytes(octets)?), 2);
+    assert_eq!(rt;
+        labels_in(&UnparsedName::parse_bytes(b"\x03www\xc0\x0c")?),
+        1
+    );
     Ok(())
 }
 

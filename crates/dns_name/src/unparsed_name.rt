@@ -5,20 +5,14 @@ ghost use Rattle.std.proofs.Props.{props};
 ghost use Rattle.dns_wire.specs.Reading.{Gives, all_of, all_at, plain_at};
 ghost use Rattle.dns_label.specs.Labels.{contents_of};
 ghost use Rattle.dns_name.specs.Left.{unparsed_leaves, unparsed_ends, unparsed_names, unparsed_names_at};
-ghost use Rattle.dns_name.specs.Unparsed.{Unparsed, unparsed_wire, offset_of, end_offset, alone_offset, unparsed_name, unparsed_of, unparsed_at};
+ghost use Rattle.dns_name.specs.Unparsed.{Unparsed, unparsed_wire, end_offset, alone_offset, unparsed_name, unparsed_of, unparsed_at};
 
 use dns_label::Label;
 use dns_wire::{
-    AsBytes, BuildBytes, ParseBytes, ParseError, ParseMessageBytes, SplitBytes, SplitMessageBytes,
-    TruncationError, put, whole, whole_message,
+    AsBytes, BuildBytes, HEADER_SIZE, MAX_LABEL_SIZE, POINTER_TAG, ParseBytes, ParseError,
+    ParseMessageBytes, SplitBytes, SplitMessageBytes, TruncationError, pointer_offset, put, whole,
+    whole_message,
 };
-
-/// The two bits in front of a pointer's offset are ones, so its first octet is at least this (RFC 1035 section
-/// 4.1.4).
-const POINTER_BITS: u8 = 0xc0;
-
-/// The octets of a message's header, which pointers count and places do not (RFC 1035 section 4.1.1).
-const HEADER_SIZE: usize = 12;
 
 /// Labels of 1 to 63 octets, each behind its length, and then the root's length 0 or a pointer, which begin
 /// at octet 254 at the latest, counted from 0. What a pointer leads to is not looked at.
@@ -73,10 +67,10 @@ impl<'a> UnparsedName<'a> {
         ensures { result ≡ alone_offset (unparsed_of self.now.slice.now) }
     {
         let high = self.slice[0];
-        if high < POINTER_BITS {
+        if high < POINTER_TAG {
             return None;
         }
-        Some(pointer_offset(high, self.slice[1]))
+        Some(pointer_offset(high, self.slice[1]) as u16)
     }
 
     /// The first label, and the name behind it; none where the root or one pointer is all that stands here.
@@ -85,7 +79,7 @@ impl<'a> UnparsedName<'a> {
             (λ x. unparsed_of self.now.slice.now ≡ (contents_of x.0.slice.now ∷ (unparsed_of x.1.slice.now).0, (unparsed_of x.1.slice.now).1)) }
     {
         let size = self.slice[0];
-        if size == 0 || size >= POINTER_BITS {
+        if size == 0 || size >= POINTER_TAG {
             return None;
         }
         let (label, rest) = self.slice.split_at(1 + size as usize);
@@ -97,14 +91,6 @@ impl AsBytes for UnparsedName<'_> {
     fn as_bytes(&self) -> &[u8] {
         UnparsedName::as_bytes(self)
     }
-}
-
-/// Where a pointer of these two octets leads, by the 14 bits behind its first two.
-fn pointer_offset(high: u8, low: u8) -> u16
-    requires { 192 ≤ high }
-    ensures { result ≡ offset_of (high, low) }
-{
-    u16::from_be_bytes([high - POINTER_BITS, low])
 }
 
 /// Goes over the labels of the unparsed name at the front, and gives the place where it ends and where its
@@ -123,15 +109,15 @@ fn read_unparsed(bytes: &[u8]) -> Result<(usize, Option<usize>), ParseError>
             return Ok((at + 1, None));
         }
         let left = bytes.len() - at;
-        if head >= POINTER_BITS {
+        if head >= POINTER_TAG {
             if left < 2 {
                 return Err(ParseError);
             }
             let offset = pointer_offset(head, bytes[at + 1]);
-            return Ok((at + 2, Some(offset as usize)));
+            return Ok((at + 2, Some(offset)));
         }
         let size = head as usize;
-        if size > Label::MAX_SIZE || left <= size {
+        if size > MAX_LABEL_SIZE || left <= size {
             return Err(ParseError);
         }
         at += 1 + size;

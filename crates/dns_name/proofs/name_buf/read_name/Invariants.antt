@@ -4,8 +4,8 @@ use Rattle.dns_name.proofs.name_buf.read_name.Given as goal
 
 -- the labels so far stand in the buffer
 abbrev pub invariant-loop-buffer : goal.invariant-loop-buffer
-invariant-loop-buffer l = record { array : length l.buffer ≡ 255; room : l.size < 255; followed : Followed l.contents l.start l.segment l.at l.end (take l.size l.buffer) }
+invariant-loop-buffer l = record { array : length l.buffer ≡ 255; room : l.size < 255; followed : Followed l.contents l.start l.cursor.start l.cursor.at l.cursor.end (take l.size l.buffer) }
 
 -- a label takes room, and a pointer leads back
 abbrev pub decreases-loop-buffer : goal.decreases-loop-buffer
-decreases-loop-buffer l = (255 - l.size) + l.segment
+decreases-loop-buffer l = (255 - l.size) + l.cursor.start

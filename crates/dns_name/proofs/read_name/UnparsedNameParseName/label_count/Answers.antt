@@ -1,5 +1,4 @@
-use Rattle.std.proofs.Common.{arith, length-append}
-use Rattle.dns_wire.proofs.NamesLeft.{few_labels}
+use Rattle.std.proofs.Common.{arith}
 use Rattle.dns_name.specs.Unparsed.{unparsed_of}
 use Rattle.dns_name.proofs.Standing.{unparsed_octets, few_unparsed}
 use Rattle.dns_name.proofs.read_name.UnparsedNameParseName.label_count.Goals as goal
