@@ -4,6 +4,7 @@
 mod bitmaps;
 mod flags;
 mod hash_algorithm;
+mod hash_parameters;
 mod laws;
 mod nsec;
 mod nsec3;
