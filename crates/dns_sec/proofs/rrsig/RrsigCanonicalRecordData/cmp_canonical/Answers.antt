@@ -1,10 +1,10 @@
-use Rattle.std.proofs.Common.{◌≡◌, sym, ap, ◌∙◌}
+use Rattle.std.proofs.Common.{sym, ap, ◌∙◌}
 use Rattle.std.specs.Ordering.{ordering_then}
 use Rattle.std.specs.Cmp.Lexicographic.{slice_cmp}
 use Rattle.std.specs.declared.cmp.Ordering.{Ordering}
 use Rattle.std.proofs.Common.{nat_cmp}
 use Rattle.dns_wire.proofs.Spelled.{name_octets}
-use Rattle.dns_sec.proofs.Ordered.{decided, undecided, IsWell, fixed_cmp, signed_cmp, signatures_compared}
+use Rattle.dns_sec.proofs.Ordered.{decided, undecided, IsWell, signed_cmp, signatures_compared}
 use Rattle.dns_sec.proofs.rrsig.RrsigCanonicalRecordData.cmp_canonical.Goals as goal
 
 pub returns-then-is_ne : goal.returns-then-is_ne
