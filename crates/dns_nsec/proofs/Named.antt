@@ -13,14 +13,14 @@ abbrev pub is_in : ℕ → List ℕ → Bool
 is_in t [] = false
 is_in t (x ∷ xs) = cond (x == t) true (is_in t xs)
 
-in_contains : (t : ℕ) (xs : List ℕ) → is_in t xs ≡ true → Contains xs t
+pub in_contains : (t : ℕ) (xs : List ℕ) → is_in t xs ≡ true → Contains xs t
 in_contains t [] e = absurd cc
 in_contains t (x ∷ xs) e = by (x == t) refl e (λ h. in_contains t xs h) where
   by : (b : Bool) → (x == t) ≡ b → cond b true (is_in t xs) ≡ true → (is_in t xs ≡ true → Contains xs t) → Contains (x ∷ xs) t
   by true is h again = (0, omega arith, grind (arith, nat_tests))
   by false is h again = let p = again h in (suc p.0, omega (arith, p.1), p.2)
 
-contains_in : (t : ℕ) (xs : List ℕ) (k : ℕ) → k < length xs → get_or xs k t ≡ t → is_in t xs ≡ true
+pub contains_in : (t : ℕ) (xs : List ℕ) (k : ℕ) → k < length xs → get_or xs k t ≡ t → is_in t xs ≡ true
 contains_in t [] k lt e = absurd (omega arith)
 contains_in t (x ∷ xs) zero lt e =
     let same : (x == t) ≡ true = grind (arith, nat_tests) in
@@ -34,7 +34,7 @@ contains_in t (x ∷ xs) (suc k) lt e = by (x == t) (contains_in t xs k (omega a
 pub contains_so : (t : ℕ) (xs : List ℕ) (r : Bool) → is_in t xs ≡ r → IsTrue r ↔ Contains xs t
 contains_so t xs r e = (λ h. in_contains t xs (e ∙ h), λ p. sym e ∙ contains_in t xs p.0 p.1 p.2)
 
-either_in : (t : ℕ) (xs ys : List ℕ) → is_in t (xs ++ ys) ≡ cond (is_in t xs) true (is_in t ys)
+pub either_in : (t : ℕ) (xs ys : List ℕ) → is_in t (xs ++ ys) ≡ cond (is_in t xs) true (is_in t ys)
 either_in t [] ys = refl
 either_in t (x ∷ xs) ys = by (x == t) (either_in t xs ys) where
   by : (b : Bool) → is_in t (xs ++ ys) ≡ cond (is_in t xs) true (is_in t ys) → cond b true (is_in t (xs ++ ys)) ≡ cond (cond b true (is_in t xs)) true (is_in t ys)
@@ -86,7 +86,7 @@ below_windows t least (w ∷ others) rise lt =
     ∙ rw (below_set t (256 * w.number) (bits_of w.bits) (omega (arith, lt, rise.0)), below_windows t (suc w.number) others rise.2 (omega (arith, lt, rise.0))) refl
 
 -- the window of a type is at the front
-window_hit : (t least : ℕ) (w : Window) (others : List Window) → WindowsFrom least (w ∷ others) → w.number ≡ t / 256 → is_in t (windows_types (w ∷ others)) ≡ (get_or (bits_of w.bits) (t % 256) 0 == 1)
+pub window_hit : (t least : ℕ) (w : Window) (others : List Window) → WindowsFrom least (w ∷ others) → w.number ≡ t / 256 → is_in t (windows_types (w ∷ others)) ≡ (get_or (bits_of w.bits) (t % 256) 0 == 1)
 unfolding windows_types
 window_hit t least w others rise here =
     let e : t ≡ 256 * w.number + t % 256 = omega (arith, here) in
@@ -98,7 +98,7 @@ window_hit t least w others rise here =
       by false = refl
 
 -- the window of a type is not at the front
-window_miss : (t : ℕ) (w : Window) (others : List Window) → length w.bits ≤ 32 → (w.number ≡ t / 256 → ⊥) → is_in t (windows_types (w ∷ others)) ≡ is_in t (windows_types others)
+pub window_miss : (t : ℕ) (w : Window) (others : List Window) → length w.bits ≤ 32 → (w.number ≡ t / 256 → ⊥) → is_in t (windows_types (w ∷ others)) ≡ is_in t (windows_types others)
 unfolding windows_types
 window_miss t w others few other = either_in t (window_types w) (windows_types others) ∙ rw apart refl where
   apart : is_in t (window_types w) ≡ false

@@ -1,6 +1,7 @@
 -- The types that a bitmap names (RFC 4034 section 4.1.2): bit j of octet i, counted from the top bit, of window w stands for
 -- type 256 * w + 8 * i + j.
-use Rattle.std.specs.Prelude.{ℕ, suc, ◌+◌, ◌*◌, ◌/◌, ◌%◌, List, [], ◌∷◌, ◌++◌, drop, Option, Some, None, ◌==◌, if◌then◌else◌}
+use Rattle.std.specs.Prelude.{◌≡◌, ℕ, suc, ◌+◌, ◌-◌, ◌*◌, ◌/◌, ◌%◌, List, [], ◌∷◌, ◌++◌, drop, slice_index, Contains, Option, Some, None, ◌==◌, if◌then◌else◌}
+use Rattle.std.specs.Int.{bit_at}
 use Rattle.dns_record.specs.Windows.{Window, windows_of}
 
 -- the bits of an octet, the top bit first
@@ -41,3 +42,15 @@ windows_in bytes = windows_or_none (windows_of bytes)
 -- the types of a bitmap
 unfoldable pub types_in : List ℕ → List ℕ
 types_in bytes = windows_types (windows_in bytes)
+
+-- ---- in other words
+
+-- the window is that of the type, and the type's bit in it is 1: that of octet (type % 256) / 8 at place type % 8 from the
+-- top; behind the octets of the window are bits that are 0
+pub record Marks (window : Window) (type : ℕ) : Type 0 where
+  pub number : window.number ≡ type / 256
+  pub bit : bit_at (slice_index window.bits (type % 256 / 8)) (7 - type % 8) ≡ 1
+
+-- a window of the bitmap marks the type
+abbrev pub IsMarked : List ℕ → ℕ → Type 0
+IsMarked bytes type = (window : Window) × (Contains (windows_in bytes) window × Marks window type)

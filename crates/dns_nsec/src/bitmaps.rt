@@ -7,9 +7,10 @@ ghost use Rattle.std.proofs.Props.{props};
 ghost use Rattle.dns_wire.specs.Reading.{plain_at};
 ghost use Rattle.dns_record.specs.InPlace.{WindowsFrom};
 ghost use Rattle.dns_record.specs.Windows.{is_bitmap, bitmap};
-ghost use Rattle.dns_nsec.specs.Bitmaps.{types_in, windows_in};
+ghost use Rattle.dns_nsec.specs.Bitmaps.{IsMarked, types_in, windows_in};
 ghost use Rattle.dns_nsec.specs.Seen.{window_seen};
 
+use crate::laws::types_of_bitmaps;
 use crate::type_iter::TypeIter;
 use crate::window::Window;
 use dns_record::RType;
@@ -41,7 +42,8 @@ impl<'a> TypeBitmaps<'a> {
 
     /// Whether the type is among them.
     pub fn contains(&self, rtype: RType) -> bool
-        ensures { IsTrue result ↔ Contains (types_in self.now.slice.now) rtype.code.value }
+        ensures among { IsTrue result ↔ Contains (types_in self.now.slice.now) rtype.code.value }
+        ensures marked { IsTrue result ↔ IsMarked self.now.slice.now rtype.code.value }
     {
         let code = rtype.code.get() as usize;
         let mut rest = *self;
@@ -58,7 +60,7 @@ impl<'a> TypeBitmaps<'a> {
     pub fn is_empty(&self) -> bool
         ensures { IsTrue result ↔ (types_in self.now.slice.now ≡ []) }
     {
-        self.types().next().is_none()
+        has_no_type(self.slice)
     }
 
     /// The first window, and the windows behind it; none where there is no window.
@@ -74,6 +76,15 @@ impl<'a> TypeBitmaps<'a> {
             Err(_) => None,
         }
     }
+}
+
+/// Whether there is no type in a bitmap, which is the same as no window.
+fn has_no_type(octets: &[u8]) -> bool
+    requires { is_bitmap octets.now ≡ true }
+    ensures { IsTrue result ↔ (types_in octets.now ≡ []) }
+{
+    types_of_bitmaps();
+    octets.is_empty()
 }
 
 impl<'a> ParseBytes<'a> for TypeBitmaps<'a> {

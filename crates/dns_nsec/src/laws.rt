@@ -1,10 +1,10 @@
 //! The definitions of this crate in other words.
 
-ghost use Rattle.std.specs.Prelude.{◌≡◌, ◌↔◌, ℕ, List, [], true};
+ghost use Rattle.std.specs.Prelude.{◌≡◌, ◌↔◌, Contains, ℕ, List, [], true};
 ghost use Rattle.std.specs.List.Sorted.{IsStrictlyIncreasing};
 ghost use Rattle.dns_wire.specs.Reading.{AreOctets};
 ghost use Rattle.dns_record.specs.Windows.{is_bitmap};
-ghost use Rattle.dns_nsec.specs.Bitmaps.{types_in};
+ghost use Rattle.dns_nsec.specs.Bitmaps.{IsMarked, types_in};
 
 use crate::hash_algorithm::Nsec3HashAlgorithm;
 
@@ -20,4 +20,9 @@ pub fn types_of_bitmaps()
     ensures none { (bytes : List ℕ) → AreOctets bytes → is_bitmap bytes ≡ true → (types_in bytes ≡ []) ↔ (bytes ≡ []) }
     ensures same { (a b : List ℕ) → AreOctets a → AreOctets b → is_bitmap a ≡ true → is_bitmap b ≡ true →
         types_in a ≡ types_in b → a ≡ b }
+{}
+
+/// A type is among those of a bitmap exactly where its bit in its window is 1 (RFC 4034 section 4.1.2).
+pub fn bits_of_bitmaps()
+    ensures { (bytes : List ℕ) (type : ℕ) → is_bitmap bytes ≡ true → Contains (types_in bytes) type ↔ IsMarked bytes type }
 {}

@@ -4,6 +4,7 @@
 mod bitmaps;
 mod flags;
 mod hash_algorithm;
+mod hash_parameters;
 mod laws;
 mod nsec;
 mod nsec3;
@@ -16,7 +17,7 @@ mod window;
 pub use bitmaps::TypeBitmaps;
 pub use flags::Nsec3Flags;
 pub use hash_algorithm::Nsec3HashAlgorithm;
-pub use laws::{code_numbers, types_of_bitmaps};
+pub use laws::{bits_of_bitmaps, code_numbers, types_of_bitmaps};
 pub use nsec::Nsec;
 pub use nsec3::Nsec3;
 pub use nsec3param::Nsec3Param;

@@ -143,8 +143,10 @@ impl CanonicalRecordData for Nsec<'_> {
     }
 
     fn cmp_canonical(&self, other: &Self) -> Ordering {
-        let next = self.next.cmp_composed(&other.next);
-        let types = self.types.slice.cmp(other.types.slice);
-        next.then(types)
+        let order = self.next.cmp_composed(&other.next);
+        if order.is_ne() {
+            return order;
+        }
+        self.types.slice.cmp(other.types.slice)
     }
 }

@@ -20,8 +20,9 @@ ghost use Rattle.dns_nsec.specs.Types.{nsec3_fields};
 use crate::bitmaps::TypeBitmaps;
 use crate::flags::Nsec3Flags;
 use crate::hash_algorithm::Nsec3HashAlgorithm;
+use crate::hash_parameters::HashParameters;
 use crate::short_octets::ShortOctets;
-use dns_num::{SizePrefixed, U16};
+use dns_num::SizePrefixed;
 use dns_record::{CanonicalRecordData, DataOfType, RType};
 use dns_wire::{
     BuildBytes, BuildInMessage, NameCompressor, ParseBytes, ParseError, ParseMessageBytes,
@@ -32,10 +33,7 @@ use std::cmp::Ordering;
 /// The next hashed owner of a zone, and the types at the owner that was hashed (RFC 5155 section 3.2).
 #[derive(Clone, Copy, Debug, PartialEq, Eq, Hash)]
 pub struct Nsec3<'a> {
-    algorithm: Nsec3HashAlgorithm,
-    flags: Nsec3Flags,
-    iterations: U16,
-    salt: ShortOctets<'a>,
+    parameters: HashParameters<'a>,
     next_owner: ShortOctets<'a>,
     types: TypeBitmaps<'a>,
 }
@@ -62,10 +60,7 @@ impl<'a> Nsec3<'a> {
         ensures types { types_of result ≡ types.entry.slice.now }
     {
         Nsec3 {
-            algorithm: hash_algorithm,
-            flags,
-            iterations: U16::new(iterations),
-            salt: ShortOctets::new(salt),
+            parameters: HashParameters::new(hash_algorithm, flags, iterations, salt),
             next_owner: ShortOctets::new(next_owner),
             types,
         }
@@ -75,21 +70,21 @@ impl<'a> Nsec3<'a> {
     pub fn algorithm(&self) -> Nsec3HashAlgorithm
         ensures { result.code ≡ algorithm_of self.now }
     {
-        self.algorithm
+        self.parameters.algorithm
     }
 
     /// The flags.
     pub fn flags(&self) -> Nsec3Flags
         ensures { nsec3_flag_bits result ≡ flags_of self.now }
     {
-        self.flags
+        self.parameters.flags
     }
 
     /// How often the hash is taken again (RFC 5155 section 3.1.3).
     pub fn iterations(&self) -> u16
         ensures { result ≡ iterations_of self.now }
     {
-        self.iterations.get()
+        self.parameters.iterations.get()
     }
 
     /// The salt, at most 255 octets.
@@ -97,7 +92,7 @@ impl<'a> Nsec3<'a> {
         ensures salt { result.now ≡ salt_of self.now }
         ensures short { length result.now ≤ 255 }
     {
-        self.salt.prefixed()
+        self.parameters.salt.prefixed()
     }
 
     /// The next owner's hash, at most 255 octets.
@@ -130,17 +125,11 @@ impl<'a> ParseBytes<'a> for Nsec3<'a> {
     ghost ends_within = { bare_end (row 50) };
 
     fn parse_bytes(bytes: &'a [u8]) -> Result<Nsec3<'a>, ParseError> {
-        let (algorithm, rest) = Nsec3HashAlgorithm::split_bytes(bytes)?;
-        let (flags, rest) = Nsec3Flags::split_bytes(rest)?;
-        let (iterations, rest) = U16::split_bytes(rest)?;
-        let (salt, rest) = ShortOctets::split_bytes(rest)?;
+        let (parameters, rest) = HashParameters::split_bytes(bytes)?;
         let (next_owner, rest) = ShortOctets::split_bytes(rest)?;
         let types = TypeBitmaps::parse_bytes(rest)?;
         Ok(Nsec3 {
-            algorithm,
-            flags,
-            iterations,
-            salt,
+            parameters,
             next_owner,
             types,
         })
@@ -169,26 +158,12 @@ impl BuildBytes for Nsec3<'_> {
     ghost fits = { λ _. ⊤ };
 
     fn build_at(&self, bytes: &mut [u8], start: usize) -> Result<usize, TruncationError> {
-        (
-            &self.algorithm,
-            (
-                &self.flags,
-                (
-                    &self.iterations,
-                    (&self.salt, (&self.next_owner, (&self.types, ()))),
-                ),
-            ),
-        )
-            .build_at(bytes, start)
+        (&self.parameters, (&self.next_owner, (&self.types, ()))).build_at(bytes, start)
     }
 
     fn built_bytes_size(&self) -> usize {
-        self.algorithm.built_bytes_size()
-            + self.flags.built_bytes_size()
-            + self.iterations.built_bytes_size()
-            + self.salt.built_bytes_size()
-            + self.next_owner.built_bytes_size()
-            + self.types.built_bytes_size()
+        let hashed = self.parameters.built_bytes_size() + self.next_owner.built_bytes_size();
+        hashed + self.types.built_bytes_size()
     }
 }
 
@@ -224,12 +199,9 @@ impl CanonicalRecordData for Nsec3<'_> {
     }
 
     fn cmp_canonical(&self, other: &Self) -> Ordering {
-        let algorithm = self.algorithm.code.cmp(&other.algorithm.code);
-        let flags = self.flags.bits().cmp(&other.flags.bits());
-        let iterations = self.iterations.compare(&other.iterations);
-        let salt = self.salt.compare(&other.salt);
-        let next_owner = self.next_owner.compare(&other.next_owner);
-        let types = self.types.slice.cmp(other.types.slice);
-        algorithm.then(flags.then(iterations.then(salt.then(next_owner.then(types)))))
+        let (parameters, next_owner) = (self.parameters.order_key(), self.next_owner.order_key());
+        let fields = (parameters, next_owner, self.types.slice);
+        let (parameters, next_owner) = (other.parameters.order_key(), other.next_owner.order_key());
+        fields.cmp(&(parameters, next_owner, other.types.slice))
     }
 }

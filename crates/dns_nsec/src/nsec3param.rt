@@ -19,8 +19,8 @@ ghost use Rattle.dns_nsec.specs.Types.{nsec3param_fields};
 
 use crate::flags::Nsec3Flags;
 use crate::hash_algorithm::Nsec3HashAlgorithm;
-use crate::short_octets::ShortOctets;
-use dns_num::{SizePrefixed, U16};
+use crate::hash_parameters::HashParameters;
+use dns_num::SizePrefixed;
 use dns_record::{CanonicalRecordData, DataOfType, RType};
 use dns_wire::{
     BuildBytes, BuildInMessage, NameCompressor, ParseBytes, ParseError, ParseMessageBytes,
@@ -32,10 +32,7 @@ use std::cmp::Ordering;
 /// How the owners of a zone are hashed (RFC 5155 section 4.2).
 #[derive(Clone, Copy, Debug, PartialEq, Eq, Hash)]
 pub struct Nsec3Param<'a> {
-    algorithm: Nsec3HashAlgorithm,
-    flags: Nsec3Flags,
-    iterations: U16,
-    salt: ShortOctets<'a>,
+    parameters: HashParameters<'a>,
 }
 
 impl<'a> Nsec3Param<'a> {
@@ -54,10 +51,7 @@ impl<'a> Nsec3Param<'a> {
         ensures salt { param_salt_of result ≡ salt.entry.now }
     {
         Nsec3Param {
-            algorithm: hash_algorithm,
-            flags,
-            iterations: U16::new(iterations),
-            salt: ShortOctets::new(salt),
+            parameters: HashParameters::new(hash_algorithm, flags, iterations, salt),
         }
     }
 
@@ -65,28 +59,28 @@ impl<'a> Nsec3Param<'a> {
     pub fn hash_algorithm(&self) -> Nsec3HashAlgorithm
         ensures { result.code ≡ param_algorithm_of self.now }
     {
-        self.algorithm
+        self.parameters.algorithm
     }
 
     /// The flags.
     pub fn flags(&self) -> Nsec3Flags
         ensures { nsec3_flag_bits result ≡ param_flags_of self.now }
     {
-        self.flags
+        self.parameters.flags
     }
 
     /// Whether names without security may stand between two owners (RFC 5155 section 3.1.2.1).
     pub fn opt_out_flag(&self) -> bool
         ensures { IsTrue result ↔ (bit_at (param_flags_of self.now) 0 ≡ 1) }
     {
-        self.flags.is_optout()
+        self.parameters.flags.is_optout()
     }
 
     /// How often the hash is taken again (RFC 5155 section 3.1.3).
     pub fn iterations(&self) -> u16
         ensures { result ≡ param_iterations_of self.now }
     {
-        self.iterations.get()
+        self.parameters.iterations.get()
     }
 
     /// The salt, at most 255 octets.
@@ -94,7 +88,7 @@ impl<'a> Nsec3Param<'a> {
         ensures salt { result.now ≡ param_salt_of self.now }
         ensures short { length result.now ≤ 255 }
     {
-        self.salt.prefixed()
+        self.parameters.salt.prefixed()
     }
 }
 
@@ -118,17 +112,8 @@ impl<'a> ParseBytes<'a> for Nsec3Param<'a> {
 
 impl<'a> SplitBytes<'a> for Nsec3Param<'a> {
     fn split_bytes(bytes: &'a [u8]) -> Result<(Nsec3Param<'a>, &'a [u8]), ParseError> {
-        let (algorithm, rest) = Nsec3HashAlgorithm::split_bytes(bytes)?;
-        let (flags, rest) = Nsec3Flags::split_bytes(rest)?;
-        let (iterations, rest) = U16::split_bytes(rest)?;
-        let (salt, rest) = ShortOctets::split_bytes(rest)?;
-        let value = Nsec3Param {
-            algorithm,
-            flags,
-            iterations,
-            salt,
-        };
-        Ok((value, rest))
+        let (parameters, rest) = HashParameters::split_bytes(bytes)?;
+        Ok((Nsec3Param { parameters }, rest))
     }
 }
 
@@ -163,18 +148,14 @@ impl BuildBytes for Nsec3Param<'_> {
     ghost fits = { λ _. ⊤ };
 
     fn build_at(&self, bytes: &mut [u8], start: usize) -> Result<usize, TruncationError> {
-        (
-            &self.algorithm,
-            (&self.flags, (&self.iterations, (&self.salt, ()))),
-        )
-            .build_at(bytes, start)
+        self.parameters.build_at(bytes, start)
     }
 
-    fn built_bytes_size(&self) -> usize {
-        self.algorithm.built_bytes_size()
-            + self.flags.built_bytes_size()
-            + self.iterations.built_bytes_size()
-            + self.salt.built_bytes_size()
+    fn built_bytes_size(&self) -> usize
+        ensures octets { result ≡ length (fields_octets (nsec3param_fields self.now)) }
+        ensures few { result ≤ 260 }
+    {
+        self.parameters.built_bytes_size()
     }
 }
 
@@ -210,10 +191,7 @@ impl CanonicalRecordData for Nsec3Param<'_> {
     }
 
     fn cmp_canonical(&self, other: &Self) -> Ordering {
-        let algorithm = self.algorithm.code.cmp(&other.algorithm.code);
-        let flags = self.flags.bits().cmp(&other.flags.bits());
-        let iterations = self.iterations.compare(&other.iterations);
-        let salt = self.salt.compare(&other.salt);
-        algorithm.then(flags.then(iterations.then(salt)))
+        let others = other.parameters.order_key();
+        self.parameters.order_key().cmp(&others)
     }
 }

@@ -3,14 +3,11 @@
 ghost use Rattle.dns_wire.specs.Left.{plain_ends};
 ghost use Rattle.dns_record.specs.Left.{text_leaves};
 ghost use Rattle.std.specs.Prelude.{◌≡◌, ◌≤◌, ◌∷◌, ℕ, List, [], length, ⊤};
-ghost use Rattle.std.specs.Ordering.{nat_cmp, ordering_then};
-ghost use Rattle.std.specs.Cmp.Lexicographic.{slice_cmp};
 ghost use Rattle.dns_wire.specs.Reading.{plain_at};
 ghost use Rattle.dns_record.specs.Texts.{text};
 
 use dns_num::SizePrefixed;
 use dns_wire::{BuildBytes, ParseBytes, ParseError, SplitBytes, TruncationError, put, whole};
-use std::cmp::Ordering;
 
 /// At most 255 octets. On the wire they stand behind an octet with their number (RFC 5155 section 3.2).
 #[derive(Clone, Copy, Debug, PartialEq, Eq, Hash)]
@@ -38,13 +35,11 @@ impl<'a> ShortOctets<'a> {
         SizePrefixed::new(self.octets)
     }
 
-    /// The order of what they are on the wire: the shorter comes first.
-    pub fn compare(&self, other: &ShortOctets<'_>) -> Ordering
-        ensures { result ≡ ordering_then (nat_cmp (length self.now.octets.now) (length other.now.octets.now))
-            (slice_cmp nat_cmp self.now.octets.now other.now.octets.now) }
+    /// What is compared first and last: on the wire their number stands in front of them.
+    pub fn order_key(&self) -> (usize, &'a [u8])
+        ensures { result ≡ record { 0 = length self.now.octets.now; 1 = self.now.octets } }
     {
-        let sizes = self.octets.len().cmp(&other.octets.len());
-        sizes.then(self.octets.cmp(other.octets))
+        (self.octets.len(), self.octets)
     }
 }
 

@@ -1,2 +1,3 @@
 -- The crate's own lemmas.
 pub mod Digests
+mod Ordered

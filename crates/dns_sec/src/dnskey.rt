@@ -126,10 +126,13 @@ impl CanonicalRecordData for DNSKey<'_> {
     }
 
     fn cmp_canonical(&self, other: &Self) -> Ordering {
-        let flags = self.flags.compare(&other.flags);
-        let protocol = self.protocol.cmp(&other.protocol);
-        let algorithm = self.algorithm.cmp(&other.algorithm);
-        let key = self.key.cmp(other.key);
-        flags.then(protocol.then(algorithm.then(key)))
+        let fields = (self.flags.bits(), self.protocol, self.algorithm, self.key);
+        let others = (
+            other.flags.bits(),
+            other.protocol,
+            other.algorithm,
+            other.key,
+        );
+        fields.cmp(&others)
     }
 }

@@ -70,14 +70,6 @@ impl DNSKeyFlags {
             bits: self.bits.with_bit(SECURE_ENTRY_POINT, value),
         }
     }
-
-    /// How it compares with others, by number, and that both have 16 bits.
-    pub(crate) fn compare(&self, other: &DNSKeyFlags) -> Ordering
-        ensures order { result ≡ nat_cmp (key_flag_bits self.now) (key_flag_bits other.now) }
-        ensures fits { (key_flag_bits self.now < 2 ^ 16) × (key_flag_bits other.now < 2 ^ 16) }
-    {
-        self.bits.compare(&other.bits)
-    }
 }
 
 impl<'a> ParseBytes<'a> for DNSKeyFlags {

@@ -127,10 +127,18 @@ impl CanonicalRecordData for Ds<'_> {
     }
 
     fn cmp_canonical(&self, other: &Self) -> Ordering {
-        let keytag = self.keytag.compare(&other.keytag);
-        let algorithm = self.algorithm.cmp(&other.algorithm);
-        let digest_type = self.digest_type.cmp(&other.digest_type);
-        let digest = self.digest.cmp(other.digest);
-        keytag.then(algorithm.then(digest_type.then(digest)))
+        let fields = (
+            self.keytag.get(),
+            self.algorithm,
+            self.digest_type,
+            self.digest,
+        );
+        let others = (
+            other.keytag.get(),
+            other.algorithm,
+            other.digest_type,
+            other.digest,
+        );
+        fields.cmp(&others)
     }
 }

@@ -76,6 +76,32 @@ impl Rrsig<'_> {
     {
         Timestamp::from(self.expiration.get())
     }
+
+    /// The fields before the signer, in order, each of which fits its width.
+    fn fixed_fields(&self) -> (u16, SecAlg, u8, u32, u32, u32, u16)
+        ensures fields { result ≡ record {
+          0 = self.now.rtype.code.value;
+          1 = self.now.algorithm;
+          2 = self.now.labels;
+          3 = self.now.ttl.value.value;
+          4 = self.now.expiration.0.value;
+          5 = self.now.inception.0.value;
+          6 = self.now.keytag.value;
+        } }
+        ensures fit { (self.now.rtype.code.value < 2 ^ 16) × (self.now.ttl.value.value < 2 ^ 32)
+            × (self.now.expiration.0.value < 2 ^ 32) × (self.now.inception.0.value < 2 ^ 32)
+            × (self.now.keytag.value < 2 ^ 16) }
+    {
+        (
+            self.rtype.code.get(),
+            self.algorithm,
+            self.labels,
+            self.ttl.value.get(),
+            self.expiration.get(),
+            self.inception.get(),
+            self.keytag.get(),
+        )
+    }
 }
 
 impl<'a> ParseBytes<'a> for Rrsig<'a> {
@@ -186,17 +212,14 @@ impl CanonicalRecordData for Rrsig<'_> {
     }
 
     fn cmp_canonical(&self, other: &Self) -> Ordering {
-        let rtype = self.rtype.code.compare(&other.rtype.code);
-        let algorithm = self.algorithm.cmp(&other.algorithm);
-        let labels = self.labels.cmp(&other.labels);
-        let ttl = self.ttl.value.compare(&other.ttl.value);
-        let expiration = self.expiration.0.compare(&other.expiration.0);
-        let inception = self.inception.0.compare(&other.inception.0);
-        let keytag = self.keytag.compare(&other.keytag);
-        let signer = self.signer.cmp_lowercase_composed(&other.signer);
-        let signature = self.signature.cmp(other.signature);
-        let by_key = keytag.then(signer.then(signature));
-        let by_time = ttl.then(expiration.then(inception.then(by_key)));
-        rtype.then(algorithm.then(labels.then(by_time)))
+        let order = self.fixed_fields().cmp(&other.fixed_fields());
+        if order.is_ne() {
+            return order;
+        }
+        let order = self.signer.cmp_lowercase_composed(&other.signer);
+        if order.is_ne() {
+            return order;
+        }
+        self.signature.cmp(other.signature)
     }
 }

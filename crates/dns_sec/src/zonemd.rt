@@ -178,10 +178,9 @@ impl<D: AsSlice<u8>> CanonicalRecordData for ZoneMD<D> {
     }
 
     fn cmp_canonical(&self, other: &Self) -> Ordering {
-        let serial = self.serial.0.compare(&other.serial.0);
-        let scheme = self.scheme.cmp(&other.scheme);
-        let hash_alg = self.hash_alg.cmp(&other.hash_alg);
-        let digest = self.digest.as_slice().cmp(other.digest.as_slice());
-        serial.then(scheme.then(hash_alg.then(digest)))
+        let digests = (self.digest.as_slice(), other.digest.as_slice());
+        let fields = (self.serial.get(), self.scheme, self.hash_alg, digests.0);
+        let others = (other.serial.get(), other.scheme, other.hash_alg, digests.1);
+        fields.cmp(&others)
     }
 }
