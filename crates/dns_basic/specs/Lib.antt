@@ -1,3 +1,4 @@
 -- What the contracts of data with names that may be compressed cite.
 pub mod Calls
+pub mod Sizes
 pub mod Types

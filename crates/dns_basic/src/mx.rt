@@ -3,6 +3,9 @@
 ghost use Rattle.std.specs.Prelude.{◌≡◌, ◌≤◌, ◌<◌, ◌^◌, ℕ, List, [], ◌∷◌, ◌++◌, length, map, Option, IfOk, ⊤};
 ghost use Rattle.std.specs.Int.{w16, to_be_bytes};
 ghost use Rattle.std.specs.Fn.{FnOnceTakesAt, FnOnceReturnsAt};
+ghost use Rattle.std.proofs.Common.{◌∙◌, ap, sym};
+ghost use Rattle.std.proofs.lemmas.List.{append-nil};
+ghost use Rattle.dns_wire.specs.Names.{wire};
 ghost use Rattle.dns_wire.specs.Reading.{Gives, all_of, all_at};
 ghost use Rattle.dns_record.specs.Canonical.{ranked_cmp};
 ghost use Rattle.dns_record.specs.Fields.{FieldOf, named_by, canonical_octets};
@@ -10,6 +13,7 @@ ghost use Rattle.dns_record.specs.Kinds.{fields_of, fields_in};
 ghost use Rattle.dns_record.specs.Kinds.Kind.{OneNumber, Pointed};
 ghost use Rattle.dns_record.specs.Left.{fields_leave, fields_end};
 ghost use Rattle.dns_record.specs.Rows.{row};
+ghost use Rattle.dns_record.proofs.Sizes.{canonical_long};
 ghost use Rattle.dns_basic.specs.Types.{mx_fields};
 
 use dns_name::{CanonicalName, Lowercased};
@@ -134,6 +138,8 @@ impl<N: CanonicalName> CanonicalRecordData for Mx<N> {
 
     ghost is_proper = { λ _. ⊤ };
 
+    ghost as_long = { λ v. canonical_long 15 (map (named_by N.name) (mx_fields v)) ∙ ap (λ (l : List ℕ). length (to_be_bytes w16 v.preference.value ++ l)) (append-nil (wire (N.name v.exchange)) ∙ sym (N.octets_are v.exchange)) };
+
     fn build_canonical_at(&self, bytes: &mut [u8], start: usize) -> Result<usize, TruncationError> {
         let exchange = Lowercased {
             name: &self.exchange,
@@ -142,8 +148,9 @@ impl<N: CanonicalName> CanonicalRecordData for Mx<N> {
     }
 
     fn cmp_canonical(&self, other: &Self) -> Ordering {
-        let preference = self.preference.compare(&other.preference);
-        let exchange = self.exchange.cmp_lowercase_composed(&other.exchange);
-        preference.then(exchange)
+        match self.preference.compare(&other.preference) {
+            Ordering::Equal => self.exchange.cmp_lowercase_composed(&other.exchange),
+            decided => decided,
+        }
     }
 }

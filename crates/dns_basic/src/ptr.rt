@@ -2,6 +2,9 @@
 
 ghost use Rattle.std.specs.Prelude.{◌≡◌, ◌≤◌, ◌<◌, ◌^◌, ℕ, List, [], ◌∷◌, ◌++◌, length, map, Option, IfOk, ⊤};
 ghost use Rattle.std.specs.Fn.{FnOnceTakesAt, FnOnceReturnsAt};
+ghost use Rattle.std.proofs.Common.{◌∙◌, ap, sym};
+ghost use Rattle.std.proofs.lemmas.List.{append-nil};
+ghost use Rattle.dns_wire.specs.Names.{wire};
 ghost use Rattle.dns_wire.specs.Reading.{Gives, all_of, all_at};
 ghost use Rattle.dns_record.specs.Canonical.{ranked_cmp};
 ghost use Rattle.dns_record.specs.Fields.{FieldOf, named_by, canonical_octets};
@@ -9,6 +12,7 @@ ghost use Rattle.dns_record.specs.Kinds.{fields_of, fields_in};
 ghost use Rattle.dns_record.specs.Kinds.Kind.{Pointed};
 ghost use Rattle.dns_record.specs.Left.{fields_leave, fields_end};
 ghost use Rattle.dns_record.specs.Rows.{row};
+ghost use Rattle.dns_record.proofs.Sizes.{canonical_long};
 ghost use Rattle.dns_basic.specs.Types.{ptr_fields};
 
 use dns_name::{CanonicalName, Lowercased};
@@ -118,6 +122,8 @@ impl<N: CanonicalName> CanonicalRecordData for Ptr<N> {
     ghost rank = { λ _. 0 };
 
     ghost is_proper = { λ _. ⊤ };
+
+    ghost as_long = { λ v. canonical_long 12 (map (named_by N.name) (ptr_fields v)) ∙ ap length (append-nil (wire (N.name v.name)) ∙ sym (N.octets_are v.name)) };
 
     fn build_canonical_at(&self, bytes: &mut [u8], start: usize) -> Result<usize, TruncationError> {
         let name = Lowercased { name: &self.name };

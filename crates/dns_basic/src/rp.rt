@@ -2,15 +2,19 @@
 
 ghost use Rattle.std.specs.Prelude.{◌≡◌, ◌≤◌, ◌<◌, ◌^◌, ℕ, List, [], ◌∷◌, ◌++◌, length, map, Option, IfOk, ⊤};
 ghost use Rattle.std.specs.Fn.{CalledAt, TakesAt};
+ghost use Rattle.std.proofs.Common.{◌∙◌, ap};
 ghost use Rattle.dns_wire.specs.Reading.{Gives, all_of, all_at};
+ghost use Rattle.dns_wire.specs.Names.{wire};
 ghost use Rattle.dns_record.specs.Canonical.{ranked_cmp};
 ghost use Rattle.dns_record.specs.Fields.{FieldOf, named_by, canonical_octets};
 ghost use Rattle.dns_record.specs.Kinds.{fields_of, fields_in};
 ghost use Rattle.dns_record.specs.Kinds.Kind.{Pointed};
 ghost use Rattle.dns_record.specs.Left.{fields_leave, fields_end};
 ghost use Rattle.dns_record.specs.Rows.{row};
+ghost use Rattle.dns_record.proofs.Sizes.{canonical_long};
 ghost use Rattle.dns_basic.specs.Calls.{TakesNextAt};
 ghost use Rattle.dns_basic.specs.Types.{rp_fields};
+ghost use Rattle.dns_basic.specs.Sizes.{both_names};
 
 use dns_name::{CanonicalName, Lowercased};
 use dns_record::{CanonicalRecordData, DataOfType, RType};
@@ -125,6 +129,8 @@ impl<N: CanonicalName> CanonicalRecordData for Rp<N> {
 
     ghost is_proper = { λ _. ⊤ };
 
+    ghost as_long = { λ v. canonical_long 17 (map (named_by N.name) (rp_fields v)) ∙ ap length (both_names (wire (N.name v.mailbox)) (wire (N.name v.texts)) (N.octets v.mailbox) (N.octets v.texts) (N.octets_are v.mailbox) (N.octets_are v.texts)) };
+
     fn build_canonical_at(&self, bytes: &mut [u8], start: usize) -> Result<usize, TruncationError> {
         let mailbox = Lowercased {
             name: &self.mailbox,
@@ -134,8 +140,9 @@ impl<N: CanonicalName> CanonicalRecordData for Rp<N> {
     }
 
     fn cmp_canonical(&self, other: &Self) -> Ordering {
-        let mailbox = self.mailbox.cmp_lowercase_composed(&other.mailbox);
-        let texts = self.texts.cmp_lowercase_composed(&other.texts);
-        mailbox.then(texts)
+        match self.mailbox.cmp_lowercase_composed(&other.mailbox) {
+            Ordering::Equal => self.texts.cmp_lowercase_composed(&other.texts),
+            decided => decided,
+        }
     }
 }

@@ -3,15 +3,19 @@
 ghost use Rattle.std.specs.Prelude.{◌≡◌, ◌≤◌, ◌<◌, ◌^◌, ℕ, List, [], ◌∷◌, ◌++◌, length, map, Option, IfOk, ⊤};
 ghost use Rattle.std.specs.Int.{w32, to_be_bytes};
 ghost use Rattle.std.specs.Fn.{CalledAt, TakesAt};
+ghost use Rattle.std.proofs.Common.{◌∙◌, ap};
 ghost use Rattle.dns_wire.specs.Reading.{Gives, all_of, all_at};
+ghost use Rattle.dns_wire.specs.Names.{wire};
 ghost use Rattle.dns_record.specs.Canonical.{ranked_cmp};
 ghost use Rattle.dns_record.specs.Fields.{FieldOf, named_by, canonical_octets};
 ghost use Rattle.dns_record.specs.Kinds.{fields_of, fields_in};
 ghost use Rattle.dns_record.specs.Kinds.Kind.{OneNumber, Pointed};
 ghost use Rattle.dns_record.specs.Left.{fields_leave, fields_end};
 ghost use Rattle.dns_record.specs.Rows.{row};
+ghost use Rattle.dns_record.proofs.Sizes.{canonical_long};
 ghost use Rattle.dns_basic.specs.Calls.{TakesNextAt};
 ghost use Rattle.dns_basic.specs.Types.{soa_fields};
+ghost use Rattle.dns_basic.specs.Sizes.{names_and_numbers};
 
 use dns_name::{CanonicalName, Lowercased};
 use dns_num::U32;
@@ -186,6 +190,8 @@ impl<N: CanonicalName> CanonicalRecordData for Soa<N> {
 
     ghost is_proper = { λ _. ⊤ };
 
+    ghost as_long = { λ v. canonical_long 6 (map (named_by N.name) (soa_fields v)) ∙ ap length (names_and_numbers (wire (N.name v.mname)) (wire (N.name v.rname)) (N.octets v.mname) (N.octets v.rname) (to_be_bytes w32 v.serial.0.value) (to_be_bytes w32 v.refresh.value) (to_be_bytes w32 v.retry.value) (to_be_bytes w32 v.expire.value) (to_be_bytes w32 v.minimum.value) (N.octets_are v.mname) (N.octets_are v.rname)) };
+
     fn build_canonical_at(&self, bytes: &mut [u8], start: usize) -> Result<usize, TruncationError> {
         let mname = Lowercased { name: &self.mname };
         let rname = Lowercased { name: &self.rname };
@@ -195,14 +201,30 @@ impl<N: CanonicalName> CanonicalRecordData for Soa<N> {
     }
 
     fn cmp_canonical(&self, other: &Self) -> Ordering {
-        let mname = self.mname.cmp_lowercase_composed(&other.mname);
-        let rname = self.rname.cmp_lowercase_composed(&other.rname);
-        let serial = self.serial.0.compare(&other.serial.0);
-        let refresh = self.refresh.compare(&other.refresh);
-        let retry = self.retry.compare(&other.retry);
-        let expire = self.expire.compare(&other.expire);
-        let minimum = self.minimum.compare(&other.minimum);
-        let numbers = serial.then(refresh.then(retry.then(expire.then(minimum))));
-        mname.then(rname.then(numbers))
+        match self.mname.cmp_lowercase_composed(&other.mname) {
+            Ordering::Equal => {}
+            decided => return decided,
+        }
+        match self.rname.cmp_lowercase_composed(&other.rname) {
+            Ordering::Equal => {}
+            decided => return decided,
+        }
+        match self.serial.0.compare(&other.serial.0) {
+            Ordering::Equal => {}
+            decided => return decided,
+        }
+        match self.refresh.compare(&other.refresh) {
+            Ordering::Equal => {}
+            decided => return decided,
+        }
+        match self.retry.compare(&other.retry) {
+            Ordering::Equal => {}
+            decided => return decided,
+        }
+        match self.expire.compare(&other.expire) {
+            Ordering::Equal => {}
+            decided => return decided,
+        }
+        self.minimum.compare(&other.minimum)
     }
 }

@@ -13,6 +13,7 @@ ghost use Rattle.dns_record.specs.Kinds.{fields_of, no_name};
 ghost use Rattle.dns_record.specs.Left.{bare_leave, bare_end};
 ghost use Rattle.dns_record.specs.Rows.{row};
 ghost use Rattle.dns_record.specs.Whole.{whole_pieces, told_whole};
+ghost use Rattle.dns_record.proofs.Sizes.{canonical_long};
 ghost use Rattle.dns_nsec.specs.Types.{nsec_fields};
 
 use crate::bitmaps::TypeBitmaps;
@@ -137,6 +138,8 @@ impl CanonicalRecordData for Nsec<'_> {
     ghost rank = { λ _. 0 };
 
     ghost is_proper = { λ _. ⊤ };
+
+    ghost as_long = { λ v. canonical_long 47 (nsec_fields v) };
 
     fn build_canonical_at(&self, bytes: &mut [u8], start: usize) -> Result<usize, TruncationError> {
         self.build_at(bytes, start)

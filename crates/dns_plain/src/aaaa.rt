@@ -1,6 +1,8 @@
 //! Addresses of IPv6.
 
 ghost use Rattle.std.specs.Prelude.{◌≡◌, ◌≤◌, ◌<◌, ◌^◌, ℕ, List, [], ◌∷◌, length, map, take, Option, Some, IfOk, ⊤};
+ghost use Rattle.std.proofs.Common.{◌∙◌, ap};
+ghost use Rattle.std.proofs.lemmas.List.{append-nil};
 ghost use Rattle.dns_wire.specs.Building.{Builds};
 ghost use Rattle.dns_wire.specs.Compression.{FitsIn};
 ghost use Rattle.dns_wire.specs.InMessage.{BuildsIn};
@@ -13,6 +15,7 @@ ghost use Rattle.dns_record.specs.Fields.{Field, canonical_octets};
 ghost use Rattle.dns_record.specs.Kinds.{fields_of, no_name};
 ghost use Rattle.dns_record.specs.Left.{bare_leave, bare_end};
 ghost use Rattle.dns_record.specs.Rows.{row};
+ghost use Rattle.dns_record.proofs.Sizes.{canonical_long};
 ghost use Rattle.dns_plain.specs.Types.{aaaa_fields};
 
 use dns_record::{CanonicalRecordData, DataOfType, RType};
@@ -91,7 +94,10 @@ impl BuildBytes for Aaaa {
         put(&self.octets, bytes, start)
     }
 
-    fn built_bytes_size(&self) -> usize {
+    fn built_bytes_size(&self) -> usize
+        ensures size { result ≡ length self.now.octets }
+        ensures fixed { result ≡ 16 }
+    {
         16
     }
 }
@@ -122,6 +128,8 @@ impl CanonicalRecordData for Aaaa {
     ghost rank = { λ _. 0 };
 
     ghost is_proper = { λ _. ⊤ };
+
+    ghost as_long = { λ v. canonical_long 28 (aaaa_fields v) ∙ ap length (append-nil v.octets) };
 
     fn build_canonical_at(&self, bytes: &mut [u8], start: usize) -> Result<usize, TruncationError> {
         self.build_at(bytes, start)

@@ -12,6 +12,7 @@ ghost use Rattle.dns_record.specs.Kinds.{fields_of, no_name};
 ghost use Rattle.dns_record.specs.Left.{bare_leave, bare_end};
 ghost use Rattle.dns_record.specs.Rows.{row};
 ghost use Rattle.dns_record.specs.Whole.{whole_pieces, told_whole};
+ghost use Rattle.dns_record.proofs.Sizes.{canonical_long};
 ghost use Rattle.dns_plain.specs.Types.{dname_fields};
 
 use dns_name::{CanonicalName, Lowercased, Name};
@@ -99,7 +100,11 @@ impl BuildBytes for DName<'_> {
         (&self.name, ()).build_at(bytes, start)
     }
 
-    fn built_bytes_size(&self) -> usize {
+    /// The number of octets, from 1 to 255.
+    fn built_bytes_size(&self) -> usize
+        ensures size { result ≡ length (fields_octets (dname_fields self.now)) }
+        ensures short { result ≤ 255 }
+    {
         self.name.built_bytes_size()
     }
 }
@@ -130,6 +135,8 @@ impl CanonicalRecordData for DName<'_> {
     ghost rank = { λ _. 0 };
 
     ghost is_proper = { λ _. ⊤ };
+
+    ghost as_long = { λ v. canonical_long 39 (dname_fields v) };
 
     fn build_canonical_at(&self, bytes: &mut [u8], start: usize) -> Result<usize, TruncationError> {
         let name = Lowercased { name: &self.name };

@@ -15,6 +15,7 @@ ghost use Rattle.dns_record.specs.Kinds.{fields_of, no_name};
 ghost use Rattle.dns_record.specs.Left.{bare_leave, bare_end};
 ghost use Rattle.dns_record.specs.Rows.{row};
 ghost use Rattle.dns_record.specs.Whole.{whole_pieces, told_whole};
+ghost use Rattle.dns_record.proofs.Sizes.{canonical_long};
 ghost use Rattle.dns_plain.specs.Types.{hinfo_fields};
 
 use dns_record::{CanonicalRecordData, CharStr, DataOfType, RType};
@@ -24,15 +25,6 @@ use dns_wire::{
     split_without_compression, whole,
 };
 use std::cmp::Ordering;
-
-/// The order of two strings as they stand on the wire: the shorter comes first.
-fn compare_strings(a: &CharStr<'_>, b: &CharStr<'_>) -> Ordering
-    ensures { result ≡ ordering_then (nat_cmp (length (octets_of a.now.slice.now)) (length (octets_of b.now.slice.now)))
-        (slice_cmp nat_cmp (octets_of a.now.slice.now) (octets_of b.now.slice.now)) }
-{
-    let sizes = a.len().cmp(&b.len());
-    sizes.then(a.octets().cmp(b.octets()))
-}
 
 /// The processor and the system of a host (RFC 1035 section 3.3.2).
 #[derive(Clone, Copy, Debug, PartialEq, Eq, Hash)]
@@ -104,7 +96,11 @@ impl BuildBytes for HInfo<'_> {
         (&self.cpu, (&self.os, ())).build_at(bytes, start)
     }
 
-    fn built_bytes_size(&self) -> usize {
+    /// The number of octets, from 2 to 512.
+    fn built_bytes_size(&self) -> usize
+        ensures size { result ≡ length (fields_octets (hinfo_fields self.now)) }
+        ensures short { result ≤ 512 }
+    {
         self.cpu.built_bytes_size() + self.os.built_bytes_size()
     }
 }
@@ -136,13 +132,16 @@ impl CanonicalRecordData for HInfo<'_> {
 
     ghost is_proper = { λ _. ⊤ };
 
+    ghost as_long = { λ v. canonical_long 13 (hinfo_fields v) };
+
     fn build_canonical_at(&self, bytes: &mut [u8], start: usize) -> Result<usize, TruncationError> {
         self.build_at(bytes, start)
     }
 
     fn cmp_canonical(&self, other: &Self) -> Ordering {
-        let cpu = compare_strings(&self.cpu, &other.cpu);
-        let os = compare_strings(&self.os, &other.os);
-        cpu.then(os)
+        match self.cpu.cmp_composed(&other.cpu) {
+            Ordering::Equal => self.os.cmp_composed(&other.os),
+            decided => decided,
+        }
     }
 }

@@ -13,6 +13,7 @@ ghost use Rattle.dns_record.specs.Kinds.{fields_of, no_name};
 ghost use Rattle.dns_record.specs.Left.{bare_leave, bare_end};
 ghost use Rattle.dns_record.specs.Rows.{row};
 ghost use Rattle.dns_record.specs.Whole.{whole_pieces, told_whole};
+ghost use Rattle.dns_record.proofs.Sizes.{canonical_long};
 ghost use Rattle.dns_plain.specs.Types.{srv_fields};
 
 use dns_name::{CanonicalName, Lowercased, Name};
@@ -110,7 +111,11 @@ impl BuildBytes for Srv<'_> {
             .build_at(bytes, start)
     }
 
-    fn built_bytes_size(&self) -> usize {
+    /// The number of octets, from 7 to 261.
+    fn built_bytes_size(&self) -> usize
+        ensures size { result ≡ length (fields_octets (srv_fields self.now)) }
+        ensures short { result ≤ 261 }
+    {
         self.priority.built_bytes_size()
             + self.weight.built_bytes_size()
             + self.port.built_bytes_size()
@@ -145,16 +150,26 @@ impl CanonicalRecordData for Srv<'_> {
 
     ghost is_proper = { λ _. ⊤ };
 
+    ghost as_long = { λ v. canonical_long 33 (srv_fields v) };
+
     fn build_canonical_at(&self, bytes: &mut [u8], start: usize) -> Result<usize, TruncationError> {
         let name = Lowercased { name: &self.name };
         (&self.priority, (&self.weight, (&self.port, (name, ())))).build_at(bytes, start)
     }
 
     fn cmp_canonical(&self, other: &Self) -> Ordering {
-        let priority = self.priority.compare(&other.priority);
-        let weight = self.weight.compare(&other.weight);
-        let port = self.port.compare(&other.port);
-        let name = self.name.cmp_lowercase_composed(&other.name);
-        priority.then(weight.then(port.then(name)))
+        match self.priority.compare(&other.priority) {
+            Ordering::Equal => {}
+            decided => return decided,
+        }
+        match self.weight.compare(&other.weight) {
+            Ordering::Equal => {}
+            decided => return decided,
+        }
+        match self.port.compare(&other.port) {
+            Ordering::Equal => {}
+            decided => return decided,
+        }
+        self.name.cmp_lowercase_composed(&other.name)
     }
 }

@@ -190,3 +190,26 @@ fields_compared fold (f ∷ (f2 ∷ fs)) (g ∷ (g2 ∷ gs)) is =
     field_compared fold f g (fields_octets (map (kept fold) (f2 ∷ fs))) (fields_octets (map (kept fold) (g2 ∷ gs))) is.0
     ∙ ap (ordering_then (field_cmp fold f g)) (fields_compared fold (f2 ∷ fs) (g2 ∷ gs) is.1)
 fields_compared fold fs gs is = absurd is
+
+-- ---- field by field
+
+-- where the first fields are alike, the others decide
+pub first_ties : (fold : Bool) (f g : Field) (fs gs : List Field) (r : Ordering) → FieldsMeet f g → field_cmp fold f g ≡ Equal → r ≡ slice_cmp nat_cmp (fields_octets (map (kept fold) fs)) (fields_octets (map (kept fold) gs)) → r ≡ slice_cmp nat_cmp (fields_octets (map (kept fold) (f ∷ fs))) (fields_octets (map (kept fold) (g ∷ gs)))
+first_ties fold f g fs gs r is e later =
+    let rest : Ordering = slice_cmp nat_cmp (fields_octets (map (kept fold) fs)) (fields_octets (map (kept fold) gs)) in
+    later ∙ sym (field_compared fold f g (fields_octets (map (kept fold) fs)) (fields_octets (map (kept fold) gs)) is ∙ ap (λ o. ordering_then o rest) e)
+
+decided : (o rest : Ordering) → (o ≡ Equal → ⊥) → ordering_then o rest ≡ o
+decided Less rest n = refl
+decided Equal rest n = absurd (n refl)
+decided Greater rest n = refl
+
+-- and where they are not, they do
+pub first_decides : (fold : Bool) (f g : Field) (fs gs : List Field) (o : Ordering) → FieldsMeet f g → o ≡ field_cmp fold f g → (o ≡ Equal → ⊥) → o ≡ slice_cmp nat_cmp (fields_octets (map (kept fold) (f ∷ fs))) (fields_octets (map (kept fold) (g ∷ gs)))
+first_decides fold f g fs gs o is e n =
+    let rest : Ordering = slice_cmp nat_cmp (fields_octets (map (kept fold) fs)) (fields_octets (map (kept fold) gs)) in
+    sym (field_compared fold f g (fields_octets (map (kept fold) fs)) (fields_octets (map (kept fold) gs)) is ∙ ap (λ p. ordering_then p rest) (sym e) ∙ decided o rest n)
+
+-- the last fields decide by themselves
+pub last_decides : (fold : Bool) (f g : Field) (o : Ordering) → LastMeet f g → o ≡ field_cmp fold f g → o ≡ slice_cmp nat_cmp (fields_octets (map (kept fold) (f ∷ []))) (fields_octets (map (kept fold) (g ∷ [])))
+last_decides fold f g o is e = e ∙ sym (last_compared fold f g is)

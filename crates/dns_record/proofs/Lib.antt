@@ -5,7 +5,6 @@ pub mod CharStrCells
 pub mod CharStrStored
 pub mod Compared
 pub mod EachRow
-pub mod FieldOrder
 pub mod Named
 pub mod Places
 pub mod Sizes

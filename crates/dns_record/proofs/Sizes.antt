@@ -7,12 +7,13 @@ use Rattle.std.proofs.lemmas.Bool.Decides.{nat_tests}
 use Rattle.std.proofs.lemmas.List.{length-append}
 use Rattle.dns_wire.proofs.Lowered.{lowered_long}
 use Rattle.dns_record.specs.Data.{data_in}
-use Rattle.dns_record.specs.Fields.{Field, field_octets, fields_octets, folded_field}
+use Rattle.dns_record.specs.Fields.{Field, field_octets, fields_octets, folded_field, canonical_octets}
 use Rattle.dns_record.specs.Fields.FieldOf.{Named, Bare, Raw, Sized, Byte, Number}
 use Rattle.dns_record.specs.InPlace.{FieldAt, FieldsAt, DataAt}
 use Rattle.dns_record.specs.Kinds.{Kind}
 use Rattle.dns_record.specs.Kinds.Kind.{OneByte, OneNumber, SoMany, Pointed, Plain, Text, Texts, Windows, SomeWindows, Rest}
 use Rattle.dns_record.specs.Rows.{row}
+use Rattle.dns_record.specs.Types.{is_lowercased}
 use Rattle.dns_record.proofs.EachRow.{of_each_row}
 use Rattle.dns_record.proofs.Bare.{is_bare, all_bare}
 use Rattle.dns_wire.specs.Pointers.{name_at}
@@ -130,3 +131,13 @@ data_short_at rtype contents at fields short is = elim (row_measured rtype) [
 
 pub data_short : (rtype : ℕ) (contents : List ℕ) (at : ℕ) (fields : List Field) → length contents < at + 2 ^ 16 → data_in name_at rtype contents at ≡ Some fields → length (fields_octets fields) < 2 ^ 16
 data_short rtype contents at fields short is = data_short_at rtype contents at fields short (data_is rtype contents at fields is)
+
+-- ---- in canonical form
+
+as_long : (fold : Bool) (fields : List Field) → length (fields_octets (cond fold (map folded_field fields) fields)) ≡ length (fields_octets fields)
+as_long true fields = folded_long fields
+as_long false fields = refl
+
+-- canonical octets are as many as the octets of the fields
+pub canonical_long : (rtype : ℕ) (fields : List Field) → length (canonical_octets rtype fields) ≡ length (fields_octets fields)
+canonical_long rtype fields = as_long (is_lowercased rtype) fields

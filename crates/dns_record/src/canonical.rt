@@ -52,6 +52,10 @@ pub trait CanonicalRecordData: BuildBytes {
             Err(error) => Err(error),
         }
     }
+
+    /// The canonical octets are as many as those that `build_at` writes, since small letters are as many: a
+    /// buffer of `built_bytes_size` octets takes either.
+    ghost as_long: { (v : Self) → length (canonical v) ≡ length (Self.octets v) };
 }
 
 /// What the reference leads to.
@@ -61,6 +65,8 @@ impl<T: CanonicalRecordData> CanonicalRecordData for &T {
     ghost rank = { λ v. T.rank v.now };
 
     ghost is_proper = { λ v. T.is_proper v.now };
+
+    ghost as_long = { λ v. T.as_long v.now };
 
     fn build_canonical_at(&self, bytes: &mut [u8], start: usize) -> Result<usize, TruncationError> {
         (**self).build_canonical_at(bytes, start)
@@ -79,6 +85,8 @@ impl<T: CanonicalRecordData> CanonicalRecordData for Box<T> {
 
     ghost is_proper = { λ v. T.is_proper v.value };
 
+    ghost as_long = { λ v. T.as_long v.value };
+
     fn build_canonical_at(&self, bytes: &mut [u8], start: usize) -> Result<usize, TruncationError> {
         (**self).build_canonical_at(bytes, start)
     }
@@ -95,6 +103,8 @@ impl<T: CanonicalRecordData> CanonicalRecordData for Rc<T> {
     ghost rank = { λ v. T.rank v.value };
 
     ghost is_proper = { λ v. T.is_proper v.value };
+
+    ghost as_long = { λ v. T.as_long v.value };
 
     fn build_canonical_at(&self, bytes: &mut [u8], start: usize) -> Result<usize, TruncationError> {
         (**self).build_canonical_at(bytes, start)

@@ -3,8 +3,8 @@
 ghost use Rattle.std.specs.Prelude.{◌≡◌, ◌≤◌, ◌↔◌, ℕ, List, [], length, Some, None, IsTrue, ⊤};
 ghost use Rattle.std.proofs.Props.{props};
 ghost use Rattle.std.specs.Cmp.{on_equiv, partial_equiv_from_equiv};
-ghost use Rattle.std.specs.Cmp.Lexicographic.{on_texts_equal};
-ghost use Rattle.std.specs.Ordering.{on};
+ghost use Rattle.std.specs.Cmp.Lexicographic.{on_texts_equal, slice_cmp};
+ghost use Rattle.std.specs.Ordering.{nat_cmp, on};
 ghost use Rattle.std.specs.Str.{str_to_ascii_lowercase};
 ghost use Rattle.dns_wire.specs.Left.{plain_ends};
 ghost use Rattle.dns_record.specs.Left.{text_leaves};
@@ -20,6 +20,7 @@ use dns_wire::{
     SplitBytes, SplitMessageBytes, TruncationError, build_whole, parse_without_compression, put,
     split_without_compression, whole,
 };
+use std::cmp::Ordering;
 use std::hash::{Hash, Hasher};
 
 /// A character string: an octet with the number of the others, and so many octets (RFC 1035 section 3.3).
@@ -47,6 +48,13 @@ impl<'a> CharStr<'a> {
         ensures wire { result.now ≡ charstr_wire (octets_of self.now.slice.now) }
     {
         self.slice
+    }
+
+    /// The order of the two as they stand on the wire: the shorter comes first (RFC 4034 section 6.3).
+    pub fn cmp_composed(&self, other: &CharStr<'_>) -> Ordering
+        ensures { result ≡ slice_cmp nat_cmp (charstr_wire (octets_of self.now.slice.now)) (charstr_wire (octets_of other.now.slice.now)) }
+    {
+        self.wire().cmp(other.wire())
     }
 
     /// The number of octets, from 0 to 255, the length octet not counted.
@@ -121,8 +129,12 @@ impl BuildBytes for CharStr<'_> {
         put(self.wire(), bytes, start)
     }
 
-    fn built_bytes_size(&self) -> usize {
-        self.wire().len()
+    /// The number of octets, from 1 to 256.
+    fn built_bytes_size(&self) -> usize
+        ensures size { result ≡ length (charstr_wire (octets_of self.now.slice.now)) }
+        ensures short { result ≤ 256 }
+    {
+        1 + self.len()
     }
 }
 

@@ -178,7 +178,11 @@ impl BuildBytes for CharStrBuf {
         self.as_charstr().build_at(bytes, start)
     }
 
-    fn built_bytes_size(&self) -> usize {
+    /// The number of octets, from 1 to 256.
+    fn built_bytes_size(&self) -> usize
+        ensures size { result ≡ length (charstr_wire self.now) }
+        ensures short { result ≤ 256 }
+    {
         self.as_charstr().built_bytes_size()
     }
 }

@@ -1,6 +1,7 @@
 //! The definitions of this crate in other words.
 
-ghost use Rattle.std.specs.Prelude.{◌≡◌, ◌↔◌, ◌<◌, ◌+◌, ◌^◌, ℕ, List, Some, length};
+ghost use Rattle.std.specs.Prelude.{◌≡◌, ◌↔◌, ◌<◌, ◌+◌, ◌-◌, ◌^◌, ◌⊎◌, ℕ, List, Some, None, length};
+ghost use Rattle.std.specs.declared.cmp.Ordering.TheVariants.{Less, Equal, Greater};
 ghost use Rattle.dns_wire.specs.Pointers.{name_at};
 ghost use Rattle.dns_record.specs.Fields.{Field, fields_octets};
 ghost use Rattle.dns_record.specs.InPlace.{FieldsAt, DataAt, QuestionAt, RecordAt};
@@ -8,6 +9,7 @@ ghost use Rattle.dns_record.specs.Kinds.{Kind, fields_in};
 ghost use Rattle.dns_record.specs.Data.{data_in};
 ghost use Rattle.dns_record.specs.Questions.{QuestionOf, question_in};
 ghost use Rattle.dns_record.specs.Records.{RecordOf, record_in};
+ghost use Rattle.dns_record.specs.Serials.{serial_cmp};
 
 /// What is read in a message, its names with their pointers followed, is what stands there: fields of the
 /// kinds of a row, one after another; the data of a type, which end where the record does; a question, and a
@@ -29,4 +31,17 @@ pub fn items_in_words()
 pub fn whole_data_are_short()
     ensures { (rtype : ℕ) (contents : List ℕ) (at : ℕ) (fields : List Field) → length contents < at + 2 ^ 16 →
         DataAt rtype contents at fields → length (fields_octets fields) < 2 ^ 16 }
+{}
+
+/// Two serial numbers compare as RFC 1982 section 3.2 says: they are equal where their values are. The first is less where
+/// it is below the other by less than 2^31, or above it by more; it is greater where it is below the other by more than 2^31,
+/// or above it by less. Where they are 2^31 apart, neither holds.
+pub fn serial_numbers_compare()
+    ensures equal { (a b : ℕ) → a < 2 ^ 32 → b < 2 ^ 32 → (serial_cmp a b ≡ Some Equal) ↔ (a ≡ b) }
+    ensures less { (a b : ℕ) → a < 2 ^ 32 → b < 2 ^ 32 →
+        (serial_cmp a b ≡ Some Less) ↔ (((a < b) × (b - a < 2 ^ 31)) ⊎ ((b < a) × (2 ^ 31 < a - b))) }
+    ensures greater { (a b : ℕ) → a < 2 ^ 32 → b < 2 ^ 32 →
+        (serial_cmp a b ≡ Some Greater) ↔ (((a < b) × (2 ^ 31 < b - a)) ⊎ ((b < a) × (a - b < 2 ^ 31))) }
+    ensures neither { (a b : ℕ) → a < 2 ^ 32 → b < 2 ^ 32 →
+        (serial_cmp a b ≡ None) ↔ (((a < b) × (b - a ≡ 2 ^ 31)) ⊎ ((b < a) × (a - b ≡ 2 ^ 31))) }
 {}

@@ -1,7 +1,7 @@
 //! Types that a question asks for.
 
 ghost use Rattle.dns_wire.specs.Left.{number_leaves, plain_ends};
-ghost use Rattle.std.specs.Prelude.{◌≡◌, ℕ, [], None, ⊤};
+ghost use Rattle.std.specs.Prelude.{◌≡◌, ℕ, [], None, ⊤, length};
 ghost use Rattle.std.specs.Int.{w16, to_be_bytes};
 ghost use Rattle.dns_wire.specs.Pieces.{whole_presses};
 ghost use Rattle.dns_wire.specs.Reading.{number, plain_at};
@@ -217,7 +217,10 @@ impl BuildBytes for QType {
         self.code.build_at(bytes, start)
     }
 
-    fn built_bytes_size(&self) -> usize {
+    fn built_bytes_size(&self) -> usize
+        ensures size { result ≡ length (to_be_bytes w16 self.now.code.value) }
+        ensures fixed { result ≡ 2 }
+    {
         self.code.built_bytes_size()
     }
 }

@@ -3,7 +3,7 @@
 ghost use Rattle.dns_record.specs.Left.{record_leaves, record_ends};
 ghost use Rattle.std.specs.Prelude.{◌≡◌, ◌≤◌, ◌<◌, ◌^◌, [], length, IfOk};
 ghost use Rattle.std.specs.Fn.{FnOnceTakesAt, FnOnceReturnsAt};
-ghost use Rattle.dns_wire.specs.Reading.{Gives, octets};
+ghost use Rattle.dns_wire.specs.Reading.{Gives};
 ghost use Rattle.dns_record.specs.Records.{RecordOf, record_at, record_in, record_octets, SizedData, SizedDataIn};
 ghost use Rattle.dns_record.specs.Seen.{record_seen};
 
@@ -14,7 +14,7 @@ use crate::ttl::TTL;
 use dns_num::{SizePrefixed, U16};
 use dns_wire::{
     BuildBytes, ParseBytes, ParseError, ParseMessageBytes, SplitBytes, SplitMessageBytes,
-    TruncationError, whole, whole_message,
+    TruncationError, split_octets, whole, whole_message,
 };
 
 /// A record: an owner, a type, a class, a time to live, and data (RFC 1035 section 4.1.3).
@@ -87,16 +87,6 @@ impl<N, D> Record<N, D> {
             rdata: data_map(&self.rdata),
         }
     }
-}
-
-/// So many octets, and those behind them.
-fn split_octets(bytes: &[u8], size: usize) -> Result<(&[u8], &[u8]), ParseError>
-    ensures { Gives (λ x. (x.0.now, x.1.now)) result (octets size bytes.now) }
-{
-    if bytes.len() < size {
-        return Err(ParseError);
-    }
-    Ok(bytes.split_at(size))
 }
 
 impl<'a, N: SplitBytes<'a>, D: ParseRecordDataBytes<'a>> ParseBytes<'a> for Record<N, D> {

@@ -1,7 +1,7 @@
 //! Serial numbers.
 
 ghost use Rattle.dns_wire.specs.Left.{number_leaves, plain_ends};
-ghost use Rattle.std.specs.Prelude.{◌≡◌, ◌≤ℤ◌, ◌+◌, ◌%◌, ◌^◌, ℕ, pos, [], Some, None, ⊤};
+ghost use Rattle.std.specs.Prelude.{◌≡◌, ◌≤ℤ◌, ◌+◌, ◌%◌, ◌^◌, ℕ, pos, [], Some, None, ⊤, length};
 ghost use Rattle.std.specs.Int.{w32, to_be_bytes};
 ghost use Rattle.std.specs.Fmt.{decimal};
 ghost use Rattle.dns_wire.specs.Pieces.{whole_presses};
@@ -125,7 +125,10 @@ impl BuildBytes for Serial {
         self.0.build_at(bytes, start)
     }
 
-    fn built_bytes_size(&self) -> usize {
+    fn built_bytes_size(&self) -> usize
+        ensures size { result ≡ length (to_be_bytes w32 self.now.0.value) }
+        ensures fixed { result ≡ 4 }
+    {
         self.0.built_bytes_size()
     }
 }

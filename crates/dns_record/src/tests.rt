@@ -280,12 +280,15 @@ impl BuildBytes for Octets {
 
 impl CanonicalRecordData for Octets {
     ghost use Rattle.std.specs.Prelude.{⊤};
+    ghost use Rattle.std.proofs.Common.{refl};
 
     ghost canonical = { λ v. v.octets };
 
     ghost rank = { λ _. 0 };
 
     ghost is_proper = { λ _. ⊤ };
+
+    ghost as_long = { λ _. refl };
 
     fn build_canonical_at(&self, bytes: &mut [u8], start: usize) -> Result<usize, TruncationError> {
         put(&self.octets, bytes, start)

@@ -1,7 +1,7 @@
 //! Times to live.
 
 ghost use Rattle.dns_wire.specs.Left.{number_leaves, plain_ends};
-ghost use Rattle.std.specs.Prelude.{◌≡◌, ℕ, [], None, ⊤};
+ghost use Rattle.std.specs.Prelude.{◌≡◌, ℕ, [], None, ⊤, length};
 ghost use Rattle.std.specs.Int.{w32, to_be_bytes};
 ghost use Rattle.dns_wire.specs.Pieces.{whole_presses};
 ghost use Rattle.dns_wire.specs.Reading.{number, plain_at};
@@ -94,7 +94,10 @@ impl BuildBytes for TTL {
         self.value.build_at(bytes, start)
     }
 
-    fn built_bytes_size(&self) -> usize {
+    fn built_bytes_size(&self) -> usize
+        ensures size { result ≡ length (to_be_bytes w32 self.now.value.value) }
+        ensures fixed { result ≡ 4 }
+    {
         self.value.built_bytes_size()
     }
 }

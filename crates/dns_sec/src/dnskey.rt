@@ -12,6 +12,7 @@ ghost use Rattle.dns_record.specs.Kinds.{fields_of, no_name};
 ghost use Rattle.dns_record.specs.Left.{bare_leave, bare_end};
 ghost use Rattle.dns_record.specs.Rows.{row};
 ghost use Rattle.dns_record.specs.Whole.{whole_pieces, told_whole};
+ghost use Rattle.dns_record.proofs.Sizes.{canonical_long};
 ghost use Rattle.dns_sec.specs.Types.{dnskey_fields};
 
 use crate::dnskey_flags::DNSKeyFlags;
@@ -120,6 +121,8 @@ impl CanonicalRecordData for DNSKey<'_> {
     ghost rank = { λ _. 0 };
 
     ghost is_proper = { λ _. ⊤ };
+
+    ghost as_long = { λ v. canonical_long 48 (dnskey_fields v) };
 
     fn build_canonical_at(&self, bytes: &mut [u8], start: usize) -> Result<usize, TruncationError> {
         self.build_at(bytes, start)

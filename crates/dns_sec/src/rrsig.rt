@@ -12,6 +12,7 @@ ghost use Rattle.dns_record.specs.Kinds.{fields_of, no_name};
 ghost use Rattle.dns_record.specs.Left.{bare_leave, bare_end};
 ghost use Rattle.dns_record.specs.Rows.{row};
 ghost use Rattle.dns_record.specs.Whole.{whole_pieces, told_whole};
+ghost use Rattle.dns_record.proofs.Sizes.{canonical_long};
 ghost use Rattle.dns_sec.specs.Types.{rrsig_fields};
 
 use crate::sec_alg::SecAlg;
@@ -201,6 +202,8 @@ impl CanonicalRecordData for Rrsig<'_> {
     ghost rank = { λ _. 0 };
 
     ghost is_proper = { λ _. ⊤ };
+
+    ghost as_long = { λ v. canonical_long 46 (rrsig_fields v) };
 
     #[tactic(auto, using(dns_wire::proofs::Several::themselves))]
     fn build_canonical_at(&self, bytes: &mut [u8], start: usize) -> Result<usize, TruncationError> {

@@ -39,7 +39,7 @@ pub use memory::{NullSink, PlainSource, TextSink, TextSource};
 pub use outside::{Failed, Sink, Source};
 pub use parse::{
     ParseBytes, ParseMessageBytes, ParseName, SplitBytes, SplitMessageBytes,
-    parse_without_compression, split_without_compression, whole, whole_message,
+    parse_without_compression, split_octets, split_without_compression, whole, whole_message,
 };
 pub use sizes::{HEADER_SIZE, LAST_PLACE, MAX_LABEL_SIZE, MAX_PLACES, POINTER_TAG};
 

@@ -104,6 +104,16 @@ pub fn whole_message<T: Drop>(
     }
 }
 
+/// So many octets from the front, and those behind them. `ParseError` comes exactly where there are fewer.
+pub fn split_octets(bytes: &[u8], size: usize) -> Result<(&[u8], &[u8]), ParseError>
+    ensures { Gives (λ x. (x.0.now, x.1.now)) result (octets size bytes.now) }
+{
+    if bytes.len() < size {
+        return Err(ParseError);
+    }
+    Ok(bytes.split_at(size))
+}
+
 /// Reads the value that all the octets from the place on spell, with no pointers. `ParseError` comes
 /// exactly where they spell none, and from a place behind the end.
 pub fn parse_without_compression<'a, T: ParseBytes<'a>>(

@@ -1,10 +1,15 @@
-use Rattle.std.proofs.Common.{sym, ◌∙◌, true}
-use Rattle.dns_basic.specs.Types.{rp_fields}
-use Rattle.std.specs.Prelude.{map}
-use Rattle.dns_record.specs.Fields.{named_by}
-use Rattle.dns_record.proofs.Compared.{fields_compared}
+use Rattle.std.proofs.Common.{sym, ◌∙◌, true, [], ◌∷◌}
+use Rattle.dns_record.specs.Fields.FieldOf.{Named}
+use Rattle.dns_record.proofs.Compared.{first_ties, first_decides, last_decides}
 use Rattle.dns_basic.proofs.rp.RpCanonicalRecordData.cmp_canonical.Goals as goal
 
-pub returns : goal.returns
-returns g c =
-    c.then.ensures ∙ rw (c.cmp_lowercase_composed-mailbox.ensures.order, c.cmp_lowercase_composed-texts.ensures.order) (sym (fields_compared true (map (named_by g.N.CanonicalName.name) (rp_fields c.args.self.now)) (map (named_by g.N.CanonicalName.name) (rp_fields c.args.other.now)) (c.cmp_lowercase_composed-mailbox.ensures.names, c.cmp_lowercase_composed-texts.ensures.names)))
+pub returns-in-Equal : goal.returns-in-Equal
+returns-in-Equal g c =
+    let name = g.N.CanonicalName.name in let a = c.args.self.now in let b = c.args.other.now in
+    first_ties true (Named (name a.mailbox)) (Named (name b.mailbox)) (Named (name a.texts) ∷ []) (Named (name b.texts) ∷ []) _ c.cmp_lowercase_composed.ensures.names (sym c.cmp_lowercase_composed.ensures.order ∙ c.in-Equal.is)
+    (last_decides true (Named (name a.texts)) (Named (name b.texts)) _ c.cmp_lowercase_composed-in-Equal.ensures.names c.cmp_lowercase_composed-in-Equal.ensures.order)
+
+pub returns-in_default : goal.returns-in_default
+returns-in_default g c =
+    let name = g.N.CanonicalName.name in let a = c.args.self.now in let b = c.args.other.now in
+    first_decides true (Named (name a.mailbox)) (Named (name b.mailbox)) (Named (name a.texts) ∷ []) (Named (name b.texts) ∷ []) _ c.cmp_lowercase_composed.ensures.names c.cmp_lowercase_composed.ensures.order c.in_default.not-Equal

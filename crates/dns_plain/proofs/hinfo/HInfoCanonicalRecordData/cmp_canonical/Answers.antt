@@ -1,8 +1,17 @@
-use Rattle.std.proofs.Common.{sym, ◌∙◌, false}
-use Rattle.dns_record.proofs.Compared.{fields_compared}
-use Rattle.dns_plain.specs.Types.{hinfo_fields}
+use Rattle.std.proofs.Common.{sym, ◌∙◌, false, [], ◌∷◌}
+use Rattle.dns_record.specs.CharStrs.{octets_of}
+use Rattle.dns_record.specs.Fields.{Field}
+use Rattle.dns_record.specs.Fields.FieldOf.{Sized}
+use Rattle.dns_record.proofs.Compared.{first_ties, first_decides, last_decides}
 use Rattle.dns_plain.proofs.hinfo.HInfoCanonicalRecordData.cmp_canonical.Goals as goal
 
-pub returns : goal.returns
-returns c =
-    c.then.ensures ∙ rw (c.compare_strings-cpu.ensures, c.compare_strings-os.ensures) (sym (fields_compared false (hinfo_fields c.args.self.now) (hinfo_fields c.args.other.now) (tt, tt)))
+pub returns-in-Equal : goal.returns-in-Equal
+returns-in-Equal c =
+    let a = c.args.self.now in let b = c.args.other.now in
+    first_ties false (Sized (octets_of a.cpu.slice.now)) (Sized (octets_of b.cpu.slice.now)) (Sized (octets_of a.os.slice.now) ∷ []) (Sized (octets_of b.os.slice.now) ∷ []) _ tt (sym c.cmp_composed.ensures ∙ c.in-Equal.is)
+    (last_decides false (Sized (octets_of a.os.slice.now)) (Sized (octets_of b.os.slice.now)) _ tt c.cmp_composed-in-Equal.ensures)
+
+pub returns-in_default : goal.returns-in_default
+returns-in_default c =
+    let a = c.args.self.now in let b = c.args.other.now in
+    first_decides false (Sized (octets_of a.cpu.slice.now)) (Sized (octets_of b.cpu.slice.now)) (Sized (octets_of a.os.slice.now) ∷ []) (Sized (octets_of b.os.slice.now) ∷ []) _ tt c.cmp_composed.ensures c.in_default.not-Equal
