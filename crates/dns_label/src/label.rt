@@ -141,8 +141,6 @@ impl<'a> BuildBytes for Label<'a> {
 
     ghost octets = { λ v. label_wire (contents_of v.slice.now) };
 
-    ghost fits = { λ _. ⊤ };
-
     fn build_at(&self, bytes: &mut [u8], start: usize) -> Result<usize, TruncationError> {
         put(self.as_wire(), bytes, start)
     }
@@ -162,10 +160,6 @@ impl<'a> BuildInMessage for Label<'a> {
     ghost use Rattle.dns_wire.specs.Pieces.{whole_presses};
 
     ghost presses = { λ v. whole_presses (label_wire (contents_of v.slice.now)) };
-
-    ghost fits_in = { λ _ _ _. ⊤ };
-
-    ghost pieces = { λ _. None };
 
     ghost told = { λ _. tt };
 

@@ -211,8 +211,6 @@ impl BuildBytes for LabelBuf {
 
     ghost octets = { λ v. label_wire v };
 
-    ghost fits = { λ _. ⊤ };
-
     fn build_at(&self, bytes: &mut [u8], start: usize) -> Result<usize, TruncationError> {
         self.as_label().build_at(bytes, start)
     }
@@ -233,10 +231,6 @@ impl BuildInMessage for LabelBuf {
     ghost use Rattle.dns_label.specs.Labels.{label_wire};
 
     ghost presses = { λ v. whole_presses (label_wire v) };
-
-    ghost fits_in = { λ _ _ _. ⊤ };
-
-    ghost pieces = { λ _. None };
 
     ghost told = { λ _. tt };
 

@@ -13,8 +13,6 @@ use dns_wire::{BuildInMessage, NameCompressor, TruncationError, put_name};
 impl BuildInMessage for Name<'_> {
     ghost presses = { λ v. name_presses (labels_of v.slice.now) };
 
-    ghost fits_in = { λ _ _ _. ⊤ };
-
     ghost pieces = { λ v. Some (Pressed (labels_of v.slice.now) ∷ []) };
 
     ghost told = { λ v. told_piece (Pressed (labels_of v.slice.now)) };
@@ -31,8 +29,6 @@ impl BuildInMessage for Name<'_> {
 
 impl BuildInMessage for NameBuf {
     ghost presses = { name_presses };
-
-    ghost fits_in = { λ _ _ _. ⊤ };
 
     ghost pieces = { λ v. Some (Pressed v ∷ []) };
 

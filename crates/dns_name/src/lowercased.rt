@@ -17,8 +17,6 @@ pub struct Lowercased<'a, N> {
 impl<N: CanonicalName> BuildBytes for Lowercased<'_, N> {
     ghost octets = { λ v. wire (lowered (N.name v.name.now)) };
 
-    ghost fits = { λ _. ⊤ };
-
     fn build_at(&self, bytes: &mut [u8], start: usize) -> Result<usize, TruncationError> {
         self.name.build_lowercased_at(bytes, start)
     }

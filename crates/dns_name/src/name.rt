@@ -128,8 +128,6 @@ impl<'a> BuildBytes for Name<'a> {
 
     ghost octets = { λ v. wire (labels_of v.slice.now) };
 
-    ghost fits = { λ _. ⊤ };
-
     fn build_at(&self, bytes: &mut [u8], start: usize) -> Result<usize, TruncationError> {
         put(self.as_bytes(), bytes, start)
     }

@@ -183,8 +183,6 @@ impl BuildBytes for NameBuf {
 
     ghost octets = { λ v. wire v };
 
-    ghost fits = { λ _. ⊤ };
-
     fn build_at(&self, bytes: &mut [u8], start: usize) -> Result<usize, TruncationError> {
         self.as_name().build_at(bytes, start)
     }

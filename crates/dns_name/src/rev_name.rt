@@ -90,8 +90,6 @@ impl<'a> RevName<'a> {
 impl BuildBytes for RevName<'_> {
     ghost octets = { λ v. wire (reversed_labels_of v.slice.now) };
 
-    ghost fits = { λ _. ⊤ };
-
     fn build_at(&self, bytes: &mut [u8], start: usize) -> Result<usize, TruncationError> {
         if bytes.len() - start < self.len() {
             return Err(TruncationError);

@@ -181,8 +181,6 @@ impl BuildBytes for RevNameBuf {
 
     ghost octets = { λ v. wire v };
 
-    ghost fits = { λ _. ⊤ };
-
     fn build_at(&self, bytes: &mut [u8], start: usize) -> Result<usize, TruncationError> {
         self.as_revname().build_at(bytes, start)
     }

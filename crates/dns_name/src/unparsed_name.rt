@@ -189,8 +189,6 @@ impl BuildBytes for UnparsedName<'_> {
 
     ghost octets = { λ v. unparsed_wire (unparsed_of v.slice.now) };
 
-    ghost fits = { λ _. ⊤ };
-
     fn build_at(&self, bytes: &mut [u8], start: usize) -> Result<usize, TruncationError> {
         put(self.as_bytes(), bytes, start)
     }

@@ -156,8 +156,6 @@ impl<'a> SplitMessageBytes<'a> for U16 {
 impl BuildBytes for U16 {
     ghost octets = { λ v. to_be_bytes w16 v.value };
 
-    ghost fits = { λ _. ⊤ };
-
     fn build_at(&self, bytes: &mut [u8], start: usize) -> Result<usize, TruncationError> {
         put(&self.value.to_be_bytes(), bytes, start)
     }
@@ -170,10 +168,6 @@ impl BuildBytes for U16 {
 /// Whole, with no name in it.
 impl BuildInMessage for U16 {
     ghost presses = { λ v. whole_presses (to_be_bytes w16 v.value) };
-
-    ghost fits_in = { λ _ _ _. ⊤ };
-
-    ghost pieces = { λ _. None };
 
     ghost told = { λ _. tt };
 

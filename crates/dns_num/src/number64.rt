@@ -134,8 +134,6 @@ impl<'a> SplitMessageBytes<'a> for U64 {
 impl BuildBytes for U64 {
     ghost octets = { λ v. to_be_bytes w64 v.value };
 
-    ghost fits = { λ _. ⊤ };
-
     fn build_at(&self, bytes: &mut [u8], start: usize) -> Result<usize, TruncationError> {
         put(&self.value.to_be_bytes(), bytes, start)
     }
@@ -148,10 +146,6 @@ impl BuildBytes for U64 {
 /// Whole, with no name in it.
 impl BuildInMessage for U64 {
     ghost presses = { λ v. whole_presses (to_be_bytes w64 v.value) };
-
-    ghost fits_in = { λ _ _ _. ⊤ };
-
-    ghost pieces = { λ _. None };
 
     ghost told = { λ _. tt };
 

@@ -13,7 +13,7 @@ pub trait BuildBytes {
     ghost octets: { Self → List ℕ };
 
     /// All its prefixed data fit their prefixes.
-    ghost fits: { Self → Type 0 };
+    ghost fits: { Self → Type 0 } = { λ _. ⊤ };
 
     /// Writes the value at a place of the buffer, and gives the place where it ends. It is accepted
     /// exactly where the prefixed data fit and the octets are at most those from `start` on.
@@ -79,8 +79,6 @@ pub fn put(octets: &[u8], bytes: &mut [u8], start: usize) -> Result<usize, Trunc
 /// One octet.
 impl BuildBytes for u8 {
     ghost octets = { λ v. v ∷ [] };
-
-    ghost fits = { λ _. ⊤ };
 
     fn build_at(&self, bytes: &mut [u8], start: usize) -> Result<usize, TruncationError> {
         put(&[*self], bytes, start)

@@ -12,8 +12,6 @@ use std::rc::Rc;
 impl BuildBytes for () {
     ghost octets = { λ _. [] };
 
-    ghost fits = { λ _. ⊤ };
-
     fn build_at(&self, _bytes: &mut [u8], start: usize) -> Result<usize, TruncationError> {
         Ok(start)
     }

@@ -19,10 +19,10 @@ pub trait BuildInMessage {
 
     /// All its prefixed data fit their prefixes, where it is written behind contents and names at these
     /// places are known.
-    ghost fits_in: { Self → List ℕ → List ℕ → Type 0 };
+    ghost fits_in: { Self → List ℕ → List ℕ → Type 0 } = { λ _ _ _. ⊤ };
 
     /// The value's pieces, where it tells them: names that are pressed, and octets as they are.
-    ghost pieces: { Self → Option (List Piece) };
+    ghost pieces: { Self → Option (List Piece) } = { λ _. None };
 
     /// Writes the value at a place of the contents, which are the octets behind the header, and gives the
     /// place where it ends. The compressor knows names before `start`, and afterwards those of the value
@@ -97,10 +97,6 @@ pub fn build_whole<T: BuildBytes>(
 impl BuildInMessage for u8 {
     ghost presses = { λ v. whole_presses (v ∷ []) };
 
-    ghost fits_in = { λ _ _ _. ⊤ };
-
-    ghost pieces = { λ _. None };
-
     ghost told = { λ _. tt };
 
     fn build_in_message(
@@ -126,10 +122,6 @@ impl BuildInMessage for u8 {
 /// No octets.
 impl BuildInMessage for () {
     ghost presses = { λ _. whole_presses [] };
-
-    ghost fits_in = { λ _ _ _. ⊤ };
-
-    ghost pieces = { λ _. None };
 
     ghost told = { λ _. tt };
 

@@ -14,8 +14,6 @@ impl<T: BuildInMessage> BuildInMessage for &[T] {
 
     ghost fits_in = { λ v. list_fits T.fits_in T.presses v.now };
 
-    ghost pieces = { λ _. None };
-
     ghost told = { λ _. tt };
 
     fn build_in_message(
@@ -34,8 +32,6 @@ impl<T: BuildInMessage, const N: usize> BuildInMessage for [T; N] {
 
     ghost fits_in = { λ v. list_fits T.fits_in T.presses v };
 
-    ghost pieces = { λ _. None };
-
     ghost told = { λ _. tt };
 
     fn build_in_message(
@@ -53,8 +49,6 @@ impl<T: BuildInMessage> BuildInMessage for Vec<T> {
     ghost presses = { λ v. list_presses T.presses v.items };
 
     ghost fits_in = { λ v. list_fits T.fits_in T.presses v.items };
-
-    ghost pieces = { λ _. None };
 
     ghost told = { λ _. tt };
 

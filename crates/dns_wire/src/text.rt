@@ -50,8 +50,6 @@ impl<'a> ParseMessageBytes<'a> for &'a str {
 impl BuildBytes for &str {
     ghost octets = { λ v. v.now };
 
-    ghost fits = { λ _. ⊤ };
-
     fn build_at(&self, bytes: &mut [u8], start: usize) -> Result<usize, TruncationError> {
         put(self.as_bytes(), bytes, start)
     }
@@ -64,10 +62,6 @@ impl BuildBytes for &str {
 /// Whole, with no name in it.
 impl BuildInMessage for &str {
     ghost presses = { λ v. whole_presses v.now };
-
-    ghost fits_in = { λ _ _ _. ⊤ };
-
-    ghost pieces = { λ _. None };
 
     ghost told = { λ _. tt };
 
