@@ -1,6 +1,6 @@
 //! The definitions of this crate in other words.
 
-ghost use Rattle.std.specs.Prelude.{◌≡◌, ◌↔◌, Contains, ℕ, List, [], true};
+ghost use Rattle.std.specs.Prelude.{◌≡◌, ◌<◌, ◌^◌, ◌↔◌, slice_index, Contains, ℕ, List, [], true};
 ghost use Rattle.std.specs.List.Sorted.{IsStrictlyIncreasing};
 ghost use Rattle.dns_wire.specs.Reading.{AreOctets};
 ghost use Rattle.dns_record.specs.Windows.{is_bitmap};
@@ -25,4 +25,10 @@ pub fn types_of_bitmaps()
 /// A type is among those of a bitmap exactly where its bit in its window is 1 (RFC 4034 section 4.1.2).
 pub fn bits_of_bitmaps()
     ensures { (bytes : List ℕ) (type : ℕ) → is_bitmap bytes ≡ true → Contains (types_in bytes) type ↔ IsMarked bytes type }
+{}
+
+/// Every strictly rising list of types has a bitmap whose types it is.
+pub fn bitmaps_of_types()
+    ensures { (types : List ℕ) → IsStrictlyIncreasing types → ((k : ℕ) → slice_index types k < 2 ^ 16) →
+        (bytes : List ℕ) × (AreOctets bytes × (is_bitmap bytes ≡ true) × (types_in bytes ≡ types)) }
 {}

@@ -17,7 +17,7 @@ mod window;
 pub use bitmaps::TypeBitmaps;
 pub use flags::Nsec3Flags;
 pub use hash_algorithm::Nsec3HashAlgorithm;
-pub use laws::{bits_of_bitmaps, code_numbers, types_of_bitmaps};
+pub use laws::{bitmaps_of_types, bits_of_bitmaps, code_numbers, types_of_bitmaps};
 pub use nsec::Nsec;
 pub use nsec3::Nsec3;
 pub use nsec3param::Nsec3Param;
