@@ -1,5 +1,5 @@
 -- What the reading of a label leaves over.
-use Rattle.std.proofs.Common.{◌≡◌, ℕ, ◌≤◌, Bool, true, false, cond, ltb, List, [], ◌∷◌, length, take, drop, Option, Some, None, refl, sym, arith}
+use Rattle.std.proofs.Common.{◌≡◌, ℕ, Bool, true, false, cond, ltb, List, [], ◌∷◌, length, take, drop, Option, Some, None, refl, arith}
 use Rattle.std.specs.Prelude.{◌||◌, nat_lt}
 use Rattle.dns_wire.specs.Left.{follows_both, counted_leaves}
 use Rattle.dns_wire.specs.Reading.{Follows, LeavesRest}

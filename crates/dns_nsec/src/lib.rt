@@ -12,6 +12,7 @@ mod nsec3param;
 mod order_laws;
 mod short_octets;
 mod type_iter;
+mod type_laws;
 mod window;
 
 pub use bitmaps::TypeBitmaps;
@@ -23,6 +24,9 @@ pub use nsec3::Nsec3;
 pub use nsec3param::Nsec3Param;
 pub use order_laws::{data_are_equal_by_fields, data_are_hashed_by_fields};
 pub use type_iter::TypeIter;
+pub use type_laws::{
+    types_are_canonical_by_number, types_are_read_by_number, types_are_read_by_number_in_messages,
+};
 
 #[cfg(test)]
 mod tests;

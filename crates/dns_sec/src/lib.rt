@@ -10,6 +10,7 @@ mod order_laws;
 mod rrsig;
 mod sec_alg;
 mod timestamp;
+mod type_laws;
 mod zonemd;
 mod zonemd_hash_alg;
 mod zonemd_scheme;
@@ -23,6 +24,9 @@ pub use order_laws::{data_are_equal_by_fields, data_are_hashed_by_fields};
 pub use rrsig::Rrsig;
 pub use sec_alg::SecAlg;
 pub use timestamp::Timestamp;
+pub use type_laws::{
+    types_are_canonical_by_number, types_are_read_by_number, types_are_read_by_number_in_messages,
+};
 pub use zonemd::ZoneMD;
 pub use zonemd_hash_alg::ZoneMDHashAlg;
 pub use zonemd_scheme::ZoneMDScheme;

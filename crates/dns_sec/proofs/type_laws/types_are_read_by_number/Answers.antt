@@ -1,0 +1,7 @@
+use Rattle.std.proofs.Common.{refl, ap}
+use Rattle.dns_record.specs.Data.{of_type}
+use Rattle.dns_record.proofs.Named.{bare_data}
+use Rattle.dns_sec.proofs.type_laws.types_are_read_by_number.Goals as goal
+
+pub returns : goal.returns
+returns c = record { ds = λ rtype bytes. ap (of_type 43 rtype) (bare_data 43 refl bytes); rrsig = λ rtype bytes. ap (of_type 46 rtype) (bare_data 46 refl bytes); dnskey = λ rtype bytes. ap (of_type 48 rtype) (bare_data 48 refl bytes); zonemd = λ rtype bytes. ap (of_type 63 rtype) (bare_data 63 refl bytes) }
