@@ -13,7 +13,7 @@ use crate::{CName, Mx, Ns, Ptr, Rp, Soa};
 use dns_name::{Name, NameBuf, RevNameBuf};
 use dns_num::{U16, U32};
 use dns_record::{ParseRecordData, ParseRecordDataBytes, RType, Serial};
-use dns_wire::{BuildBytes, ParseBytes, SplitBytes, SplitMessageBytes};
+use dns_wire::{BuildBytes, ParseBytes, ParseName, SplitBytes, SplitMessageBytes};
 use std::process::Abort;
 use std::test::Fail;
 
@@ -74,7 +74,7 @@ fn leaves_one<'a, D: SplitBytes<'a> + ParseRecordDataBytes<'a> + BuildBytes>(
 }
 
 /// Each type but SOA and RP at one kind of name.
-fn reads_each_name<'a, N: SplitBytes<'a> + BuildBytes>(rt: &impl Abort) -> Result<(), Fail> {
+fn reads_each_name<'a, N: ParseName<'a> + BuildBytes>(rt: &impl Abort) -> Result<(), Fail> {
     reads_whole::<Ns<N>>(rt, SERVER, RType::NS)?;
     reads_whole::<CName<N>>(rt, SERVER, RType::CNAME)?;
     reads_whole::<Ptr<N>>(rt, SERVER, RType::PTR)?;
@@ -87,7 +87,7 @@ fn reads_each_name<'a, N: SplitBytes<'a> + BuildBytes>(rt: &impl Abort) -> Resul
 }
 
 /// SOA and RP at one kind of name.
-fn reads_each_pair<'a, N: SplitBytes<'a> + BuildBytes>(rt: &impl Abort) -> Result<(), Fail> {
+fn reads_each_pair<'a, N: ParseName<'a> + BuildBytes>(rt: &impl Abort) -> Result<(), Fail> {
     reads_whole::<Soa<N>>(rt, ZONE, RType::SOA)?;
     reads_whole::<Rp<N>>(rt, PERSON, RType::RP)?;
     leaves_one::<Soa<N>>(
@@ -179,7 +179,9 @@ const ZONE_IN_MESSAGE: &[u8] =
     b"\x07Example\0\x02ns\xc0\x0c\x04Host\xc0\x0c\x78\xc4\x06\xbd\0\0\x0e\x10\0\0\x03\x84\0\x09\x3a\x80\0\0\0\x3c.";
 
 /// Each type at one kind of name that pointers lead through.
-fn follows_each<'a, N: SplitMessageBytes<'a> + BuildBytes>(rt: &impl Abort) -> Result<(), Fail> {
+fn follows_each<'a, N: ParseName<'a> + SplitMessageBytes<'a> + BuildBytes>(
+    rt: &impl Abort,
+) -> Result<(), Fail> {
     let name = b"\x07Example\0\x02ns\xc0\x0c.".as_slice();
     follows::<Ns<N>>(rt, name, RType::NS, SERVER)?;
     follows::<CName<N>>(rt, name, RType::CNAME, SERVER)?;

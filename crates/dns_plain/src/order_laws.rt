@@ -1,10 +1,9 @@
 //! Data are compared and fed to a hasher field by field, in the order in which the fields stand on the wire.
 
-ghost use Rattle.std.specs.Prelude.{◌≡◌};
+ghost use Rattle.std.specs.Prelude.{◌≡◌, map};
 ghost use Rattle.std.specs.Ordering.{eq_by_cmp, on};
 ghost use Rattle.dns_name.specs.Hashing.{name_writes};
 ghost use Rattle.dns_name.specs.Order.{key, key_cmp};
-ghost use Rattle.std.specs.Prelude.{map};
 ghost use Rattle.dns_record.specs.CharStrHashing.{charstr_writes};
 ghost use Rattle.dns_record.specs.CharStrs.{same_charstr};
 ghost use Rattle.dns_record.specs.FieldOrder.{fields_cmp, fields_eq, fields_writes};

@@ -1,24 +1,20 @@
 -- Where no name with pointers is among the kinds, a place in a message is read as the octets from there on.
-use Rattle.std.proofs.Common.{◌≡◌, ℕ, ◌+◌, ◌-◌, ◌≤◌, Bool, true, false, cond, ltb, List, [], ◌∷◌, length, take, drop, Option, Some, None, refl, sym, ap, ◌∙◌, arith}
-use Rattle.std.specs.Prelude.{◌&&◌, ◌==◌}
+use Rattle.std.proofs.Common.{◌≡◌, ℕ, ◌-◌, ◌≤◌, Bool, true, false, cond, ltb, List, [], ◌∷◌, length, drop, Option, Some, None, refl, sym, ap, ◌∙◌, arith}
+use Rattle.std.specs.Prelude.{◌&&◌}
 use Rattle.std.specs.Cmp.{first_so, second_so}
-use Rattle.std.specs.Int.{byte_len}
 use Rattle.std.proofs.lemmas.Bool.{le-ltb, ltb-false}
-use Rattle.std.proofs.lemmas.Bool.Decides.{nat_tests}
-use Rattle.std.proofs.lemmas.List.{drop_at, drop-drop, drop_all, length-drop, length-append}
-use Rattle.std.proofs.lemmas.Option.{some_pair_parts}
+use Rattle.std.proofs.lemmas.List.{length-drop}
 use Rattle.dns_wire.specs.Left.{follows_both}
 use Rattle.dns_wire.specs.Reading.{Follows, LeavesRest, octet, octets, number, plain_at, all_at, with_end}
 use Rattle.dns_record.specs.Left.{field_leaves}
-use Rattle.dns_wire.specs.Names.{wire, plain_name}
+use Rattle.dns_wire.specs.Names.{plain_name}
 use Rattle.dns_wire.specs.Steps.{◌>>=◌, first_to}
-use Rattle.dns_wire.proofs.Spelled.{plain_name_takes}
 use Rattle.dns_record.specs.Fields.{FieldOf}
-use Rattle.dns_record.specs.Fields.FieldOf.{Named, Bare, Raw, Sized, Byte, Number}
+use Rattle.dns_record.specs.Fields.FieldOf.{Bare, Raw, Sized, Byte, Number}
 use Rattle.dns_record.specs.Kinds.{Kind, field_of, fields_of, field_in, fields_in}
 use Rattle.dns_record.specs.Kinds.Kind.{OneByte, OneNumber, SoMany, Pointed, Plain, Text, Texts, Windows, SomeWindows, Rest}
-use Rattle.dns_record.specs.Texts.{text, texts, is_text_data}
-use Rattle.dns_record.specs.Windows.{bitmap, some_bitmap, is_bitmap}
+use Rattle.dns_record.specs.Texts.{text, texts}
+use Rattle.dns_record.specs.Windows.{bitmap, some_bitmap}
 
 abbrev pub is_bare : Kind → Bool
 is_bare Pointed = false

@@ -1,5 +1,5 @@
 -- What a test shows of each row of the table, and of octets without a row, it shows of the row of any number.
-use Rattle.std.proofs.Common.{◌≡◌, ℕ, Bool, true, false, cond, List, [], ◌∷◌, Option, Some, None, refl}
+use Rattle.std.proofs.Common.{◌≡◌, ℕ, Bool, true, false, cond, List, [], ◌∷◌, Option, Some}
 use Rattle.std.specs.Prelude.{◌==◌, ◌&&◌, unwrap_or}
 use Rattle.std.specs.Cmp.{first_so, second_so}
 use Rattle.dns_record.specs.Kinds.{Kind}

@@ -1,6 +1,6 @@
 -- Fields whose names one grammar reads as they are seen, and another by their labels.
 use Rattle.std.proofs.Common.{◌≡◌, ℕ, Bool, true, false, cond, List, [], ◌∷◌, length, Option, Some, None, refl, sym, ap, ◌∙◌}
-use Rattle.std.specs.Prelude.{◌&&◌, ◌==◌, map}
+use Rattle.std.specs.Prelude.{◌==◌, map}
 use Rattle.std.specs.Cmp.{first_so, second_so}
 use Rattle.std.specs.Int.{Width}
 use Rattle.std.proofs.lemmas.Option.{some_pair_parts}

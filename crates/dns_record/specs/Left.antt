@@ -1,19 +1,18 @@
 -- What the readings of data leave over, and where what they read ends.
-use Rattle.std.proofs.Common.{◌≡◌, ℕ, ◌+◌, ◌≤◌, Bool, true, false, cond, ltb, List, [], ◌∷◌, length, take, drop, Option, Some, None, refl, sym, ap, subst, ◌∙◌, arith}
-use Rattle.std.specs.Int.{Width, w16, w32}
+use Rattle.std.proofs.Common.{◌≡◌, ℕ, ◌+◌, ◌≤◌, Bool, true, false, cond, ltb, List, [], ◌∷◌, length, take, Option, Some, None, refl, sym, subst, arith}
+use Rattle.std.specs.Int.{w16, w32}
 use Rattle.std.proofs.lemmas.Bool.{ltb-false}
 use Rattle.std.proofs.lemmas.Option.{some_pair_parts}
-use Rattle.dns_wire.specs.Left.{then_some, put_some, put_leaves, put_ends, follows_both, all_follow, nothing_follows, counted_leaves, tested_leaves, octet_leaves, octets_leave, number_leaves, whole_leaves, plain_ends}
+use Rattle.dns_wire.specs.Left.{then_some, put_leaves, put_ends, follows_both, counted_leaves, tested_leaves, octet_leaves, octets_leave, number_leaves, whole_leaves, plain_ends}
 use Rattle.dns_wire.specs.Names.{plain_name}
 use Rattle.dns_wire.proofs.NamesLeft.{plain_name_leaves}
 use Rattle.dns_wire.specs.Reading.{Follows, LeavesRest, EndsWithin, octet, octets, number, plain_at}
-use Rattle.dns_wire.specs.Steps.{◌>>=◌, first_to}
 use Rattle.dns_record.specs.Fields.{FieldOf}
 use Rattle.dns_record.specs.Fields.FieldOf.{Named, Bare, Raw, Sized, Byte, Number}
 use Rattle.dns_record.specs.Kinds.{Kind, field_of, fields_of, field_in, fields_in, no_name}
 use Rattle.dns_record.specs.Kinds.Kind.{OneByte, OneNumber, SoMany, Pointed, Plain, Text, Texts, Windows, SomeWindows, Rest}
-use Rattle.dns_record.specs.Questions.{QuestionOf, question_at, question_in}
-use Rattle.dns_record.specs.Records.{RecordOf, record_at, record_in, end_of}
+use Rattle.dns_record.specs.Questions.{question_at, question_in}
+use Rattle.dns_record.specs.Records.{record_at, record_in, end_of}
 use Rattle.dns_record.specs.Texts.{text, texts, is_text_data}
 use Rattle.dns_record.specs.Windows.{bitmap, some_bitmap, is_bitmap}
 

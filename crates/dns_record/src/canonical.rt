@@ -20,7 +20,8 @@ pub trait CanonicalRecordData: BuildBytes {
     ghost rank: { Self → ℕ };
 
     /// The value is one that its type should have. Only a choice among types has others: octets under the
-    /// number of a type that it knows.
+    /// number of a type that it knows. Its reading has to give proper values alone, so that what was read can
+    /// be compared.
     ghost is_proper: { Self → Type 0 };
 
     /// Writes the canonical octets at a place of the buffer, and gives the place where they end. It is

@@ -15,8 +15,8 @@ use crate::rrsig::Rrsig;
 use crate::zonemd::ZoneMD;
 use std::hash::Hash;
 
-/// Data are equal where all their fields are, names and strings without regard to ASCII case (RFC 1035 section
-/// 2.3.3).
+/// Data are equal where all their fields are, names without regard to ASCII case (RFC 1035 section 2.3.3), digests,
+/// keys and signatures octet by octet.
 pub fn data_are_equal_by_fields()
     ensures ds { (a b : _) → ⟦<Ds<'static> as PartialEq>⟧.eq a b ≡ fields_eq (eq_by_cmp (on key key_cmp)) (eq_by_cmp (on key key_cmp)) same_charstr (ds_fields a) (ds_fields b) }
     ensures dnskey { (a b : _) → ⟦<DNSKey<'static> as PartialEq>⟧.eq a b ≡ fields_eq (eq_by_cmp (on key key_cmp)) (eq_by_cmp (on key key_cmp)) same_charstr (dnskey_fields a) (dnskey_fields b) }
@@ -24,7 +24,7 @@ pub fn data_are_equal_by_fields()
     ensures zonemd { (a b : _) → ⟦<ZoneMD<&'static [u8]> as PartialEq>⟧.eq a b ≡ fields_eq (eq_by_cmp (on key key_cmp)) (eq_by_cmp (on key key_cmp)) same_charstr (zonemd_fields (λ d. d.now) a) (zonemd_fields (λ d. d.now) b) }
 {}
 
-/// Data feed a hasher their fields one after another, names and strings in small letters.
+/// Data feed a hasher their fields one after another, names in small letters.
 pub fn data_are_hashed_by_fields()
     ensures ds { (v : _) → ⟦<Ds<'static> as Hash>⟧.hash_input v ≡ fields_writes name_writes name_writes charstr_writes (ds_fields v) }
     ensures dnskey { (v : _) → ⟦<DNSKey<'static> as Hash>⟧.hash_input v ≡ fields_writes name_writes name_writes charstr_writes (dnskey_fields v) }

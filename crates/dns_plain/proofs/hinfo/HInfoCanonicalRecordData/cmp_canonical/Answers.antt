@@ -1,6 +1,5 @@
 use Rattle.std.proofs.Common.{sym, ◌∙◌, false, [], ◌∷◌}
 use Rattle.dns_record.specs.CharStrs.{octets_of}
-use Rattle.dns_record.specs.Fields.{Field}
 use Rattle.dns_record.specs.Fields.FieldOf.{Sized}
 use Rattle.dns_record.proofs.Compared.{first_ties, first_decides, last_decides}
 use Rattle.dns_plain.proofs.hinfo.HInfoCanonicalRecordData.cmp_canonical.Goals as goal
