@@ -217,6 +217,7 @@ insert_rises t [] rise = (omega arith, put_bits t [] (omega arith) _, tt)
 insert_rises t (w ∷ others) rise = by (w.number == t / 256) refl where
   bits_are : AreBits w.bits
   bits_are = rise.1
+
   by : (b : Bool) → (w.number == t / 256) ≡ b → WindowsFrom (t / 256) (cond b (with_type t w ∷ others) (with_type t (no_bits t) ∷ w ∷ others))
   by true is = (rise.0, put_bits t w.bits bits_are.few (of_last w.bits bits_are.last), rise.2)
   by false is =
