@@ -134,10 +134,6 @@ impl<N: BuildBytes> BuildBytes for Mx<N> {
 impl<N: CanonicalName> CanonicalRecordData for Mx<N> {
     ghost canonical = { λ v. canonical_octets 15 (map (named_by N.name) (mx_fields v)) };
 
-    ghost rank = { λ _. 0 };
-
-    ghost is_proper = { λ _. ⊤ };
-
     ghost as_long = { λ v. canonical_long 15 (map (named_by N.name) (mx_fields v)) ∙ ap (λ (l : List ℕ). length (to_be_bytes w16 v.preference.value ++ l)) (append-nil (wire (N.name v.exchange)) ∙ sym (N.octets_are v.exchange)) };
 
     fn build_canonical_at(&self, bytes: &mut [u8], start: usize) -> Result<usize, TruncationError> {

@@ -118,10 +118,6 @@ impl<N: BuildBytes> BuildBytes for Ns<N> {
 impl<N: CanonicalName> CanonicalRecordData for Ns<N> {
     ghost canonical = { λ v. canonical_octets 2 (map (named_by N.name) (ns_fields v)) };
 
-    ghost rank = { λ _. 0 };
-
-    ghost is_proper = { λ _. ⊤ };
-
     ghost as_long = { λ v. canonical_long 2 (map (named_by N.name) (ns_fields v)) ∙ ap length (append-nil (wire (N.name v.server)) ∙ sym (N.octets_are v.server)) };
 
     fn build_canonical_at(&self, bytes: &mut [u8], start: usize) -> Result<usize, TruncationError> {

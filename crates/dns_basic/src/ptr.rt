@@ -119,10 +119,6 @@ impl<N: BuildBytes> BuildBytes for Ptr<N> {
 impl<N: CanonicalName> CanonicalRecordData for Ptr<N> {
     ghost canonical = { λ v. canonical_octets 12 (map (named_by N.name) (ptr_fields v)) };
 
-    ghost rank = { λ _. 0 };
-
-    ghost is_proper = { λ _. ⊤ };
-
     ghost as_long = { λ v. canonical_long 12 (map (named_by N.name) (ptr_fields v)) ∙ ap length (append-nil (wire (N.name v.name)) ∙ sym (N.octets_are v.name)) };
 
     fn build_canonical_at(&self, bytes: &mut [u8], start: usize) -> Result<usize, TruncationError> {

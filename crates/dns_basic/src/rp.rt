@@ -125,10 +125,6 @@ impl<N: BuildBytes> BuildBytes for Rp<N> {
 impl<N: CanonicalName> CanonicalRecordData for Rp<N> {
     ghost canonical = { λ v. canonical_octets 17 (map (named_by N.name) (rp_fields v)) };
 
-    ghost rank = { λ _. 0 };
-
-    ghost is_proper = { λ _. ⊤ };
-
     ghost as_long = { λ v. canonical_long 17 (map (named_by N.name) (rp_fields v)) ∙ ap length (both_names (wire (N.name v.mailbox)) (wire (N.name v.texts)) (N.octets v.mailbox) (N.octets v.texts) (N.octets_are v.mailbox) (N.octets_are v.texts)) };
 
     fn build_canonical_at(&self, bytes: &mut [u8], start: usize) -> Result<usize, TruncationError> {

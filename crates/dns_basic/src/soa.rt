@@ -186,10 +186,6 @@ impl<N: BuildBytes> BuildBytes for Soa<N> {
 impl<N: CanonicalName> CanonicalRecordData for Soa<N> {
     ghost canonical = { λ v. canonical_octets 6 (map (named_by N.name) (soa_fields v)) };
 
-    ghost rank = { λ _. 0 };
-
-    ghost is_proper = { λ _. ⊤ };
-
     ghost as_long = { λ v. canonical_long 6 (map (named_by N.name) (soa_fields v)) ∙ ap length (names_and_numbers (wire (N.name v.mname)) (wire (N.name v.rname)) (N.octets v.mname) (N.octets v.rname) (to_be_bytes w32 v.serial.0.value) (to_be_bytes w32 v.refresh.value) (to_be_bytes w32 v.retry.value) (to_be_bytes w32 v.expire.value) (to_be_bytes w32 v.minimum.value) (N.octets_are v.mname) (N.octets_are v.rname)) };
 
     fn build_canonical_at(&self, bytes: &mut [u8], start: usize) -> Result<usize, TruncationError> {

@@ -123,8 +123,6 @@ impl AsBytes for TypeBitmaps<'_> {
 impl BuildBytes for TypeBitmaps<'_> {
     ghost octets = { λ v. v.slice.now };
 
-    ghost fits = { λ _. ⊤ };
-
     fn build_at(&self, bytes: &mut [u8], start: usize) -> Result<usize, TruncationError> {
         put(self.slice, bytes, start)
     }

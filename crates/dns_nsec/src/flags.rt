@@ -94,8 +94,6 @@ impl<'a> SplitMessageBytes<'a> for Nsec3Flags {
 impl BuildBytes for Nsec3Flags {
     ghost octets = { λ v. nsec3_flag_bits v ∷ [] };
 
-    ghost fits = { λ _. ⊤ };
-
     fn build_at(&self, bytes: &mut [u8], start: usize) -> Result<usize, TruncationError> {
         self.bits.build_at(bytes, start)
     }
@@ -110,10 +108,6 @@ impl BuildBytes for Nsec3Flags {
 /// Whole, with no name in it.
 impl BuildInMessage for Nsec3Flags {
     ghost presses = { λ v. whole_presses (nsec3_flag_bits v ∷ []) };
-
-    ghost fits_in = { λ _ _ _. ⊤ };
-
-    ghost pieces = { λ _. None };
 
     ghost told = { λ _. tt };
 

@@ -70,8 +70,6 @@ impl<'a> SplitMessageBytes<'a> for Nsec3HashAlgorithm {
 impl BuildBytes for Nsec3HashAlgorithm {
     ghost octets = { λ v. v.code ∷ [] };
 
-    ghost fits = { λ _. ⊤ };
-
     fn build_at(&self, bytes: &mut [u8], start: usize) -> Result<usize, TruncationError> {
         self.code.build_at(bytes, start)
     }
@@ -86,10 +84,6 @@ impl BuildBytes for Nsec3HashAlgorithm {
 /// Whole, with no name in it.
 impl BuildInMessage for Nsec3HashAlgorithm {
     ghost presses = { λ v. whole_presses (v.code ∷ []) };
-
-    ghost fits_in = { λ _ _ _. ⊤ };
-
-    ghost pieces = { λ _. None };
 
     ghost told = { λ _. tt };
 

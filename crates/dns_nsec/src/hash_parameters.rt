@@ -106,8 +106,6 @@ impl<'a> SplitBytes<'a> for HashParameters<'a> {
 impl BuildBytes for HashParameters<'_> {
     ghost octets = { λ v. fields_octets (parameter_fields v) };
 
-    ghost fits = { λ _. ⊤ };
-
     fn build_at(&self, bytes: &mut [u8], start: usize) -> Result<usize, TruncationError> {
         let salted = (&self.iterations, (&self.salt, ()));
         (&self.algorithm, (&self.flags, salted)).build_at(bytes, start)

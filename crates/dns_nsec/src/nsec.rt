@@ -101,8 +101,6 @@ impl<'a> DataOfType<'a> for Nsec<'a> {
 impl BuildBytes for Nsec<'_> {
     ghost octets = { λ v. fields_octets (nsec_fields v) };
 
-    ghost fits = { λ _. ⊤ };
-
     fn build_at(&self, bytes: &mut [u8], start: usize) -> Result<usize, TruncationError> {
         (&self.next, (&self.types, ())).build_at(bytes, start)
     }
@@ -115,8 +113,6 @@ impl BuildBytes for Nsec<'_> {
 /// Whole, a piece for each field.
 impl BuildInMessage for Nsec<'_> {
     ghost presses = { λ v. whole_presses (fields_octets (nsec_fields v)) };
-
-    ghost fits_in = { λ _ _ _. ⊤ };
 
     ghost pieces = { λ v. Some (whole_pieces (nsec_fields v)) };
 
@@ -134,10 +130,6 @@ impl BuildInMessage for Nsec<'_> {
 
 impl CanonicalRecordData for Nsec<'_> {
     ghost canonical = { λ v. canonical_octets 47 (nsec_fields v) };
-
-    ghost rank = { λ _. 0 };
-
-    ghost is_proper = { λ _. ⊤ };
 
     ghost as_long = { λ v. canonical_long 47 (nsec_fields v) };
 

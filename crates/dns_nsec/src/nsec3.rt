@@ -156,8 +156,6 @@ impl<'a> DataOfType<'a> for Nsec3<'a> {
 impl BuildBytes for Nsec3<'_> {
     ghost octets = { λ v. fields_octets (nsec3_fields v) };
 
-    ghost fits = { λ _. ⊤ };
-
     fn build_at(&self, bytes: &mut [u8], start: usize) -> Result<usize, TruncationError> {
         (&self.parameters, (&self.next_owner, (&self.types, ()))).build_at(bytes, start)
     }
@@ -171,8 +169,6 @@ impl BuildBytes for Nsec3<'_> {
 /// Whole, a piece for each field.
 impl BuildInMessage for Nsec3<'_> {
     ghost presses = { λ v. whole_presses (fields_octets (nsec3_fields v)) };
-
-    ghost fits_in = { λ _ _ _. ⊤ };
 
     ghost pieces = { λ v. Some (whole_pieces (nsec3_fields v)) };
 
@@ -190,10 +186,6 @@ impl BuildInMessage for Nsec3<'_> {
 
 impl CanonicalRecordData for Nsec3<'_> {
     ghost canonical = { λ v. canonical_octets 50 (nsec3_fields v) };
-
-    ghost rank = { λ _. 0 };
-
-    ghost is_proper = { λ _. ⊤ };
 
     ghost as_long = { λ v. canonical_long 50 (nsec3_fields v) };
 

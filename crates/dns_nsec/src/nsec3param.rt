@@ -146,8 +146,6 @@ impl<'a> DataOfType<'a> for Nsec3Param<'a> {
 impl BuildBytes for Nsec3Param<'_> {
     ghost octets = { λ v. fields_octets (nsec3param_fields v) };
 
-    ghost fits = { λ _. ⊤ };
-
     fn build_at(&self, bytes: &mut [u8], start: usize) -> Result<usize, TruncationError> {
         self.parameters.build_at(bytes, start)
     }
@@ -163,8 +161,6 @@ impl BuildBytes for Nsec3Param<'_> {
 /// Whole, a piece for each field.
 impl BuildInMessage for Nsec3Param<'_> {
     ghost presses = { λ v. whole_presses (fields_octets (nsec3param_fields v)) };
-
-    ghost fits_in = { λ _ _ _. ⊤ };
 
     ghost pieces = { λ v. Some (whole_pieces (nsec3param_fields v)) };
 
@@ -182,10 +178,6 @@ impl BuildInMessage for Nsec3Param<'_> {
 
 impl CanonicalRecordData for Nsec3Param<'_> {
     ghost canonical = { λ v. canonical_octets 51 (nsec3param_fields v) };
-
-    ghost rank = { λ _. 0 };
-
-    ghost is_proper = { λ _. ⊤ };
 
     ghost as_long = { λ v. canonical_long 51 (nsec3param_fields v) };
 

@@ -78,8 +78,6 @@ impl<'a> SplitBytes<'a> for ShortOctets<'a> {
 impl BuildBytes for ShortOctets<'_> {
     ghost octets = { λ v. length v.octets.now ∷ v.octets.now };
 
-    ghost fits = { λ _. ⊤ };
-
     fn build_at(&self, bytes: &mut [u8], start: usize) -> Result<usize, TruncationError> {
         let size = self.octets.len() as u8;
         let body = size.build_at(bytes, start)?;

@@ -88,8 +88,6 @@ impl<'a> DataOfType<'a> for A {
 impl BuildBytes for A {
     ghost octets = { λ v. v.octets };
 
-    ghost fits = { λ _. ⊤ };
-
     fn build_at(&self, bytes: &mut [u8], start: usize) -> Result<usize, TruncationError> {
         put(&self.octets, bytes, start)
     }
@@ -105,8 +103,6 @@ impl BuildBytes for A {
 /// Whole, a piece for each field.
 impl BuildInMessage for A {
     ghost presses = { λ v. whole_presses v.octets };
-
-    ghost fits_in = { λ _ _ _. ⊤ };
 
     ghost pieces = { λ v. Some (Whole v.octets ∷ []) };
 
@@ -124,10 +120,6 @@ impl BuildInMessage for A {
 
 impl CanonicalRecordData for A {
     ghost canonical = { λ v. canonical_octets 1 (a_fields v) };
-
-    ghost rank = { λ _. 0 };
-
-    ghost is_proper = { λ _. ⊤ };
 
     ghost as_long = { λ v. canonical_long 1 (a_fields v) ∙ ap length (append-nil v.octets) };
 

@@ -88,8 +88,6 @@ impl<'a> DataOfType<'a> for Aaaa {
 impl BuildBytes for Aaaa {
     ghost octets = { λ v. v.octets };
 
-    ghost fits = { λ _. ⊤ };
-
     fn build_at(&self, bytes: &mut [u8], start: usize) -> Result<usize, TruncationError> {
         put(&self.octets, bytes, start)
     }
@@ -105,8 +103,6 @@ impl BuildBytes for Aaaa {
 /// Whole, a piece for each field.
 impl BuildInMessage for Aaaa {
     ghost presses = { λ v. whole_presses v.octets };
-
-    ghost fits_in = { λ _ _ _. ⊤ };
 
     ghost pieces = { λ v. Some (Whole v.octets ∷ []) };
 
@@ -124,10 +120,6 @@ impl BuildInMessage for Aaaa {
 
 impl CanonicalRecordData for Aaaa {
     ghost canonical = { λ v. canonical_octets 28 (aaaa_fields v) };
-
-    ghost rank = { λ _. 0 };
-
-    ghost is_proper = { λ _. ⊤ };
 
     ghost as_long = { λ v. canonical_long 28 (aaaa_fields v) ∙ ap length (append-nil v.octets) };
 

@@ -94,8 +94,6 @@ impl<'a> DataOfType<'a> for DName<'a> {
 impl BuildBytes for DName<'_> {
     ghost octets = { λ v. fields_octets (dname_fields v) };
 
-    ghost fits = { λ _. ⊤ };
-
     fn build_at(&self, bytes: &mut [u8], start: usize) -> Result<usize, TruncationError> {
         (&self.name, ()).build_at(bytes, start)
     }
@@ -113,8 +111,6 @@ impl BuildBytes for DName<'_> {
 impl BuildInMessage for DName<'_> {
     ghost presses = { λ v. whole_presses (fields_octets (dname_fields v)) };
 
-    ghost fits_in = { λ _ _ _. ⊤ };
-
     ghost pieces = { λ v. Some (whole_pieces (dname_fields v)) };
 
     ghost told = { λ v. told_whole (dname_fields v) };
@@ -131,10 +127,6 @@ impl BuildInMessage for DName<'_> {
 
 impl CanonicalRecordData for DName<'_> {
     ghost canonical = { λ v. canonical_octets 39 (dname_fields v) };
-
-    ghost rank = { λ _. 0 };
-
-    ghost is_proper = { λ _. ⊤ };
 
     ghost as_long = { λ v. canonical_long 39 (dname_fields v) };
 

@@ -90,8 +90,6 @@ impl<'a> DataOfType<'a> for HInfo<'a> {
 impl BuildBytes for HInfo<'_> {
     ghost octets = { λ v. fields_octets (hinfo_fields v) };
 
-    ghost fits = { λ _. ⊤ };
-
     fn build_at(&self, bytes: &mut [u8], start: usize) -> Result<usize, TruncationError> {
         (&self.cpu, (&self.os, ())).build_at(bytes, start)
     }
@@ -109,8 +107,6 @@ impl BuildBytes for HInfo<'_> {
 impl BuildInMessage for HInfo<'_> {
     ghost presses = { λ v. whole_presses (fields_octets (hinfo_fields v)) };
 
-    ghost fits_in = { λ _ _ _. ⊤ };
-
     ghost pieces = { λ v. Some (whole_pieces (hinfo_fields v)) };
 
     ghost told = { λ v. told_whole (hinfo_fields v) };
@@ -127,10 +123,6 @@ impl BuildInMessage for HInfo<'_> {
 
 impl CanonicalRecordData for HInfo<'_> {
     ghost canonical = { λ v. canonical_octets 13 (hinfo_fields v) };
-
-    ghost rank = { λ _. 0 };
-
-    ghost is_proper = { λ _. ⊤ };
 
     ghost as_long = { λ v. canonical_long 13 (hinfo_fields v) };
 

@@ -101,8 +101,6 @@ impl<'a> DataOfType<'a> for Srv<'a> {
 impl BuildBytes for Srv<'_> {
     ghost octets = { λ v. fields_octets (srv_fields v) };
 
-    ghost fits = { λ _. ⊤ };
-
     fn build_at(&self, bytes: &mut [u8], start: usize) -> Result<usize, TruncationError> {
         (
             &self.priority,
@@ -127,8 +125,6 @@ impl BuildBytes for Srv<'_> {
 impl BuildInMessage for Srv<'_> {
     ghost presses = { λ v. whole_presses (fields_octets (srv_fields v)) };
 
-    ghost fits_in = { λ _ _ _. ⊤ };
-
     ghost pieces = { λ v. Some (whole_pieces (srv_fields v)) };
 
     ghost told = { λ v. told_whole (srv_fields v) };
@@ -145,10 +141,6 @@ impl BuildInMessage for Srv<'_> {
 
 impl CanonicalRecordData for Srv<'_> {
     ghost canonical = { λ v. canonical_octets 33 (srv_fields v) };
-
-    ghost rank = { λ _. 0 };
-
-    ghost is_proper = { λ _. ⊤ };
 
     ghost as_long = { λ v. canonical_long 33 (srv_fields v) };
 

@@ -119,8 +119,6 @@ impl<'a> DataOfType<'a> for Txt<'a> {
 impl BuildBytes for Txt<'_> {
     ghost octets = { λ v. v.slice.now };
 
-    ghost fits = { λ _. ⊤ };
-
     fn build_at(&self, bytes: &mut [u8], start: usize) -> Result<usize, TruncationError> {
         put(self.slice, bytes, start)
     }
@@ -133,8 +131,6 @@ impl BuildBytes for Txt<'_> {
 /// Whole, in one piece.
 impl BuildInMessage for Txt<'_> {
     ghost presses = { λ v. whole_presses v.slice.now };
-
-    ghost fits_in = { λ _ _ _. ⊤ };
 
     ghost pieces = { λ v. Some (Whole v.slice.now ∷ []) };
 
@@ -152,10 +148,6 @@ impl BuildInMessage for Txt<'_> {
 
 impl CanonicalRecordData for Txt<'_> {
     ghost canonical = { λ v. canonical_octets 16 (txt_fields v.slice.now) };
-
-    ghost rank = { λ _. 0 };
-
-    ghost is_proper = { λ _. ⊤ };
 
     ghost as_long = { λ v. canonical_long 16 (txt_fields v.slice.now) ∙ ap length (append-nil v.slice.now) };
 

@@ -17,12 +17,12 @@ pub trait CanonicalRecordData: BuildBytes {
     ghost canonical: { Self → List ℕ };
 
     /// What comes before the octets in the order: the type's number for a choice among types, and else 0.
-    ghost rank: { Self → ℕ };
+    ghost rank: { Self → ℕ } = { λ _. 0 };
 
     /// The value is one that its type should have. Only a choice among types has others: octets under the
     /// number of a type that it knows. Its reading has to give proper values alone, so that what was read can
     /// be compared.
-    ghost is_proper: { Self → Type 0 };
+    ghost is_proper: { Self → Type 0 } = { λ _. ⊤ };
 
     /// Writes the canonical octets at a place of the buffer, and gives the place where they end. It is
     /// accepted exactly where they are at most the octets from `start` on. After `TruncationError` the

@@ -123,8 +123,6 @@ impl<'a> SplitMessageBytes<'a> for CharStr<'a> {
 impl BuildBytes for CharStr<'_> {
     ghost octets = { λ v. charstr_wire (octets_of v.slice.now) };
 
-    ghost fits = { λ _. ⊤ };
-
     fn build_at(&self, bytes: &mut [u8], start: usize) -> Result<usize, TruncationError> {
         put(self.wire(), bytes, start)
     }
@@ -141,10 +139,6 @@ impl BuildBytes for CharStr<'_> {
 /// Whole, with no name in it.
 impl BuildInMessage for CharStr<'_> {
     ghost presses = { λ v. whole_presses (charstr_wire (octets_of v.slice.now)) };
-
-    ghost fits_in = { λ _ _ _. ⊤ };
-
-    ghost pieces = { λ _. None };
 
     ghost told = { λ _. tt };
 

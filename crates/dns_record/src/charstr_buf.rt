@@ -172,8 +172,6 @@ impl<'a> SplitMessageBytes<'a> for CharStrBuf {
 impl BuildBytes for CharStrBuf {
     ghost octets = { λ v. charstr_wire v };
 
-    ghost fits = { λ _. ⊤ };
-
     fn build_at(&self, bytes: &mut [u8], start: usize) -> Result<usize, TruncationError> {
         self.as_charstr().build_at(bytes, start)
     }
@@ -190,10 +188,6 @@ impl BuildBytes for CharStrBuf {
 /// Whole, with no name in it.
 impl BuildInMessage for CharStrBuf {
     ghost presses = { λ v. whole_presses (charstr_wire v) };
-
-    ghost fits_in = { λ _ _ _. ⊤ };
-
-    ghost pieces = { λ _. None };
 
     ghost told = { λ _. tt };
 

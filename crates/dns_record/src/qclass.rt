@@ -76,8 +76,6 @@ impl<'a> SplitMessageBytes<'a> for QClass {
 impl BuildBytes for QClass {
     ghost octets = { λ v. to_be_bytes w16 v.code.value };
 
-    ghost fits = { λ _. ⊤ };
-
     fn build_at(&self, bytes: &mut [u8], start: usize) -> Result<usize, TruncationError> {
         self.code.build_at(bytes, start)
     }
@@ -93,10 +91,6 @@ impl BuildBytes for QClass {
 /// Whole, with no name in it.
 impl BuildInMessage for QClass {
     ghost presses = { λ v. whole_presses (to_be_bytes w16 v.code.value) };
-
-    ghost fits_in = { λ _ _ _. ⊤ };
-
-    ghost pieces = { λ _. None };
 
     ghost told = { λ _. tt };
 

@@ -211,8 +211,6 @@ impl<'a> SplitMessageBytes<'a> for QType {
 impl BuildBytes for QType {
     ghost octets = { λ v. to_be_bytes w16 v.code.value };
 
-    ghost fits = { λ _. ⊤ };
-
     fn build_at(&self, bytes: &mut [u8], start: usize) -> Result<usize, TruncationError> {
         self.code.build_at(bytes, start)
     }
@@ -228,10 +226,6 @@ impl BuildBytes for QType {
 /// Whole, with no name in it.
 impl BuildInMessage for QType {
     ghost presses = { λ v. whole_presses (to_be_bytes w16 v.code.value) };
-
-    ghost fits_in = { λ _ _ _. ⊤ };
-
-    ghost pieces = { λ _. None };
 
     ghost told = { λ _. tt };
 

@@ -94,8 +94,6 @@ impl<'a> SplitMessageBytes<'a> for RClass {
 impl BuildBytes for RClass {
     ghost octets = { λ v. to_be_bytes w16 v.code.value };
 
-    ghost fits = { λ _. ⊤ };
-
     fn build_at(&self, bytes: &mut [u8], start: usize) -> Result<usize, TruncationError> {
         self.code.build_at(bytes, start)
     }
@@ -111,10 +109,6 @@ impl BuildBytes for RClass {
 /// Whole, with no name in it.
 impl BuildInMessage for RClass {
     ghost presses = { λ v. whole_presses (to_be_bytes w16 v.code.value) };
-
-    ghost fits_in = { λ _ _ _. ⊤ };
-
-    ghost pieces = { λ _. None };
 
     ghost told = { λ _. tt };
 

@@ -119,8 +119,6 @@ impl<'a> SplitMessageBytes<'a> for Serial {
 impl BuildBytes for Serial {
     ghost octets = { λ v. to_be_bytes w32 v.0.value };
 
-    ghost fits = { λ _. ⊤ };
-
     fn build_at(&self, bytes: &mut [u8], start: usize) -> Result<usize, TruncationError> {
         self.0.build_at(bytes, start)
     }
@@ -136,10 +134,6 @@ impl BuildBytes for Serial {
 /// Whole, with no name in it.
 impl BuildInMessage for Serial {
     ghost presses = { λ v. whole_presses (to_be_bytes w32 v.0.value) };
-
-    ghost fits_in = { λ _ _ _. ⊤ };
-
-    ghost pieces = { λ _. None };
 
     ghost told = { λ _. tt };
 

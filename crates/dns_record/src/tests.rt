@@ -267,8 +267,6 @@ impl BuildBytes for Octets {
 
     ghost octets = { λ v. v.octets };
 
-    ghost fits = { λ _. ⊤ };
-
     fn build_at(&self, bytes: &mut [u8], start: usize) -> Result<usize, TruncationError> {
         put(&self.octets, bytes, start)
     }
@@ -283,10 +281,6 @@ impl CanonicalRecordData for Octets {
     ghost use Rattle.std.proofs.Common.{refl};
 
     ghost canonical = { λ v. v.octets };
-
-    ghost rank = { λ _. 0 };
-
-    ghost is_proper = { λ _. ⊤ };
 
     ghost as_long = { λ _. refl };
 

@@ -88,8 +88,6 @@ impl<'a> SplitMessageBytes<'a> for TTL {
 impl BuildBytes for TTL {
     ghost octets = { λ v. to_be_bytes w32 v.value.value };
 
-    ghost fits = { λ _. ⊤ };
-
     fn build_at(&self, bytes: &mut [u8], start: usize) -> Result<usize, TruncationError> {
         self.value.build_at(bytes, start)
     }
@@ -105,10 +103,6 @@ impl BuildBytes for TTL {
 /// Whole, with no name in it.
 impl BuildInMessage for TTL {
     ghost presses = { λ v. whole_presses (to_be_bytes w32 v.value.value) };
-
-    ghost fits_in = { λ _ _ _. ⊤ };
-
-    ghost pieces = { λ _. None };
 
     ghost told = { λ _. tt };
 

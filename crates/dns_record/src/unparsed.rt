@@ -79,8 +79,6 @@ impl AsBytes for UnparsedRecordData<'_> {
 impl BuildBytes for UnparsedRecordData<'_> {
     ghost octets = { λ v. v.octets.now };
 
-    ghost fits = { λ _. ⊤ };
-
     fn build_at(&self, bytes: &mut [u8], start: usize) -> Result<usize, TruncationError> {
         put(self.octets(), bytes, start)
     }
@@ -93,8 +91,6 @@ impl BuildBytes for UnparsedRecordData<'_> {
 /// Whole, with no name in it.
 impl BuildInMessage for UnparsedRecordData<'_> {
     ghost presses = { λ v. whole_presses (v.octets.now) };
-
-    ghost fits_in = { λ _ _ _. ⊤ };
 
     ghost pieces = { λ v. Some (Whole v.octets.now ∷ []) };
 

@@ -67,8 +67,6 @@ impl<'a> SplitMessageBytes<'a> for DigestType {
 impl BuildBytes for DigestType {
     ghost octets = { λ v. v.code ∷ [] };
 
-    ghost fits = { λ _. ⊤ };
-
     fn build_at(&self, bytes: &mut [u8], start: usize) -> Result<usize, TruncationError> {
         self.code.build_at(bytes, start)
     }
@@ -83,10 +81,6 @@ impl BuildBytes for DigestType {
 /// Whole, with no name in it.
 impl BuildInMessage for DigestType {
     ghost presses = { λ v. whole_presses (v.code ∷ []) };
-
-    ghost fits_in = { λ _ _ _. ⊤ };
-
-    ghost pieces = { λ _. None };
 
     ghost told = { λ _. tt };
 

@@ -82,8 +82,6 @@ impl<'a> DataOfType<'a> for DNSKey<'a> {
 impl BuildBytes for DNSKey<'_> {
     ghost octets = { λ v. fields_octets (dnskey_fields v) };
 
-    ghost fits = { λ _. ⊤ };
-
     #[tactic(auto, using(dns_wire::proofs::Several::themselves))]
     fn build_at(&self, bytes: &mut [u8], start: usize) -> Result<usize, TruncationError> {
         let key = (self.key, ());
@@ -98,8 +96,6 @@ impl BuildBytes for DNSKey<'_> {
 /// Whole, a piece for each field.
 impl BuildInMessage for DNSKey<'_> {
     ghost presses = { λ v. whole_presses (fields_octets (dnskey_fields v)) };
-
-    ghost fits_in = { λ _ _ _. ⊤ };
 
     ghost pieces = { λ v. Some (whole_pieces (dnskey_fields v)) };
 
@@ -117,10 +113,6 @@ impl BuildInMessage for DNSKey<'_> {
 
 impl CanonicalRecordData for DNSKey<'_> {
     ghost canonical = { λ v. canonical_octets 48 (dnskey_fields v) };
-
-    ghost rank = { λ _. 0 };
-
-    ghost is_proper = { λ _. ⊤ };
 
     ghost as_long = { λ v. canonical_long 48 (dnskey_fields v) };
 

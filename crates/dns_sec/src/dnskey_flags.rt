@@ -116,8 +116,6 @@ impl<'a> SplitMessageBytes<'a> for DNSKeyFlags {
 impl BuildBytes for DNSKeyFlags {
     ghost octets = { λ v. to_be_bytes w16 (key_flag_bits v) };
 
-    ghost fits = { λ _. ⊤ };
-
     fn build_at(&self, bytes: &mut [u8], start: usize) -> Result<usize, TruncationError> {
         self.bits.build_at(bytes, start)
     }
@@ -132,10 +130,6 @@ impl BuildBytes for DNSKeyFlags {
 /// Whole, with no name in it.
 impl BuildInMessage for DNSKeyFlags {
     ghost presses = { λ v. whole_presses (to_be_bytes w16 (key_flag_bits v)) };
-
-    ghost fits_in = { λ _ _ _. ⊤ };
-
-    ghost pieces = { λ _. None };
 
     ghost told = { λ _. tt };
 

@@ -83,8 +83,6 @@ impl<'a> DataOfType<'a> for Ds<'a> {
 impl BuildBytes for Ds<'_> {
     ghost octets = { λ v. fields_octets (ds_fields v) };
 
-    ghost fits = { λ _. ⊤ };
-
     #[tactic(auto, using(dns_wire::proofs::Several::themselves))]
     fn build_at(&self, bytes: &mut [u8], start: usize) -> Result<usize, TruncationError> {
         let digest = (self.digest, ());
@@ -99,8 +97,6 @@ impl BuildBytes for Ds<'_> {
 /// Whole, a piece for each field.
 impl BuildInMessage for Ds<'_> {
     ghost presses = { λ v. whole_presses (fields_octets (ds_fields v)) };
-
-    ghost fits_in = { λ _ _ _. ⊤ };
 
     ghost pieces = { λ v. Some (whole_pieces (ds_fields v)) };
 
@@ -118,10 +114,6 @@ impl BuildInMessage for Ds<'_> {
 
 impl CanonicalRecordData for Ds<'_> {
     ghost canonical = { λ v. canonical_octets 43 (ds_fields v) };
-
-    ghost rank = { λ _. 0 };
-
-    ghost is_proper = { λ _. ⊤ };
 
     ghost as_long = { λ v. canonical_long 43 (ds_fields v) };
 

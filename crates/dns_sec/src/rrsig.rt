@@ -160,8 +160,6 @@ impl<'a> DataOfType<'a> for Rrsig<'a> {
 impl BuildBytes for Rrsig<'_> {
     ghost octets = { λ v. fields_octets (rrsig_fields v) };
 
-    ghost fits = { λ _. ⊤ };
-
     #[tactic(auto, using(dns_wire::proofs::Several::themselves))]
     fn build_at(&self, bytes: &mut [u8], start: usize) -> Result<usize, TruncationError> {
         let fixed = (&self.rtype, (&self.algorithm, (&self.labels, &self.ttl)));
@@ -178,8 +176,6 @@ impl BuildBytes for Rrsig<'_> {
 /// Whole, a piece for each field.
 impl BuildInMessage for Rrsig<'_> {
     ghost presses = { λ v. whole_presses (fields_octets (rrsig_fields v)) };
-
-    ghost fits_in = { λ _ _ _. ⊤ };
 
     ghost pieces = { λ v. Some (whole_pieces (rrsig_fields v)) };
 
@@ -198,10 +194,6 @@ impl BuildInMessage for Rrsig<'_> {
 /// The fields in order, the signer in small letters.
 impl CanonicalRecordData for Rrsig<'_> {
     ghost canonical = { λ v. canonical_octets 46 (rrsig_fields v) };
-
-    ghost rank = { λ _. 0 };
-
-    ghost is_proper = { λ _. ⊤ };
 
     ghost as_long = { λ v. canonical_long 46 (rrsig_fields v) };
 

@@ -70,8 +70,6 @@ impl<'a> SplitMessageBytes<'a> for SecAlg {
 impl BuildBytes for SecAlg {
     ghost octets = { λ v. v.code ∷ [] };
 
-    ghost fits = { λ _. ⊤ };
-
     fn build_at(&self, bytes: &mut [u8], start: usize) -> Result<usize, TruncationError> {
         self.code.build_at(bytes, start)
     }
@@ -86,10 +84,6 @@ impl BuildBytes for SecAlg {
 /// Whole, with no name in it.
 impl BuildInMessage for SecAlg {
     ghost presses = { λ v. whole_presses (v.code ∷ []) };
-
-    ghost fits_in = { λ _ _ _. ⊤ };
-
-    ghost pieces = { λ _. None };
 
     ghost told = { λ _. tt };
 

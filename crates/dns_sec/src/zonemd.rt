@@ -134,8 +134,6 @@ impl<'a, const N: usize> DataOfType<'a> for ZoneMD<[u8; N]> {
 impl<D: AsSlice<u8>> BuildBytes for ZoneMD<D> {
     ghost octets = { λ v. fields_octets (zonemd_fields D.items v) };
 
-    ghost fits = { λ _. ⊤ };
-
     #[tactic(auto, using(dns_wire::proofs::Several::themselves))]
     fn build_at(&self, bytes: &mut [u8], start: usize) -> Result<usize, TruncationError> {
         let digest = self.digest.as_slice();
@@ -150,8 +148,6 @@ impl<D: AsSlice<u8>> BuildBytes for ZoneMD<D> {
 /// Whole, a piece for each field.
 impl<D: AsSlice<u8>> BuildInMessage for ZoneMD<D> {
     ghost presses = { λ v. whole_presses (fields_octets (zonemd_fields D.items v)) };
-
-    ghost fits_in = { λ _ _ _. ⊤ };
 
     ghost pieces = { λ v. Some (whole_pieces (zonemd_fields D.items v)) };
 
@@ -169,10 +165,6 @@ impl<D: AsSlice<u8>> BuildInMessage for ZoneMD<D> {
 
 impl<D: AsSlice<u8>> CanonicalRecordData for ZoneMD<D> {
     ghost canonical = { λ v. canonical_octets 63 (zonemd_fields D.items v) };
-
-    ghost rank = { λ _. 0 };
-
-    ghost is_proper = { λ _. ⊤ };
 
     ghost as_long = { λ v. canonical_long 63 (zonemd_fields D.items v) };
 

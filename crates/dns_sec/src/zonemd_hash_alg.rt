@@ -70,8 +70,6 @@ impl<'a> SplitMessageBytes<'a> for ZoneMDHashAlg {
 impl BuildBytes for ZoneMDHashAlg {
     ghost octets = { λ v. v.code ∷ [] };
 
-    ghost fits = { λ _. ⊤ };
-
     fn build_at(&self, bytes: &mut [u8], start: usize) -> Result<usize, TruncationError> {
         self.code.build_at(bytes, start)
     }
@@ -86,10 +84,6 @@ impl BuildBytes for ZoneMDHashAlg {
 /// Whole, with no name in it.
 impl BuildInMessage for ZoneMDHashAlg {
     ghost presses = { λ v. whole_presses (v.code ∷ []) };
-
-    ghost fits_in = { λ _ _ _. ⊤ };
-
-    ghost pieces = { λ _. None };
 
     ghost told = { λ _. tt };
 
