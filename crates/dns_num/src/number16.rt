@@ -12,7 +12,7 @@ ghost use Rattle.dns_wire.specs.Reading.{number, plain_at};
 use dns_wire::{
     BuildBytes, BuildInMessage, NameCompressor, ParseBytes, ParseError, ParseMessageBytes,
     SplitBytes, SplitMessageBytes, TruncationError, build_whole, parse_without_compression, put,
-    split_without_compression,
+    split_without_compression, whole,
 };
 use std::cmp::Ordering;
 use std::fmt;
@@ -123,12 +123,7 @@ impl<'a> ParseBytes<'a> for U16 {
     ghost ends_within = { plain_ends (number w16) (number_leaves w16) };
 
     fn parse_bytes(bytes: &'a [u8]) -> Result<U16, ParseError> {
-        let (number, rest) = U16::split_bytes(bytes)?;
-        if rest.is_empty() {
-            Ok(number)
-        } else {
-            Err(ParseError)
-        }
+        whole(U16::split_bytes(bytes))
     }
 }
 
@@ -160,7 +155,9 @@ impl BuildBytes for U16 {
         put(&self.value.to_be_bytes(), bytes, start)
     }
 
-    fn built_bytes_size(&self) -> usize {
+    fn built_bytes_size(&self) -> usize
+        ensures { result ≡ 2 }
+    {
         2
     }
 }

@@ -11,7 +11,7 @@ ghost use Rattle.dns_wire.specs.Reading.{number, plain_at};
 use dns_wire::{
     BuildBytes, BuildInMessage, NameCompressor, ParseBytes, ParseError, ParseMessageBytes,
     SplitBytes, SplitMessageBytes, TruncationError, build_whole, parse_without_compression, put,
-    split_without_compression,
+    split_without_compression, whole,
 };
 use std::cmp::Ordering;
 use std::fmt;
@@ -101,12 +101,7 @@ impl<'a> ParseBytes<'a> for U32 {
     ghost ends_within = { plain_ends (number w32) (number_leaves w32) };
 
     fn parse_bytes(bytes: &'a [u8]) -> Result<U32, ParseError> {
-        let (number, rest) = U32::split_bytes(bytes)?;
-        if rest.is_empty() {
-            Ok(number)
-        } else {
-            Err(ParseError)
-        }
+        whole(U32::split_bytes(bytes))
     }
 }
 
@@ -138,7 +133,9 @@ impl BuildBytes for U32 {
         put(&self.value.to_be_bytes(), bytes, start)
     }
 
-    fn built_bytes_size(&self) -> usize {
+    fn built_bytes_size(&self) -> usize
+        ensures { result ≡ 4 }
+    {
         4
     }
 }

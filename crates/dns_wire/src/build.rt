@@ -84,7 +84,9 @@ impl BuildBytes for u8 {
         put(&[*self], bytes, start)
     }
 
-    fn built_bytes_size(&self) -> usize {
+    fn built_bytes_size(&self) -> usize
+        ensures { result ≡ 1 }
+    {
         1
     }
 

@@ -16,7 +16,9 @@ impl BuildBytes for () {
         Ok(start)
     }
 
-    fn built_bytes_size(&self) -> usize {
+    fn built_bytes_size(&self) -> usize
+        ensures { result ≡ 0 }
+    {
         0
     }
 }
