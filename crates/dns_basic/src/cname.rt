@@ -18,8 +18,8 @@ ghost use Rattle.dns_basic.specs.Types.{cname_fields};
 use dns_name::{CanonicalName, Lowercased};
 use dns_record::{CanonicalRecordData, DataOfType, RType};
 use dns_wire::{
-    BuildBytes, ParseBytes, ParseError, ParseMessageBytes, ParseName, SplitBytes,
-    SplitMessageBytes, TruncationError, whole, whole_message,
+    BuildBytes, ParseError, ParseName, ReadMessageValue, ReadValue, SplitBytes, SplitMessageBytes,
+    TruncationError,
 };
 use std::cmp::Ordering;
 
@@ -50,7 +50,7 @@ impl<N> CName<N> {
     }
 }
 
-impl<'a, N: ParseName<'a>> ParseBytes<'a> for CName<N> {
+impl<'a, N: ParseName<'a>> ReadValue<'a> for CName<N> {
     ghost Seen = { List (FieldOf N.Seen) };
 
     ghost seen = { λ v. map (named_by N.seen) (cname_fields v) };
@@ -63,30 +63,15 @@ impl<'a, N: ParseName<'a>> ParseBytes<'a> for CName<N> {
 
     ghost ends_within = { fields_end N.reads_at N.ends_within Pointed [] };
 
-    fn parse_bytes(bytes: &'a [u8]) -> Result<CName<N>, ParseError> {
-        whole(CName::split_bytes(bytes))
-    }
-}
-
-impl<'a, N: ParseName<'a>> SplitBytes<'a> for CName<N> {
-    fn split_bytes(bytes: &'a [u8]) -> Result<(CName<N>, &'a [u8]), ParseError> {
+    fn read_front(bytes: &'a [u8]) -> Result<(CName<N>, &'a [u8]), ParseError> {
         let (name, rest) = N::split_bytes(bytes)?;
         let value = CName { name };
         Ok((value, rest))
     }
 }
 
-impl<'a, N: ParseName<'a> + SplitMessageBytes<'a>> ParseMessageBytes<'a> for CName<N> {
-    fn parse_message_bytes(contents: &'a [u8], start: usize) -> Result<CName<N>, ParseError> {
-        whole_message(CName::split_message_bytes(contents, start), contents)
-    }
-}
-
-impl<'a, N: ParseName<'a> + SplitMessageBytes<'a>> SplitMessageBytes<'a> for CName<N> {
-    fn split_message_bytes(
-        contents: &'a [u8],
-        start: usize,
-    ) -> Result<(CName<N>, usize), ParseError> {
+impl<'a, N: ParseName<'a> + SplitMessageBytes<'a>> ReadMessageValue<'a> for CName<N> {
+    fn read_in_message(contents: &'a [u8], start: usize) -> Result<(CName<N>, usize), ParseError> {
         let (name, end) = N::split_message_bytes(contents, start)?;
         let value = CName { name };
         Ok((value, end))

@@ -20,8 +20,8 @@ use dns_name::{CanonicalName, Lowercased};
 use dns_num::U16;
 use dns_record::{CanonicalRecordData, DataOfType, RType};
 use dns_wire::{
-    BuildBytes, ParseBytes, ParseError, ParseMessageBytes, ParseName, SplitBytes,
-    SplitMessageBytes, TruncationError, whole, whole_message,
+    BuildBytes, ParseError, ParseName, ReadMessageValue, ReadValue, SplitBytes, SplitMessageBytes,
+    TruncationError,
 };
 use std::cmp::Ordering;
 
@@ -60,7 +60,7 @@ impl<N> Mx<N> {
     }
 }
 
-impl<'a, N: ParseName<'a>> ParseBytes<'a> for Mx<N> {
+impl<'a, N: ParseName<'a>> ReadValue<'a> for Mx<N> {
     ghost Seen = { List (FieldOf N.Seen) };
 
     ghost seen = { λ v. map (named_by N.seen) (mx_fields v) };
@@ -73,13 +73,7 @@ impl<'a, N: ParseName<'a>> ParseBytes<'a> for Mx<N> {
 
     ghost ends_within = { fields_end N.reads_at N.ends_within (OneNumber w16) (Pointed ∷ []) };
 
-    fn parse_bytes(bytes: &'a [u8]) -> Result<Mx<N>, ParseError> {
-        whole(Mx::split_bytes(bytes))
-    }
-}
-
-impl<'a, N: ParseName<'a>> SplitBytes<'a> for Mx<N> {
-    fn split_bytes(bytes: &'a [u8]) -> Result<(Mx<N>, &'a [u8]), ParseError> {
+    fn read_front(bytes: &'a [u8]) -> Result<(Mx<N>, &'a [u8]), ParseError> {
         let (preference, rest) = U16::split_bytes(bytes)?;
         let (exchange, rest) = N::split_bytes(rest)?;
         let value = Mx {
@@ -90,14 +84,8 @@ impl<'a, N: ParseName<'a>> SplitBytes<'a> for Mx<N> {
     }
 }
 
-impl<'a, N: ParseName<'a> + SplitMessageBytes<'a>> ParseMessageBytes<'a> for Mx<N> {
-    fn parse_message_bytes(contents: &'a [u8], start: usize) -> Result<Mx<N>, ParseError> {
-        whole_message(Mx::split_message_bytes(contents, start), contents)
-    }
-}
-
-impl<'a, N: ParseName<'a> + SplitMessageBytes<'a>> SplitMessageBytes<'a> for Mx<N> {
-    fn split_message_bytes(contents: &'a [u8], start: usize) -> Result<(Mx<N>, usize), ParseError> {
+impl<'a, N: ParseName<'a> + SplitMessageBytes<'a>> ReadMessageValue<'a> for Mx<N> {
+    fn read_in_message(contents: &'a [u8], start: usize) -> Result<(Mx<N>, usize), ParseError> {
         let (preference, at) = U16::split_message_bytes(contents, start)?;
         let (exchange, end) = N::split_message_bytes(contents, at)?;
         let value = Mx {

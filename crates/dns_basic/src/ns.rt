@@ -18,8 +18,8 @@ ghost use Rattle.dns_basic.specs.Types.{ns_fields};
 use dns_name::{CanonicalName, Lowercased};
 use dns_record::{CanonicalRecordData, DataOfType, RType};
 use dns_wire::{
-    BuildBytes, ParseBytes, ParseError, ParseMessageBytes, ParseName, SplitBytes,
-    SplitMessageBytes, TruncationError, whole, whole_message,
+    BuildBytes, ParseError, ParseName, ReadMessageValue, ReadValue, SplitBytes, SplitMessageBytes,
+    TruncationError,
 };
 use std::cmp::Ordering;
 
@@ -52,7 +52,7 @@ impl<N> Ns<N> {
     }
 }
 
-impl<'a, N: ParseName<'a>> ParseBytes<'a> for Ns<N> {
+impl<'a, N: ParseName<'a>> ReadValue<'a> for Ns<N> {
     ghost Seen = { List (FieldOf N.Seen) };
 
     ghost seen = { λ v. map (named_by N.seen) (ns_fields v) };
@@ -65,27 +65,15 @@ impl<'a, N: ParseName<'a>> ParseBytes<'a> for Ns<N> {
 
     ghost ends_within = { fields_end N.reads_at N.ends_within Pointed [] };
 
-    fn parse_bytes(bytes: &'a [u8]) -> Result<Ns<N>, ParseError> {
-        whole(Ns::split_bytes(bytes))
-    }
-}
-
-impl<'a, N: ParseName<'a>> SplitBytes<'a> for Ns<N> {
-    fn split_bytes(bytes: &'a [u8]) -> Result<(Ns<N>, &'a [u8]), ParseError> {
+    fn read_front(bytes: &'a [u8]) -> Result<(Ns<N>, &'a [u8]), ParseError> {
         let (server, rest) = N::split_bytes(bytes)?;
         let value = Ns { server };
         Ok((value, rest))
     }
 }
 
-impl<'a, N: ParseName<'a> + SplitMessageBytes<'a>> ParseMessageBytes<'a> for Ns<N> {
-    fn parse_message_bytes(contents: &'a [u8], start: usize) -> Result<Ns<N>, ParseError> {
-        whole_message(Ns::split_message_bytes(contents, start), contents)
-    }
-}
-
-impl<'a, N: ParseName<'a> + SplitMessageBytes<'a>> SplitMessageBytes<'a> for Ns<N> {
-    fn split_message_bytes(contents: &'a [u8], start: usize) -> Result<(Ns<N>, usize), ParseError> {
+impl<'a, N: ParseName<'a> + SplitMessageBytes<'a>> ReadMessageValue<'a> for Ns<N> {
+    fn read_in_message(contents: &'a [u8], start: usize) -> Result<(Ns<N>, usize), ParseError> {
         let (server, end) = N::split_message_bytes(contents, start)?;
         let value = Ns { server };
         Ok((value, end))

@@ -18,8 +18,8 @@ ghost use Rattle.dns_basic.specs.Types.{ptr_fields};
 use dns_name::{CanonicalName, Lowercased};
 use dns_record::{CanonicalRecordData, DataOfType, RType};
 use dns_wire::{
-    BuildBytes, ParseBytes, ParseError, ParseMessageBytes, ParseName, SplitBytes,
-    SplitMessageBytes, TruncationError, whole, whole_message,
+    BuildBytes, ParseError, ParseName, ReadMessageValue, ReadValue, SplitBytes, SplitMessageBytes,
+    TruncationError,
 };
 use std::cmp::Ordering;
 
@@ -50,7 +50,7 @@ impl<N> Ptr<N> {
     }
 }
 
-impl<'a, N: ParseName<'a>> ParseBytes<'a> for Ptr<N> {
+impl<'a, N: ParseName<'a>> ReadValue<'a> for Ptr<N> {
     ghost Seen = { List (FieldOf N.Seen) };
 
     ghost seen = { λ v. map (named_by N.seen) (ptr_fields v) };
@@ -63,30 +63,15 @@ impl<'a, N: ParseName<'a>> ParseBytes<'a> for Ptr<N> {
 
     ghost ends_within = { fields_end N.reads_at N.ends_within Pointed [] };
 
-    fn parse_bytes(bytes: &'a [u8]) -> Result<Ptr<N>, ParseError> {
-        whole(Ptr::split_bytes(bytes))
-    }
-}
-
-impl<'a, N: ParseName<'a>> SplitBytes<'a> for Ptr<N> {
-    fn split_bytes(bytes: &'a [u8]) -> Result<(Ptr<N>, &'a [u8]), ParseError> {
+    fn read_front(bytes: &'a [u8]) -> Result<(Ptr<N>, &'a [u8]), ParseError> {
         let (name, rest) = N::split_bytes(bytes)?;
         let value = Ptr { name };
         Ok((value, rest))
     }
 }
 
-impl<'a, N: ParseName<'a> + SplitMessageBytes<'a>> ParseMessageBytes<'a> for Ptr<N> {
-    fn parse_message_bytes(contents: &'a [u8], start: usize) -> Result<Ptr<N>, ParseError> {
-        whole_message(Ptr::split_message_bytes(contents, start), contents)
-    }
-}
-
-impl<'a, N: ParseName<'a> + SplitMessageBytes<'a>> SplitMessageBytes<'a> for Ptr<N> {
-    fn split_message_bytes(
-        contents: &'a [u8],
-        start: usize,
-    ) -> Result<(Ptr<N>, usize), ParseError> {
+impl<'a, N: ParseName<'a> + SplitMessageBytes<'a>> ReadMessageValue<'a> for Ptr<N> {
+    fn read_in_message(contents: &'a [u8], start: usize) -> Result<(Ptr<N>, usize), ParseError> {
         let (name, end) = N::split_message_bytes(contents, start)?;
         let value = Ptr { name };
         Ok((value, end))

@@ -19,8 +19,8 @@ ghost use Rattle.dns_basic.specs.Sizes.{both_names};
 use dns_name::{CanonicalName, Lowercased};
 use dns_record::{CanonicalRecordData, DataOfType, RType};
 use dns_wire::{
-    BuildBytes, ParseBytes, ParseError, ParseMessageBytes, ParseName, SplitBytes,
-    SplitMessageBytes, TruncationError, whole, whole_message,
+    BuildBytes, ParseError, ParseName, ReadMessageValue, ReadValue, SplitBytes, SplitMessageBytes,
+    TruncationError,
 };
 use std::cmp::Ordering;
 
@@ -57,7 +57,7 @@ impl<N> Rp<N> {
     }
 }
 
-impl<'a, N: ParseName<'a>> ParseBytes<'a> for Rp<N> {
+impl<'a, N: ParseName<'a>> ReadValue<'a> for Rp<N> {
     ghost Seen = { List (FieldOf N.Seen) };
 
     ghost seen = { λ v. map (named_by N.seen) (rp_fields v) };
@@ -70,13 +70,7 @@ impl<'a, N: ParseName<'a>> ParseBytes<'a> for Rp<N> {
 
     ghost ends_within = { fields_end N.reads_at N.ends_within Pointed (Pointed ∷ []) };
 
-    fn parse_bytes(bytes: &'a [u8]) -> Result<Rp<N>, ParseError> {
-        whole(Rp::split_bytes(bytes))
-    }
-}
-
-impl<'a, N: ParseName<'a>> SplitBytes<'a> for Rp<N> {
-    fn split_bytes(bytes: &'a [u8]) -> Result<(Rp<N>, &'a [u8]), ParseError> {
+    fn read_front(bytes: &'a [u8]) -> Result<(Rp<N>, &'a [u8]), ParseError> {
         let (mailbox, rest) = N::split_bytes(bytes)?;
         let (texts, rest) = N::split_bytes(rest)?;
         let value = Rp { mailbox, texts };
@@ -84,14 +78,8 @@ impl<'a, N: ParseName<'a>> SplitBytes<'a> for Rp<N> {
     }
 }
 
-impl<'a, N: ParseName<'a> + SplitMessageBytes<'a>> ParseMessageBytes<'a> for Rp<N> {
-    fn parse_message_bytes(contents: &'a [u8], start: usize) -> Result<Rp<N>, ParseError> {
-        whole_message(Rp::split_message_bytes(contents, start), contents)
-    }
-}
-
-impl<'a, N: ParseName<'a> + SplitMessageBytes<'a>> SplitMessageBytes<'a> for Rp<N> {
-    fn split_message_bytes(contents: &'a [u8], start: usize) -> Result<(Rp<N>, usize), ParseError> {
+impl<'a, N: ParseName<'a> + SplitMessageBytes<'a>> ReadMessageValue<'a> for Rp<N> {
+    fn read_in_message(contents: &'a [u8], start: usize) -> Result<(Rp<N>, usize), ParseError> {
         let (mailbox, at) = N::split_message_bytes(contents, start)?;
         let (texts, end) = N::split_message_bytes(contents, at)?;
         let value = Rp { mailbox, texts };

@@ -21,8 +21,8 @@ use dns_name::{CanonicalName, Lowercased};
 use dns_num::U32;
 use dns_record::{CanonicalRecordData, DataOfType, RType, Serial};
 use dns_wire::{
-    BuildBytes, ParseBytes, ParseError, ParseMessageBytes, ParseName, SplitBytes,
-    SplitMessageBytes, TruncationError, whole, whole_message,
+    BuildBytes, ParseError, ParseName, ReadMessageValue, ReadValue, SplitBytes, SplitMessageBytes,
+    TruncationError,
 };
 use std::cmp::Ordering;
 
@@ -87,7 +87,7 @@ impl<N> Soa<N> {
     }
 }
 
-impl<'a, N: ParseName<'a>> ParseBytes<'a> for Soa<N> {
+impl<'a, N: ParseName<'a>> ReadValue<'a> for Soa<N> {
     ghost Seen = { List (FieldOf N.Seen) };
 
     ghost seen = { λ v. map (named_by N.seen) (soa_fields v) };
@@ -100,13 +100,7 @@ impl<'a, N: ParseName<'a>> ParseBytes<'a> for Soa<N> {
 
     ghost ends_within = { fields_end N.reads_at N.ends_within Pointed (Pointed ∷ OneNumber w32 ∷ OneNumber w32 ∷ OneNumber w32 ∷ OneNumber w32 ∷ OneNumber w32 ∷ []) };
 
-    fn parse_bytes(bytes: &'a [u8]) -> Result<Soa<N>, ParseError> {
-        whole(Soa::split_bytes(bytes))
-    }
-}
-
-impl<'a, N: ParseName<'a>> SplitBytes<'a> for Soa<N> {
-    fn split_bytes(bytes: &'a [u8]) -> Result<(Soa<N>, &'a [u8]), ParseError> {
+    fn read_front(bytes: &'a [u8]) -> Result<(Soa<N>, &'a [u8]), ParseError> {
         let (mname, rest) = N::split_bytes(bytes)?;
         let (rname, rest) = N::split_bytes(rest)?;
         let (serial, rest) = Serial::split_bytes(rest)?;
@@ -127,17 +121,8 @@ impl<'a, N: ParseName<'a>> SplitBytes<'a> for Soa<N> {
     }
 }
 
-impl<'a, N: ParseName<'a> + SplitMessageBytes<'a>> ParseMessageBytes<'a> for Soa<N> {
-    fn parse_message_bytes(contents: &'a [u8], start: usize) -> Result<Soa<N>, ParseError> {
-        whole_message(Soa::split_message_bytes(contents, start), contents)
-    }
-}
-
-impl<'a, N: ParseName<'a> + SplitMessageBytes<'a>> SplitMessageBytes<'a> for Soa<N> {
-    fn split_message_bytes(
-        contents: &'a [u8],
-        start: usize,
-    ) -> Result<(Soa<N>, usize), ParseError> {
+impl<'a, N: ParseName<'a> + SplitMessageBytes<'a>> ReadMessageValue<'a> for Soa<N> {
+    fn read_in_message(contents: &'a [u8], start: usize) -> Result<(Soa<N>, usize), ParseError> {
         let (mname, at) = N::split_message_bytes(contents, start)?;
         let (rname, at) = N::split_message_bytes(contents, at)?;
         let (serial, at) = Serial::split_message_bytes(contents, at)?;

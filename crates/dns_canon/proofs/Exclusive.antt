@@ -1,10 +1,9 @@
 -- A message has one reading, and calls for one answer.
-use Rattle.std.proofs.Common.{◌≡◌, ℕ, ◌<◌, ◌⊎◌, inl, inr, Bool, true, false, List, length, drop, refl, sym, ap, ◌∙◌, Option, Some, None, ltb, [], ◌∷◌}
+use Rattle.std.proofs.Common.{◌≡◌, ℕ, ◌<◌, ◌⊎◌, inl, inr, false, List, length, drop, refl, sym, ap, ◌∙◌, Option, Some, None, ltb, [], ◌∷◌}
 use Rattle.std.proofs.lemmas.Bool.{cases_lt, le-ltb}
-use Rattle.dns_canon.specs.Lists.{RefusedAs, RefusedOrMemory}
-use Rattle.dns_canon.specs.Messages.{Item as MessageItem, Rec, Reading, item_at, with_item, then_read, reading_from, slots_from, counts_of, message_reading, records_among, Valid, StopsAt}
+use Rattle.dns_canon.specs.Refusals.{RefusedAs, RefusedOrMemory}
+use Rattle.dns_canon.specs.Messages.{Item as MessageItem, Rec, Reading, item_at, with_item, then_read, reading_from, slots_from, counts_of, message_reading, records_among, Valid, StopsAt, BadAt}
 use Rattle.dns_canon.specs.Messages.Reading.{Short, Stopped, Whole}
-use Rattle.dns_canon.specs.NotBuilt.{not_built_at, StopsBad, StopsNotBuilt}
 use Rattle.dns_canon.specs.declared.error.CanonError.{CanonError}
 use Rattle.dns_canon.specs.declared.error.CanonError.TheVariants as error
 use Rattle.dns_canon.proofs.Phrased.{short_reading}
@@ -33,39 +32,24 @@ stops_not_short m s i p (items, is) short = let e = sym (short_reading m short) 
 pub stops_not_valid : (m : List ℕ) (s i p : ℕ) (rs : List Rec) → StopsAt m s i p → Valid m rs → ⊥
 stops_not_valid m s i p rs (items, is) (others, end, js, rs-is) = let e = sym is ∙ js in cc
 
--- the first item that is not read is of a form that is not read yet, or it is not
-pub bad_not_waiting : (m : List ℕ) (s i t j : ℕ) → StopsBad m s i → StopsNotBuilt m t j → ⊥
-bad_not_waiting m s i t j (p, stops, bad) (q, others, form) =
-    let same = stops_one m s i p t j q stops others in
-    let there : not_built_at s (drop 12 m) p ≡ true = rw (same.0, same.2) form in
-    let e = sym bad ∙ there in cc
-
 -- ---- one answer
 
 pub refused_not_valid : (m : List ℕ) (rs : List Rec) (e : CanonError) → Valid m rs → RefusedAs m e → ⊥
 refused_not_valid m rs error.Short valid h = valid_not_short m rs valid h
-refused_not_valid m rs (error.Item s i) valid (p, stops, bad) = stops_not_valid m s i p rs stops valid
-refused_not_valid m rs (error.NotBuilt s i) valid (p, stops, form) = stops_not_valid m s i p rs stops valid
+refused_not_valid m rs (error.Item s i) valid (p, stops) = stops_not_valid m s i p rs stops valid
 refused_not_valid m rs error.Memory valid h = h
 
 pub refused_or_memory : (m : List ℕ) (e : CanonError) → RefusedOrMemory m e → RefusedAs m e ⊎ (e ≡ error.Memory)
 refused_or_memory m error.Short h = inl h
 refused_or_memory m (error.Item s i) h = inl h
-refused_or_memory m (error.NotBuilt s i) h = inl h
 refused_or_memory m error.Memory h = inr refl
 
 pub refused_one : (m : List ℕ) (e f : CanonError) → RefusedAs m e → RefusedAs m f → e ≡ f
 refused_one m error.Short error.Short h g = refl
-refused_one m error.Short (error.Item s i) h (p, stops, bad) = absurd (stops_not_short m s i p stops h)
-refused_one m error.Short (error.NotBuilt s i) h (p, stops, form) = absurd (stops_not_short m s i p stops h)
-refused_one m (error.Item s i) error.Short (p, stops, bad) g = absurd (stops_not_short m s i p stops g)
-refused_one m (error.Item s i) (error.Item t j) (p, stops, bad) (q, others, worse) =
+refused_one m error.Short (error.Item s i) h (p, stops) = absurd (stops_not_short m s i p stops h)
+refused_one m (error.Item s i) error.Short (p, stops) g = absurd (stops_not_short m s i p stops g)
+refused_one m (error.Item s i) (error.Item t j) (p, stops) (q, others) =
     let same = stops_one m s i p t j q stops others in λ k. error.Item (same.0 k) (same.1 k)
-refused_one m (error.Item s i) (error.NotBuilt t j) h g = absurd (bad_not_waiting m s i t j h g)
-refused_one m (error.NotBuilt s i) error.Short (p, stops, form) g = absurd (stops_not_short m s i p stops g)
-refused_one m (error.NotBuilt s i) (error.Item t j) h g = absurd (bad_not_waiting m t j s i g h)
-refused_one m (error.NotBuilt s i) (error.NotBuilt t j) (p, stops, form) (q, others, other) =
-    let same = stops_one m s i p t j q stops others in λ k. error.NotBuilt (same.0 k) (same.1 k)
 refused_one m error.Memory f h g = absurd h
 refused_one m e error.Memory h g = absurd g
 
@@ -93,21 +77,17 @@ never_short c (slot ∷ slots) at e = by (item_at slot.0 c at) e (λ next h. nev
   by None e more = cc
   by (Some (item, next)) e more = more next (with_item_long item (reading_from c slots next) e)
 
-pub four_kinds : (m : List ℕ) → (length m < 12) ⊎ (((rs : List Rec) × Valid m rs) ⊎ (((s i : ℕ) × StopsNotBuilt m s i) ⊎ ((s i : ℕ) × StopsBad m s i)))
+pub three_kinds : (m : List ℕ) → (length m < 12) ⊎ (((rs : List Rec) × Valid m rs) ⊎ ((s i : ℕ) × BadAt m s i))
 unfolding message_reading
-four_kinds m = elim (cases_lt (length m) 12) [
+three_kinds m = elim (cases_lt (length m) 12) [
   | inl short ↦ inl short
   | inr long ↦
       let fits : ltb (length m) 12 ≡ false = le-ltb _ _ long in
       let same : message_reading m ≡ reading_from (drop 12 m) (slots_from 0 (counts_of m)) 0 = rw fits refl in
       inr (by (reading_from (drop 12 m) (slots_from 0 (counts_of m)) 0) refl same)
 ] where
-  stopped : (s i p : ℕ) → StopsAt m s i p → (b : Bool) → not_built_at s (drop 12 m) p ≡ b → ((s i : ℕ) × StopsNotBuilt m s i) ⊎ ((s i : ℕ) × StopsBad m s i)
-  stopped s i p stops true e = inl (s, i, (p, stops, e))
-  stopped s i p stops false e = inr (s, i, (p, stops, e))
-
   by : (reading : Reading) → reading_from (drop 12 m) (slots_from 0 (counts_of m)) 0 ≡ reading → message_reading m ≡ reading_from (drop 12 m) (slots_from 0 (counts_of m)) 0
-      → ((rs : List Rec) × Valid m rs) ⊎ (((s i : ℕ) × StopsNotBuilt m s i) ⊎ ((s i : ℕ) × StopsBad m s i))
+      → ((rs : List Rec) × Valid m rs) ⊎ ((s i : ℕ) × BadAt m s i)
   by Short e is = absurd (never_short (drop 12 m) (slots_from 0 (counts_of m)) 0 e)
-  by (Stopped items s i p) e is = inr (stopped s i p (items, is ∙ e) (not_built_at s (drop 12 m) p) refl)
+  by (Stopped items s i p) e is = inr (s, i, (p, (items, is ∙ e)))
   by (Whole items end) e is = inl (records_among items, (items, end, is ∙ e, refl))

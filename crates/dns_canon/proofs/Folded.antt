@@ -8,7 +8,7 @@ use Rattle.dns_plain.specs.Types.{srv_fields, dname_fields}
 use Rattle.dns_sec.specs.Types.{rrsig_fields}
 use Rattle.dns_canon.specs.Seen.{data_seen, data_folded, is_data_of}
 use Rattle.dns_canon.specs.declared.record_data.RecordData.{RecordData}
-use Rattle.dns_canon.specs.declared.record_data.RecordData.TheVariants.{A, Ns, CName, Soa, Ptr, HInfo, Mx, Txt, Rp, Aaaa, Srv, DName, Ds, Rrsig, Nsec, DNSKey, Nsec3, Nsec3Param, ZoneMD, Unknown}
+use Rattle.dns_canon.specs.declared.record_data.RecordData.TheVariants.{A, Ns, CName, Soa, Ptr, HInfo, Mx, Txt, Rp, Aaaa, Srv, DName, Opt, Ds, Rrsig, Nsec, DNSKey, Nsec3, Nsec3Param, ZoneMD, Unknown}
 
 -- data of a type are folded as the type says
 pub folded_is : (v : RecordData) (rtype : ℕ) → is_data_of v rtype → canonical_fields rtype (data_seen v) ≡ data_folded v
@@ -24,6 +24,7 @@ folded_is (Rp v) rtype is = rw is refl
 folded_is (Aaaa v) rtype is = rw is refl
 folded_is (Srv v) rtype is = rw is refl
 folded_is (DName v) rtype is = rw is refl
+folded_is (Opt v) rtype is = rw is refl
 folded_is (Ds v) rtype is = rw is refl
 folded_is (Rrsig v) rtype is = rw is refl
 folded_is (Nsec v) rtype is = rw is refl
@@ -50,6 +51,7 @@ folded_size (Rp v) = folded_long (rp_fields v)
 folded_size (Aaaa v) = refl
 folded_size (Srv v) = folded_long (srv_fields v)
 folded_size (DName v) = folded_long (dname_fields v)
+folded_size (Opt v) = refl
 folded_size (Ds v) = refl
 folded_size (Rrsig v) = folded_long (rrsig_fields v)
 folded_size (Nsec v) = refl

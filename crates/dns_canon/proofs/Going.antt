@@ -4,13 +4,13 @@ use Rattle.std.proofs.lemmas.Bool.Decides.{nat_tests}
 use Rattle.std.proofs.lemmas.List.{map-append}
 use Rattle.std.proofs.lemmas.List.Elements.{filter-append}
 use Rattle.dns_canon.specs.Canonical.{is_kept}
-use Rattle.dns_canon.specs.Lists.{FailsInSection, RefusedInSection, refusal_at}
+use Rattle.dns_canon.specs.Refusals.{FailsInSection, RefusedInSection}
 use Rattle.dns_canon.specs.Messages.{Item, Rec, item_at, slots, records_among}
 use Rattle.dns_canon.specs.Messages.Item.{Asked, Told}
 use Rattle.dns_canon.specs.Order.{SortKey, sort_key}
 use Rattle.dns_canon.specs.Worded.{ItemsAt}
 use Rattle.dns_canon.specs.declared.error.CanonError.{CanonError}
-use Rattle.dns_canon.specs.declared.error.CanonError.TheVariants.{Short, Item as CanonItem, NotBuilt, Memory}
+use Rattle.dns_canon.specs.declared.error.CanonError.TheVariants.{Short, Item as CanonItem, Memory}
 
 -- ---- lists of places and of items
 
@@ -86,8 +86,7 @@ section_fails contents start section count index at old new so counted unread = 
 
 -- an item that is not read refuses the section
 pub refused_there : (contents : List ℕ) (start section count index place : ℕ) (error : CanonError) → FailsInSection contents start section count index place
-    → error ≡ refusal_at contents section index place → RefusedInSection contents start section count error
+    → error ≡ CanonItem section index → RefusedInSection contents start section count error
 refused_there contents start section count index place Short fails is = (index, place, fails, is)
 refused_there contents start section count index place (CanonItem s i) fails is = (index, place, fails, is)
-refused_there contents start section count index place (NotBuilt s i) fails is = (index, place, fails, is)
 refused_there contents start section count index place Memory fails is = tt

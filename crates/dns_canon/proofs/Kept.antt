@@ -4,7 +4,7 @@ use Rattle.std.specs.Prelude.{⊤, IsOk}
 use Rattle.std.proofs.lemmas.List.{drop_all, take_at}
 use Rattle.std.specs.Str.{str_to_ascii_lowercase}
 use Rattle.std.proofs.lemmas.Str.Ascii.{lowercase-lowercase}
-use Rattle.dns_wire.specs.Names.{wire, plain_name, labels_of, lowered}
+use Rattle.dns_wire.specs.Names.{wire, plain_name, name_labels, lowered}
 use Rattle.dns_wire.specs.Building.{Builds}
 use Rattle.dns_wire.specs.Reading.{all_of}
 use Rattle.dns_wire.proofs.Lowered.{name_lowered, lowered_long}
@@ -21,19 +21,19 @@ lowered_twice (label ∷ labels) = rw (lower_twice label, lowered_twice labels) 
 
 -- the octets of a name in small letters
 pub record IsLowered (name octets : List ℕ) : Type 0 where
-  pub is_name : all_of (plain_name octets) ≡ Some (labels_of octets)
-  pub labels : labels_of octets ≡ lowered (labels_of name)
-  pub is_lowered : lowered (labels_of octets) ≡ labels_of octets
+  pub is_name : all_of (plain_name octets) ≡ Some (name_labels octets)
+  pub labels : name_labels octets ≡ lowered (name_labels name)
+  pub is_lowered : lowered (name_labels octets) ≡ name_labels octets
 
-pub lowered_octets : (name octets : List ℕ) → all_of (plain_name name) ≡ Some (labels_of name) → octets ≡ wire (lowered (labels_of name)) → IsLowered name octets
+pub lowered_octets : (name octets : List ℕ) → all_of (plain_name name) ≡ Some (name_labels name) → octets ≡ wire (lowered (name_labels name)) → IsLowered name octets
 lowered_octets name octets is whole =
-    let n = name_octets name (labels_of name) is in
-    let read = labels_of_wire (lowered (labels_of name)) (name_lowered (labels_of name) n.0) in
-    let labels : labels_of octets ≡ lowered (labels_of name) = ap labels_of whole ∙ read.1 in
+    let n = name_octets name (name_labels name) is in
+    let read = labels_of_wire (lowered (name_labels name)) (name_lowered (name_labels name) n.0) in
+    let labels : name_labels octets ≡ lowered (name_labels name) = ap name_labels whole ∙ read.1 in
     record {
       is_name = ap (λ (o : List ℕ). all_of (plain_name o)) whole ∙ read.0 ∙ ap Some (sym labels);
       labels = labels;
-      is_lowered = ap lowered labels ∙ lowered_twice (labels_of name) ∙ sym labels;
+      is_lowered = ap lowered labels ∙ lowered_twice (name_labels name) ∙ sym labels;
     }
 
 -- there is room for octets over others that are as many, and then none of these is left
@@ -46,7 +46,7 @@ is_written octets old new (Ok end) long built =
 is_written octets old new (Err e) long built = absurd (omega (arith, built.err.2 tt, long))
 
 -- it fills a vector that is as long as the name
-pub is_kept_whole : (name new items : List ℕ) (len : ℕ) → all_of (plain_name name) ≡ Some (labels_of name) → new ≡ wire (lowered (labels_of name)) → len ≡ length (wire (labels_of name))
+pub is_kept_whole : (name new items : List ℕ) (len : ℕ) → all_of (plain_name name) ≡ Some (name_labels name) → new ≡ wire (lowered (name_labels name)) → len ≡ length (wire (name_labels name))
     → IsLowered name (take len (new ++ drop (length new) items))
 is_kept_whole name new items len is whole long =
-    lowered_octets name _ is (take_at new (drop (length new) items) len (ap length whole ∙ lowered_long (labels_of name) ∙ sym long) ∙ whole)
+    lowered_octets name _ is (take_at new (drop (length new) items) len (ap length whole ∙ lowered_long (name_labels name) ∙ sym long) ∙ whole)

@@ -1,11 +1,9 @@
 -- The crate's own lemmas.
-pub mod Answering
 pub mod Decoding
 pub mod Exclusive
 pub mod Folded
 pub mod Going
 pub mod Kept
-pub mod NoItem
 pub mod Ordering
 pub mod Phrased
 pub mod PlainData
@@ -15,4 +13,5 @@ pub mod Sorting
 pub mod Standing
 pub mod Transfers
 pub mod Trimming
+pub mod Verdicts
 pub mod WordLemmas

@@ -10,7 +10,7 @@ use Rattle.std.specs.List.Sorted.{IsPermutation}
 use Rattle.std.proofs.lemmas.Cmp.{on_total, tied_itself}
 use Rattle.std.proofs.lemmas.List.{reverse-reverse, length-append}
 use Rattle.std.proofs.lemmas.List.Sorted.{IsPermutation-refl, IsPermutation-cons, IsPermutation-middle, IsPermutation-trans, IsPermutation-map}
-use Rattle.dns_wire.specs.Names.{wire, lowered}
+use Rattle.dns_wire.specs.Names.{lowered}
 use Rattle.dns_wire.proofs.Lowered.{wire_parts, name_lowered, lowered_long}
 use Rattle.dns_canon.specs.Canonical.{canon, is_kept, octets_of_parts}
 use Rattle.dns_record.specs.Types.{is_lowercased}

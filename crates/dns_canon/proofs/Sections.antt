@@ -1,15 +1,14 @@
 -- Sections one after another.
-use Rattle.std.proofs.Common.{◌≡◌, ℕ, zero, suc, ◌+◌, ◌-◌, ◌*◌, ◌<◌, ◌≤◌, Bool, true, false, cond, List, [], ◌∷◌, ◌++◌, length, map, get_or, take, drop, refl, sym, ap, ◌∙◌, subst, arith, append_assoc, append-nil, add-one, drop-cons}
+use Rattle.std.proofs.Common.{◌≡◌, ℕ, zero, suc, ◌+◌, ◌-◌, ◌*◌, ◌<◌, ◌≤◌, List, [], ◌∷◌, ◌++◌, length, map, get_or, take, drop, refl, sym, ap, ◌∙◌, subst, arith, append_assoc, append-nil, add-one, drop-cons}
 use Rattle.std.specs.Prelude.{filter}
 use Rattle.std.proofs.lemmas.List.{get_or-take}
 use Rattle.dns_canon.specs.Canonical.{is_kept}
-use Rattle.dns_canon.specs.Lists.{FailsInSection, RefusedInSection, RefusedOrMemory}
-use Rattle.dns_canon.specs.Messages.{Item, Rec, slots, slots_from, counts_of, records_among, Valid, StopsAt}
-use Rattle.dns_canon.specs.NotBuilt.{not_built_at, StopsBad, StopsNotBuilt}
+use Rattle.dns_canon.specs.Refusals.{FailsInSection, RefusedInSection, RefusedOrMemory}
+use Rattle.dns_canon.specs.Messages.{Item, Rec, slots, slots_from, counts_of, records_among, Valid, StopsAt, BadAt}
 use Rattle.dns_canon.specs.Order.{SortKey, sort_key}
 use Rattle.dns_canon.specs.Worded.{ItemsAt, FailsAt}
 use Rattle.dns_canon.specs.declared.error.CanonError.{CanonError}
-use Rattle.dns_canon.specs.declared.error.CanonError.TheVariants.{Short, Item as CanonItem, NotBuilt, Memory}
+use Rattle.dns_canon.specs.declared.error.CanonError.TheVariants.{Short, Item as CanonItem, Memory}
 use Rattle.dns_canon.proofs.Going.{kept_of, kept_append, items_append}
 use Rattle.dns_canon.proofs.Phrased.{fails_stops, whole_read}
 
@@ -105,30 +104,9 @@ message_fails m contents section at count old index place header below is counte
 pub message_refused : (m contents : List ℕ) (section at count : ℕ) (old : List SortKey) (error : CanonError) → 12 ≤ length m → section < 4 → contents ≡ drop 12 m → count ≡ get_or (counts_of m) section 0
     → MessageSoFar m section at old → RefusedInSection contents at section count error → RefusedOrMemory m error
 message_refused m contents section at count old Memory header below is counted so refused = tt
-message_refused m contents section at count old Short header below is counted so (index, place, fails, refusal) =
-    absurd (never (not_built_at section contents place) refusal) where
-      never : (b : Bool) → Short ≡ cond b (NotBuilt section index) (CanonItem section index) → ⊥
-      never true e = cc
-      never false e = cc
+message_refused m contents section at count old Short header below is counted so (index, place, fails, refusal) = absurd cc
 message_refused m contents section at count old (CanonItem s i) header below is counted so (index, place, fails, refusal) =
-    by (not_built_at section contents place) refl refusal where
-      stops : StopsAt m section index place
-      stops = fails_stops m section index place (message_fails m contents section at count old index place header below is counted so fails)
-
-      by : (b : Bool) → not_built_at section contents place ≡ b → CanonItem s i ≡ cond b (NotBuilt section index) (CanonItem section index) → StopsBad m s i
-      by true form e = absurd cc
-      by false form e =
-          let s-is : s ≡ section = cc in
-          let i-is : i ≡ index = cc in
-          rw (s-is, i-is) (let bad : StopsBad m section index = (place, stops, rw (sym is) form) in bad)
-message_refused m contents section at count old (NotBuilt s i) header below is counted so (index, place, fails, refusal) =
-    by (not_built_at section contents place) refl refusal where
-      stops : StopsAt m section index place
-      stops = fails_stops m section index place (message_fails m contents section at count old index place header below is counted so fails)
-
-      by : (b : Bool) → not_built_at section contents place ≡ b → NotBuilt s i ≡ cond b (NotBuilt section index) (CanonItem section index) → StopsNotBuilt m s i
-      by false form e = absurd cc
-      by true form e =
-          let s-is : s ≡ section = cc in
-          let i-is : i ≡ index = cc in
-          rw (s-is, i-is) (let waits : StopsNotBuilt m section index = (place, stops, rw (sym is) form) in waits)
+    let s-is : s ≡ section = cc in
+    let i-is : i ≡ index = cc in
+    let stops : StopsAt m section index place = fails_stops m section index place (message_fails m contents section at count old index place header below is counted so fails) in
+    rw (s-is, i-is) (let bad : BadAt m section index = (place, stops) in bad)

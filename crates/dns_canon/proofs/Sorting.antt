@@ -12,7 +12,7 @@ use Rattle.std.proofs.lemmas.Cmp.{nat_cmp_total, on_total, then_total, nat_list_
 use Rattle.std.proofs.lemmas.List.{reverse-reverse}
 use Rattle.std.proofs.lemmas.List.Recursion.{is_sum_by}
 use Rattle.std.proofs.lemmas.List.Sorted.{ranks_by, sorted_far, sum_by-IsPermutation}
-use Rattle.dns_wire.specs.Names.{labels_of, lowered}
+use Rattle.dns_wire.specs.Names.{name_labels, lowered}
 use Rattle.dns_name.specs.Order.{key_of, key_cmp}
 use Rattle.dns_name.proofs.Sameness.{keys_total}
 use Rattle.dns_canon.specs.Canonical.{canon, is_kept, octets_of_parts}
@@ -31,7 +31,7 @@ pub cmp_is : (p q : OwnedRecord) → cmp-value.it p q ≡ sort_key_cmp (owned_se
 cmp_is p q =
     ap (λ (k : List (List ℕ)). ordering_then (key_cmp k (key_of q.owner.octets.items)) (ordering_then (nat_cmp p.class q.class) (ordering_then (nat_cmp p.rtype q.rtype)
     (ordering_then (slice_cmp nat_cmp p.octets.items q.octets.items) (nat_cmp p.ttl q.ttl))))) (ap reverse p.owner.is_lowered)
-    ∙ ap (λ (k : List (List ℕ)). ordering_then (key_cmp (reverse (labels_of p.owner.octets.items)) k) (ordering_then (nat_cmp p.class q.class) (ordering_then (nat_cmp p.rtype q.rtype)
+    ∙ ap (λ (k : List (List ℕ)). ordering_then (key_cmp (reverse (name_labels p.owner.octets.items)) k) (ordering_then (nat_cmp p.class q.class) (ordering_then (nat_cmp p.rtype q.rtype)
     (ordering_then (slice_cmp nat_cmp p.octets.items q.octets.items) (nat_cmp p.ttl q.ttl))))) (ap reverse q.owner.is_lowered)
 
 pub sort_key_cmp_total : IsTotalOrder sort_key_cmp

@@ -8,7 +8,8 @@ use Rattle.std.proofs.lemmas.List.{take-append-le}
 use Rattle.std.proofs.lemmas.List.Concat.{flat_map-cons}
 use Rattle.std.proofs.lemmas.Grind.{flat_map-append}
 use Rattle.dns_wire.specs.Outside.{WritesFront, Puts}
-use Rattle.dns_canon.specs.Run.{TakesAtMost, spaced, note_line}
+use Rattle.dns_canon.specs.Run.{TakesAtMost}
+use Rattle.dns_canon.specs.Statuses.{spaced, note_line}
 use Rattle.std.specs.Io.KnownBytes.{Appends, Consumes}
 use Rattle.dns_wire.specs.Outside.{WriteFlag}
 use Rattle.dns_wire.specs.declared.outside.Failed.{Failed}

@@ -1,5 +1,5 @@
 -- Canonical octets (RFC 4034 section 6.2, RFC 6840 section 5.1).
-use Rattle.std.specs.Prelude.{ℕ, List, ◌++◌, length, map, Bool, not, ◌==◌, ◌||◌, if◌then◌else◌}
+use Rattle.std.specs.Prelude.{ℕ, List, ◌++◌, length, Bool, not, ◌==◌}
 use Rattle.std.specs.Int.{w16, w32, to_be_bytes}
 use Rattle.dns_wire.specs.Names.{wire, lowered}
 use Rattle.dns_record.specs.Fields.{fields_octets, canonical_fields}

@@ -1,11 +1,11 @@
 -- Messages: the counted items one after another, and the first that is not read (RFC 1035 section 4.1).
 use Rattle.std.specs.Prelude.{◌≡◌, ℕ, zero, suc, ◌+◌, ◌*◌, List, [], ◌∷◌, ◌++◌, length, drop, Option, Some, None, nat_lt, slice_index, ◌==◌, if◌then◌else◌}
 use Rattle.dns_wire.specs.Pointers.{name_at}
+use Rattle.dns_record.specs.Data.{data_in}
 use Rattle.dns_record.specs.Fields.{Field}
 use Rattle.dns_record.specs.Questions.{QuestionOf, question_in}
 use Rattle.dns_record.specs.Records.{RecordOf, record_in}
 use Rattle.dns_wire.specs.Steps.{first_to}
-use Rattle.dns_canon.specs.Data.{read_in}
 
 -- a question, with its name's labels
 abbrev pub Question : Type 0
@@ -23,7 +23,7 @@ pub data Item : Type 0 where
 unfoldable pub item_at : ℕ → List ℕ → ℕ → Option (Item × ℕ)
 item_at section contents at =
     if section == 0 then first_to Asked (question_in name_at contents at)
-    else first_to Told (record_in name_at read_in contents at)
+    else first_to Told (record_in name_at (data_in name_at) contents at)
 
 -- ---- which items are counted
 
@@ -85,3 +85,7 @@ Valid m rs = (items : List Item) × (end : ℕ) × (message_reading m ≡ Whole 
 -- this item of this section is the first that is not read, at this place
 abbrev pub StopsAt : List ℕ → ℕ → ℕ → ℕ → Type 0
 StopsAt m section index place = (items : List Item) × (message_reading m ≡ Stopped items section index place)
+
+-- this item of this section is the first that is not read
+abbrev pub BadAt : List ℕ → ℕ → ℕ → Type 0
+BadAt m section index = (place : ℕ) × StopsAt m section index place

@@ -1,10 +1,11 @@
 -- What is seen of the items that are read, and of what is kept of a record.
 use Rattle.std.specs.Prelude.{◌≡◌, ℕ, ◌<◌, ◌^◌, List, [], ◌∷◌, length, map, reverse, ⊤}
-use Rattle.dns_wire.specs.Names.{labels_of}
+use Rattle.dns_wire.specs.Names.{name_labels}
 use Rattle.dns_record.specs.Fields.{Field, fields_octets, folded_field}
 use Rattle.dns_record.specs.Fields.FieldOf.{Raw}
 use Rattle.dns_record.specs.Seen.{question_seen, record_seen}
 use Rattle.dns_basic.specs.Types.{ns_fields, cname_fields, soa_fields, ptr_fields, mx_fields, rp_fields}
+use Rattle.dns_edns.specs.Types.{opt_fields}
 use Rattle.dns_nsec.specs.Types.{nsec_fields, nsec3_fields, nsec3param_fields}
 use Rattle.dns_plain.specs.Types.{a_fields, hinfo_fields, txt_fields, aaaa_fields, srv_fields, dname_fields}
 use Rattle.dns_sec.specs.Types.{ds_fields, rrsig_fields, dnskey_fields, zonemd_fields}
@@ -14,7 +15,7 @@ use Rattle.dns_canon.specs.Order.{SortKey}
 use Rattle.dns_canon.specs.declared.item.MessageItem.{MessageItem}
 use Rattle.dns_canon.specs.declared.item.MessageItem.TheVariants as item
 use Rattle.dns_canon.specs.declared.record_data.RecordData.{RecordData}
-use Rattle.dns_canon.specs.declared.record_data.RecordData.TheVariants.{A, Ns, CName, Soa, Ptr, HInfo, Mx, Txt, Rp, Aaaa, Srv, DName, Ds, Rrsig, Nsec, DNSKey, Nsec3, Nsec3Param, ZoneMD, Unknown}
+use Rattle.dns_canon.specs.declared.record_data.RecordData.TheVariants.{A, Ns, CName, Soa, Ptr, HInfo, Mx, Txt, Rp, Aaaa, Srv, DName, Opt, Ds, Rrsig, Nsec, DNSKey, Nsec3, Nsec3Param, ZoneMD, Unknown}
 use Rattle.dns_canon.specs.declared.owned.OwnedRecord.{OwnedRecord}
 
 -- the fields of data
@@ -31,6 +32,7 @@ data_seen (Rp v) = rp_fields v
 data_seen (Aaaa v) = aaaa_fields v
 data_seen (Srv v) = srv_fields v
 data_seen (DName v) = dname_fields v
+data_seen (Opt v) = opt_fields v.slice.now
 data_seen (Ds v) = ds_fields v
 data_seen (Rrsig v) = rrsig_fields v
 data_seen (Nsec v) = nsec_fields v
@@ -54,6 +56,7 @@ data_folded (Rp v) = map folded_field (rp_fields v)
 data_folded (Aaaa v) = aaaa_fields v
 data_folded (Srv v) = map folded_field (srv_fields v)
 data_folded (DName v) = map folded_field (dname_fields v)
+data_folded (Opt v) = opt_fields v.slice.now
 data_folded (Ds v) = ds_fields v
 data_folded (Rrsig v) = map folded_field (rrsig_fields v)
 data_folded (Nsec v) = nsec_fields v
@@ -77,6 +80,7 @@ is_data_of (Rp v) rtype = rtype ≡ 17
 is_data_of (Aaaa v) rtype = rtype ≡ 28
 is_data_of (Srv v) rtype = rtype ≡ 33
 is_data_of (DName v) rtype = rtype ≡ 39
+is_data_of (Opt v) rtype = rtype ≡ 41
 is_data_of (Ds v) rtype = rtype ≡ 43
 is_data_of (Rrsig v) rtype = rtype ≡ 46
 is_data_of (Nsec v) rtype = rtype ≡ 47
@@ -97,4 +101,4 @@ HasSoundData (item.Record r) = is_data_of r.rdata r.rtype.code.value × (length 
 
 -- what is kept of a record, as it is compared
 abbrev pub owned_seen : OwnedRecord → SortKey
-owned_seen r = record { owner = reverse (labels_of r.owner.octets.items); class = r.class; rtype = r.rtype; octets = r.octets.items; ttl = r.ttl }
+owned_seen r = record { owner = reverse (name_labels r.owner.octets.items); class = r.class; rtype = r.rtype; octets = r.octets.items; ttl = r.ttl }

@@ -1,6 +1,11 @@
 -- The words of the command line.
-use Rattle.std.specs.Prelude.{◌≡◌, ℕ, List, [], ◌∷◌, codes}
+use Rattle.std.specs.Prelude.{ℕ, List, [], ◌∷◌, Option, Some, None, codes, if◌then◌else◌}
+use Rattle.std.specs.Str.{bytes_eq}
+use Rattle.dns_canon.specs.declared.words.Command.{Command}
+use Rattle.dns_canon.specs.declared.words.Command.TheVariants.{Canon}
 
--- the words are the one command
-abbrev pub IsCanon : List (List ℕ) → Type 0
-IsCanon words = words ≡ codes "canon" ∷ []
+-- the command that the words are; `words_of_commands` says it in other words
+abbrev pub command_of : List (List ℕ) → Option Command
+command_of [] = None
+command_of (word ∷ []) = if bytes_eq word (codes "canon") then Some Canon else None
+command_of (word ∷ other ∷ more) = None

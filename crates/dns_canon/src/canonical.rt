@@ -3,7 +3,7 @@
 ghost use Rattle.std.specs.Prelude.{◌≡◌, ◌≤◌, ◌<◌, ◌⊎◌, ◌↔◌, ℕ, List, map, length, IfOk, IfErr, OnOk, OnErr, IsNone, IsTrue, slice_get};
 ghost use Rattle.std.specs.Option.{option_copied};
 ghost use Rattle.std.specs.List.Sorted.{IsPermutation};
-ghost use Rattle.dns_canon.specs.Lists.{RefusedAs, RefusedOrMemory};
+ghost use Rattle.dns_canon.specs.Refusals.{RefusedAs, RefusedOrMemory};
 ghost use Rattle.dns_canon.specs.Messages.{Rec, Valid};
 ghost use Rattle.dns_canon.specs.Order.{output, octets_of_key, sort_key_cmp};
 ghost use Rattle.dns_canon.specs.Seen.{owned_seen};
@@ -96,8 +96,8 @@ fn sort_records(records: &mut Vec<OwnedRecord>) -> Result<(), AllocError>
 }
 
 /// The canonical list of a message (RFC 4034 section 6): the canonical octets of each record other than
-/// OPT, in order, each as often as its record stands. `Short`, `Item` and `NotBuilt` come exactly where
-/// the message calls for them; `Memory` may come in place of any other answer.
+/// OPT, in order, each as often as its record stands. `Short` and `Item` come exactly where the
+/// message calls for them; `Memory` may come in place of any other answer.
 pub fn canonicalise(alloc: Global, message: &[u8]) -> Result<CanonList, CanonError>
     ensures ok { IfOk result (λ list. (rs : List Rec) × Valid message.now rs × (list ≡ output rs)) }
     ensures refused { IfErr result (RefusedOrMemory message.now) }

@@ -1,60 +1,90 @@
-//! From the text of a message to its canonical lines.
+//! From words and a text to an answer.
 
-ghost use Rattle.std.specs.Prelude.{◌↔◌, true, ◌≡◌, ◌≢◌, ◌⊎◌, ◌+◌, ◌<◌, ◌≤◌, List, ℕ, IfOk, IfErr, IfSome, OnOk};
+ghost use Rattle.std.specs.Prelude.{◌↔◌, true, false, ◌≡◌, ◌≢◌, ◌⊎◌, ◌+◌, ◌≤◌, List, ℕ, length, Some, None, IfOk, IfErr, IfSome, OnOk};
 ghost use Rattle.dns_wire.specs.Outside.{Rose, HasCause, BecomesFlag, WritesFront, Puts};
 ghost use Rattle.std.specs.Io.KnownBytes.{Appends};
-ghost use Rattle.dns_canon.specs.Words.{IsCanon};
-ghost use Rattle.dns_canon.specs.Run.{HasLines, Suits, TakesAtMost, IsEmptied, Empties, IsExcuse, AnswersOr, WritesLines, note_of};
+ghost use Rattle.dns_canon.specs.Messages.{Rec, Valid};
+ghost use Rattle.dns_canon.specs.Order.{output};
+ghost use Rattle.dns_canon.specs.Refusals.{RefusedOrMemory};
+ghost use Rattle.dns_canon.specs.Run.{Answers, Prints, WritesText, TakesAtMost, IsEmptied, Empties};
+ghost use Rattle.dns_canon.specs.Statuses.{canon_status, note_of};
+ghost use Rattle.dns_canon.specs.Verdict.{reads, text_read, limit_of, verdict};
+ghost use Rattle.dns_canon.specs.Words.{command_of};
+ghost use Rattle.dns_canon.specs.declared.error.CanonError.{CanonError};
 
-use crate::canonical::canonicalise;
+use crate::canonical::{CanonList, canonicalise};
 use crate::spelling::{octets_of, text_of};
 use crate::status::Status;
 use crate::transfer::{PIECE, put_line, put_text, read_text};
-use crate::words::Words;
+use crate::words::{Command, LIMIT, Words};
 use dns_wire::{Failed, Sink, Source};
 use std::alloc::Global;
 
-/// The most octets of the text of one message.
-pub const LIMIT: usize = 131_072;
-
-/// The lines for the text that the source has left.
-fn lines_of<S: Source>(alloc: Global, source: &mut S) -> Result<Vec<u8>, Status>
-    ensures ok { IfOk result (λ lines. IfSome (S.left source.old) (λ t. HasLines t lines.items)) }
-    ensures err { IfErr result (λ status. IfSome (S.left source.old) (λ t. Suits t status)) }
-    ensures not_done { (result ≢ Err Status.Done) × (result ≢ Err Status.WriteFault) × (result ≢ Err Status.Usage) }
-    ensures read_fault { result ≡ Err Status.ReadFault → Rose (S.faults source.old) (S.faults source.new) }
-    ensures emptied { OnOk result (IsEmptied (S.left source.old) (S.left source.new)) }
-    ensures emptied_err { IfErr result (λ status. Empties status (S.left source.old) (S.left source.new)) }
-    ensures read_steady { (result ≢ Err Status.ReadFault) → S.faults source.new ≡ S.faults source.old }
-    ensures taken { TakesAtMost (S.left source.old) (S.left source.new) (LIMIT + PIECE) }
+/// The canonical list of the message of this number.
+fn list_of(alloc: Global, octets: &[u8], message: u8) -> Result<CanonList, Status>
+    ensures ok { IfOk result (λ list. (rs : List Rec) × Valid octets.now rs × (list ≡ output rs)) }
+    ensures err { IfErr result (λ status. (error : CanonError) × RefusedOrMemory octets.now error × (status ≡ canon_status message error)) }
 {
-    let text = read_text(alloc, source, LIMIT)?;
-    let message = octets_of(alloc, &text)?;
-    let list = canonicalise(alloc, &message)?;
+    match canonicalise(alloc, octets) {
+        Ok(list) => Ok(list),
+        Err(error) => Err(Status::of_message(message, error)),
+    }
+}
+
+/// The lines for the text of one message.
+fn canon_text(alloc: Global, text: &[u8]) -> Result<Vec<u8>, Status>
+    requires within { length text.now ≤ LIMIT }
+    ensures ok { IfOk result (λ printed. (verdict (Some Command.Canon) text.now ≡ Status.Done) × Prints Command.Canon text.now printed.items) }
+    ensures err { IfErr result (λ status. ((status ≡ verdict (Some Command.Canon) text.now) ⊎ (status ≡ Status.Memory))
+        × ((status ≢ Status.Done) × ((status ≢ Status.ReadFault) × ((status ≢ Status.WriteFault) × (status ≢ Status.Usage))))) }
+{
+    let message = octets_of(alloc, text)?;
+    let list = list_of(alloc, &message, 0)?;
     Ok(text_of(alloc, &list)?)
 }
 
-/// Answers the command, and writes the lines.
+/// The text that a command prints.
+fn printed<S: Source>(alloc: Global, command: Command, source: &mut S) -> Result<Vec<u8>, Status>
+    ensures ok { IfOk result (λ printed. IfSome (text_read (Some command) (S.left source.old)) (λ t.
+        (verdict (Some command) t ≡ Status.Done) × Prints command t printed.items)) }
+    ensures err { IfErr result (λ status. IfSome (text_read (Some command) (S.left source.old)) (λ t. Answers (verdict (Some command) t) status)) }
+    ensures refused { (result ≢ Err Status.Done) × (result ≢ Err Status.WriteFault) × (result ≢ Err Status.Usage) }
+    ensures read_fault { result ≡ Err Status.ReadFault → Rose (S.faults source.old) (S.faults source.new) }
+    ensures read_steady { (result ≢ Err Status.ReadFault) → S.faults source.new ≡ S.faults source.old }
+    ensures unread { reads (Some command) ≡ false → source.new ≡ source.old }
+    ensures emptied { reads (Some command) ≡ true → OnOk result (IsEmptied (S.left source.old) (S.left source.new)) }
+    ensures emptied_err { reads (Some command) ≡ true → IfErr result (λ status. Empties status (S.left source.old) (S.left source.new)) }
+    ensures taken { TakesAtMost (S.left source.old) (S.left source.new) (limit_of command + PIECE) }
+{
+    match command {
+        Command::Canon => {
+            let text = read_text(alloc, source, command.limit())?;
+            canon_text(alloc, &text)
+        }
+    }
+}
+
+/// Answers the words, and writes what their command prints.
 fn answer<S: Source, K: Sink>(alloc: Global, words: &Words, source: &mut S, sink: &mut K) -> Status
-    ensures usage { (result ≡ Status.Usage) ↔ (IsCanon words.now → ⊥) }
-    ensures unread { result ≡ Status.Usage → source.new ≡ source.old }
-    ensures suits { IfSome (S.left source.old) (λ t. Suits t result) }
+    ensures usage { (result ≡ Status.Usage) ↔ (command_of words.now ≡ None) }
+    ensures verdict { IfSome (text_read (command_of words.now) (S.left source.old)) (λ t. Answers (verdict (command_of words.now) t) result) }
     ensures read_fault { result ≡ Status.ReadFault → Rose (S.faults source.old) (S.faults source.new) }
     ensures write_fault { result ≡ Status.WriteFault → Rose (K.faults sink.old) (K.faults sink.new) }
     ensures read_steady { (result ≢ Status.ReadFault) → S.faults source.new ≡ S.faults source.old }
     ensures write_steady { (result ≢ Status.WriteFault) → K.faults sink.new ≡ K.faults sink.old }
-    ensures taken { TakesAtMost (S.left source.old) (S.left source.new) (LIMIT + PIECE) }
-    ensures written { IfSome (S.left source.old) (λ t. WritesLines t (K.written sink.old) (K.written sink.new) result) }
+    ensures written { IfSome (command_of words.now) (λ command. IfSome (text_read (Some command) (S.left source.old)) (λ t.
+        WritesText command t (K.written sink.old) (K.written sink.new) result)) }
     ensures unwritten { (result ≢ Status.Done) → (result ≢ Status.WriteFault) → sink.new ≡ sink.old }
     ensures flushed { result ≡ Status.Done → BecomesFlag (K.is_flushed sink.old) (K.is_flushed sink.new) true }
-    ensures emptied { Empties result (S.left source.old) (S.left source.new) }
-    ensures exactly { IsCanon words.now → IfSome (S.left source.old) (λ t. AnswersOr IsExcuse t result) }
+    ensures unread { reads (command_of words.now) ≡ false → source.new ≡ source.old }
+    ensures emptied { reads (command_of words.now) ≡ true → Empties result (S.left source.old) (S.left source.new) }
+    ensures taken { IfSome (command_of words.now) (λ command. TakesAtMost (S.left source.old) (S.left source.new) (limit_of command + PIECE)) }
 {
-    if !words.is_canon() {
+    let Some(command) = words.command() else {
         return Status::Usage;
-    }
-    match lines_of(alloc, source) {
-        Ok(lines) => match put_text(sink, &lines) {
+    };
+    match printed(alloc, command, source) {
+        Ok(text) => match put_text(sink, &text) {
             Ok(()) => Status::Done,
             Err(_) => Status::WriteFault,
         },
@@ -86,20 +116,11 @@ fn tell<N: Sink>(notes: &mut N, status: Status) -> Result<(), Failed>
         Status::ReadFault => put_line(notes, b"read fault", &[]),
         Status::WriteFault => put_line(notes, b"write fault", &[]),
         Status::Memory => put_line(notes, b"out of memory", &[]),
-        Status::NotBuilt {
-            message,
-            section,
-            index,
-        } => put_line(
-            notes,
-            b"not built",
-            &[u16::from(message), u16::from(section), index],
-        ),
     }
 }
 
-/// Answers the command: writes the canonical lines of the message that the source's text spells, or says on
-/// `notes` why there are none.
+/// Answers the words: writes what their command prints for the source's text, or says on `notes` why
+/// nothing is printed.
 pub fn run<S: Source, K: Sink, N: Sink>(
     alloc: Global,
     words: &Words,
@@ -107,34 +128,32 @@ pub fn run<S: Source, K: Sink, N: Sink>(
     sink: &mut K,
     notes: &mut N,
 ) -> Status
-    // Other words than the command's are refused before anything is read.
-    ensures usage { (result ≡ Status.Usage) ↔ (IsCanon words.now → ⊥) }
-    ensures unread { result ≡ Status.Usage → source.new ≡ source.old }
+    // Words that are no command are refused, whatever the source tells.
+    ensures usage { (result ≡ Status.Usage) ↔ (command_of words.now ≡ None) }
 
-    // Each answer on content comes only where the text calls for it, and the one that it calls for comes,
-    // but for a fault of a device and want of memory.
-    ensures suits { IfSome (S.left source.old) (λ t. Suits t result) }
-    ensures exactly { IsCanon words.now → IfSome (S.left source.old) (λ t. AnswersOr IsExcuse t result) }
+    // The answer is what the text calls for, or an excuse.
+    ensures verdict { IfSome (text_read (command_of words.now) (S.left source.old)) (λ t. Answers (verdict (command_of words.now) t) result) }
+
+    // A fault is answered exactly where its device has counted one. A count at its last value stays.
     ensures read_fault { result ≡ Status.ReadFault → Rose (S.faults source.old) (S.faults source.new) }
-    ensures write_fault { result ≡ Status.WriteFault → Rose (K.faults sink.old) (K.faults sink.new) }
-
-    // At any other answer the device has counted no fault.
     ensures read_steady { (result ≢ Status.ReadFault) → S.faults source.new ≡ S.faults source.old }
+    ensures write_fault { result ≡ Status.WriteFault → Rose (K.faults sink.old) (K.faults sink.new) }
     ensures write_steady { (result ≢ Status.WriteFault) → K.faults sink.new ≡ K.faults sink.old }
 
-    // With no fault the answer is the one that the text calls for, or memory was refused.
-    ensures complete { IsCanon words.now → (Rose (S.faults source.old) (S.faults source.new) → ⊥)
-        → (Rose (K.faults sink.old) (K.faults sink.new) → ⊥)
-        → IfSome (S.left source.old) (λ t. AnswersOr (λ s. s ≡ Status.Memory) t result) }
+    // With no fault the answer is what the text calls for, or memory was refused.
+    ensures complete { (Rose (S.faults source.old) (S.faults source.new) → ⊥) → (Rose (K.faults sink.old) (K.faults sink.new) → ⊥)
+        → IfSome (text_read (command_of words.now) (S.left source.old)) (λ t. (result ≡ verdict (command_of words.now) t) ⊎ (result ≡ Status.Memory)) }
 
-    // What was written, and what is left.
-    ensures written { IfSome (S.left source.old) (λ t. WritesLines t (K.written sink.old) (K.written sink.new) result) }
+    // What is written.
+    ensures written { IfSome (command_of words.now) (λ command. IfSome (text_read (Some command) (S.left source.old)) (λ t.
+        WritesText command t (K.written sink.old) (K.written sink.new) result)) }
     ensures unwritten { (result ≢ Status.Done) → (result ≢ Status.WriteFault) → sink.new ≡ sink.old }
     ensures flushed { result ≡ Status.Done → BecomesFlag (K.is_flushed sink.old) (K.is_flushed sink.new) true }
-    ensures emptied { Empties result (S.left source.old) (S.left source.new) }
 
-    // No read comes once the limit is passed.
-    ensures taken { TakesAtMost (S.left source.old) (S.left source.new) (LIMIT + PIECE) }
+    // What is left. No read comes once the limit is passed.
+    ensures unread { reads (command_of words.now) ≡ false → source.new ≡ source.old }
+    ensures emptied { reads (command_of words.now) ≡ true → Empties result (S.left source.old) (S.left source.new) }
+    ensures taken { IfSome (command_of words.now) (λ command. TakesAtMost (S.left source.old) (S.left source.new) (limit_of command + PIECE)) }
 
     // The line for the answer goes to the notes.
     ensures quiet { result ≡ Status.Done → notes.new ≡ notes.old }

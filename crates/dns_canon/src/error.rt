@@ -11,12 +11,9 @@ use std::alloc::{AllocError, AllocFailed};
 pub enum CanonError {
     /// The message has fewer than 12 octets.
     Short,
-    /// This item is the first that can't be read, and it is plainly bad. Sections are numbered 0 to 3
-    /// (question, answer, authority, additional), and items from 0 in each.
+    /// This item is the first that can't be read. Sections are numbered 0 to 3 (question, answer,
+    /// authority, additional), and items from 0 in each.
     Item { section: u8, index: u16 },
-    /// This item is the first that can't be read, because it is a record of type OPT, whose data are not
-    /// read yet.
-    NotBuilt { section: u8, index: u16 },
     /// Memory ran out.
     Memory,
 }

@@ -16,14 +16,15 @@ mod transfer;
 mod words;
 
 pub use canonical::{CanonList, canonicalise};
-pub use command::{LIMIT, run};
+pub use command::run;
 pub use error::CanonError;
 pub use laws::{
-    canonical_lists, four_kinds_of_messages, one_status, order_of_records, readings_in_words,
+    canonical_lists, order_of_records, readings_in_words, three_kinds_of_messages,
+    verdicts_in_words, words_of_commands,
 };
 pub use status::Status;
 pub use transfer::PIECE;
-pub use words::Words;
+pub use words::{Command, LIMIT, Words};
 
 #[cfg(test)]
 mod tests;

@@ -2,7 +2,7 @@
 
 ghost use Rattle.std.specs.Prelude.{◌≡◌, ◌≤◌, ◌<◌, ◌++◌, [], ◌∷◌, ℕ, List, OnOk, IfOk, IfErr, length, map, filter, slice_index};
 ghost use Rattle.dns_canon.specs.Canonical.{is_kept};
-ghost use Rattle.dns_canon.specs.Lists.{RefusedInSection, RefusedOrMemory, refusal_at};
+ghost use Rattle.dns_canon.specs.Refusals.{RefusedInSection, RefusedOrMemory};
 ghost use Rattle.dns_canon.specs.Messages.{Item, Rec, slots, records_among, Valid};
 ghost use Rattle.dns_canon.specs.Order.{sort_key};
 ghost use Rattle.dns_canon.specs.Seen.{owned_seen, item_seen, HasSoundData};
@@ -11,21 +11,9 @@ ghost use Rattle.dns_canon.specs.Worded.{ItemsAt};
 use crate::error::CanonError;
 use crate::item::MessageItem;
 use crate::owned::OwnedRecord;
-use crate::reading::{is_not_built, read_item};
+use crate::reading::read_item;
 use dns_record::RType;
 use std::alloc::{AllocError, Global};
-
-/// Why the item of a section at a place was not read.
-fn refusal(contents: &[u8], section: u8, index: u16, place: usize) -> CanonError
-    requires { place ≤ length contents.now }
-    ensures { result ≡ refusal_at contents.now section index place }
-{
-    if is_not_built(contents, section, place) {
-        CanonError::NotBuilt { section, index }
-    } else {
-        CanonError::Item { section, index }
-    }
-}
 
 /// Keeps the parts of an item that is a record of another type than OPT.
 fn keep(
@@ -65,7 +53,7 @@ fn read_section(
     let mut at = start;
     for index in 0..count {
         let Ok((item, end)) = read_item(contents, section, at) else {
-            return Err(refusal(contents, section, index, at));
+            return Err(CanonError::Item { section, index });
         };
         keep(alloc, &item, records)?;
         at = end;

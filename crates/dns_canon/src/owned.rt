@@ -6,7 +6,7 @@ ghost use Rattle.std.proofs.Common.{rules};
 ghost use Rattle.std.specs.Cmp.{partial_order_from_own_ties};
 ghost use Rattle.std.specs.Cmp.Rules.{comparing};
 ghost use Rattle.std.specs.Ordering.{on, as_partial_cmp, eq_by_cmp};
-ghost use Rattle.dns_wire.specs.Names.{wire, plain_name, labels_of, lowered};
+ghost use Rattle.dns_wire.specs.Names.{wire, plain_name, name_labels, lowered};
 ghost use Rattle.dns_wire.specs.Reading.{all_of};
 ghost use Rattle.dns_name.specs.Order.{key_of, key_cmp};
 
@@ -18,8 +18,8 @@ use std::cmp::Ordering;
 
 /// Writes the name in small letters over octets that are as many as its own.
 fn write_lowered(name: Name<'_>, octets: &mut [u8])
-    requires { length octets.old ≡ length (wire (labels_of name.slice.now)) }
-    ensures { octets.new ≡ wire (lowered (labels_of name.entry.slice.now)) }
+    requires { length octets.old ≡ length (wire (name_labels name.slice.now)) }
+    ensures { octets.new ≡ wire (lowered (name_labels name.entry.slice.now)) }
 {
     name.build_lowercased_at(octets, 0).unwrap();
 }
@@ -28,14 +28,14 @@ fn write_lowered(name: Name<'_>, octets: &mut [u8])
 #[derive(Drop)]
 pub(crate) struct LoweredName {
     pub octets: Vec<u8>,
-    ghost is_name: { all_of (plain_name octets.items) ≡ Some (labels_of octets.items) } by { Prim.hlevel props },
-    ghost is_lowered: { lowered (labels_of octets.items) ≡ labels_of octets.items } by { Prim.hlevel props },
+    ghost is_name: { all_of (plain_name octets.items) ≡ Some (name_labels octets.items) } by { Prim.hlevel props },
+    ghost is_lowered: { lowered (name_labels octets.items) ≡ name_labels octets.items } by { Prim.hlevel props },
 }
 
 impl LoweredName {
     /// The name in small letters.
     pub fn of(alloc: Global, name: Name<'_>) -> Result<LoweredName, AllocError>
-        ensures { IfOk result (λ small. labels_of small.octets.items ≡ lowered (labels_of name.entry.slice.now)) }
+        ensures { IfOk result (λ small. name_labels small.octets.items ≡ lowered (name_labels name.entry.slice.now)) }
     {
         let mut octets = vec![in alloc; 0; name.len()]?;
         write_lowered(name, &mut octets);
@@ -44,7 +44,7 @@ impl LoweredName {
 
     /// The octets, which are those of the labels.
     pub fn as_bytes(&self) -> &[u8]
-        ensures { result.now ≡ wire (labels_of self.now.octets.items) }
+        ensures { result.now ≡ wire (name_labels self.now.octets.items) }
     {
         self.octets.as_slice()
     }

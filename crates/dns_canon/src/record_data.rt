@@ -1,13 +1,16 @@
-//! The record data that are read so far.
+//! Record data, by their type.
 
 ghost use Rattle.std.specs.Prelude.{◌≡◌, ◌≤◌, ◌<◌, ◌^◌, ℕ, List, length, IfOk, ⊤};
 ghost use Rattle.dns_wire.specs.Building.{Builds};
+ghost use Rattle.dns_wire.specs.Names.{plain_name};
+ghost use Rattle.dns_wire.specs.Pointers.{name_at};
 ghost use Rattle.dns_wire.specs.Reading.{Gives};
 ghost use Rattle.dns_record.specs.Fields.{Field, fields_octets};
-ghost use Rattle.dns_canon.specs.Data.{is_waiting, read_as, read_in};
+ghost use Rattle.dns_record.specs.Data.{data_as, data_in};
 ghost use Rattle.dns_canon.specs.Seen.{data_seen, data_folded, is_data_of};
 
 use dns_basic::{CName, Mx, Ns, Ptr, Rp, Soa};
+use dns_edns::Opt;
 use dns_name::NameBuf;
 use dns_nsec::{Nsec, Nsec3, Nsec3Param};
 use dns_plain::{A, Aaaa, DName, HInfo, Srv, Txt};
@@ -15,13 +18,6 @@ use dns_record::{CanonicalRecordData, ParseRecordData, ParseRecordDataBytes, RTy
 use dns_sec::{DNSKey, Ds, Rrsig, ZoneMD};
 use dns_wire::{BuildBytes, ParseBytes, ParseError, ParseMessageBytes, TruncationError, put};
 use std::alloc::{AllocError, Global};
-
-/// Whether the type is OPT, whose data are not read yet.
-pub(crate) fn is_waiting(rtype: RType) -> bool
-    ensures { result ≡ is_waiting rtype.code.value }
-{
-    rtype == RType::OPT
-}
 
 /// Writes the canonical octets of data over octets that are as many.
 fn write_canonical(rdata: &RecordData<'_>, octets: &mut [u8])
@@ -58,6 +54,8 @@ pub(crate) enum RecordData<'a> {
     Srv(Srv<'a>),
     /// Another subtree (RFC 6672 section 2.1).
     DName(DName<'a>),
+    /// Options (RFC 6891 section 6.1.2).
+    Opt(Opt<'a>),
     /// The digest of a key (RFC 4034 section 5.1).
     Ds(Ds<'a>),
     /// A signature (RFC 4034 section 3.1).
@@ -81,20 +79,17 @@ impl<'a> ParseRecordDataBytes<'a> for RecordData<'a> {
 
     ghost seen = { data_seen };
 
-    ghost reads_as = { read_as };
+    ghost reads_as = { data_as plain_name };
 
-    ghost reads_in = { read_in };
+    ghost reads_in = { data_in name_at };
 
     ghost is_of = { is_data_of };
 
-    #[tactic(auto, unfolding(crate::specs::Data::read_as, dns_record::specs::Data::data_as, dns_record::specs::Rows::row))]
+    #[tactic(auto, unfolding(dns_record::specs::Data::data_as, dns_record::specs::Rows::row))]
     fn parse_record_data_bytes(
         bytes: &'a [u8],
         rtype: RType,
     ) -> Result<RecordData<'a>, ParseError> {
-        if is_waiting(rtype) {
-            return Err(ParseError);
-        }
         match rtype {
             RType::A => Ok(RecordData::A(A::parse_bytes(bytes)?)),
             RType::NS => Ok(RecordData::Ns(Ns::parse_bytes(bytes)?)),
@@ -108,6 +103,7 @@ impl<'a> ParseRecordDataBytes<'a> for RecordData<'a> {
             RType::AAAA => Ok(RecordData::Aaaa(Aaaa::parse_bytes(bytes)?)),
             RType::SRV => Ok(RecordData::Srv(Srv::parse_bytes(bytes)?)),
             RType::DNAME => Ok(RecordData::DName(DName::parse_bytes(bytes)?)),
+            RType::OPT => Ok(RecordData::Opt(Opt::parse_bytes(bytes)?)),
             RType::DS => Ok(RecordData::Ds(Ds::parse_bytes(bytes)?)),
             RType::RRSIG => Ok(RecordData::Rrsig(Rrsig::parse_bytes(bytes)?)),
             RType::NSEC => Ok(RecordData::Nsec(Nsec::parse_bytes(bytes)?)),
@@ -121,15 +117,12 @@ impl<'a> ParseRecordDataBytes<'a> for RecordData<'a> {
 }
 
 impl<'a> ParseRecordData<'a> for RecordData<'a> {
-    #[tactic(auto, unfolding(crate::specs::Data::read_in, dns_record::specs::Data::data_in, dns_record::specs::Rows::row))]
+    #[tactic(auto, unfolding(dns_record::specs::Data::data_in, dns_record::specs::Rows::row))]
     fn parse_record_data(
         contents: &'a [u8],
         start: usize,
         rtype: RType,
     ) -> Result<RecordData<'a>, ParseError> {
-        if is_waiting(rtype) {
-            return Err(ParseError);
-        }
         match rtype {
             RType::A => Ok(RecordData::A(A::parse_message_bytes(contents, start)?)),
             RType::NS => Ok(RecordData::Ns(Ns::parse_message_bytes(contents, start)?)),
@@ -143,6 +136,7 @@ impl<'a> ParseRecordData<'a> for RecordData<'a> {
             RType::AAAA => Ok(RecordData::Aaaa(Aaaa::parse_message_bytes(contents, start)?)),
             RType::SRV => Ok(RecordData::Srv(Srv::parse_message_bytes(contents, start)?)),
             RType::DNAME => Ok(RecordData::DName(DName::parse_message_bytes(contents, start)?)),
+            RType::OPT => Ok(RecordData::Opt(Opt::parse_message_bytes(contents, start)?)),
             RType::DS => Ok(RecordData::Ds(Ds::parse_message_bytes(contents, start)?)),
             RType::RRSIG => Ok(RecordData::Rrsig(Rrsig::parse_message_bytes(contents, start)?)),
             RType::NSEC => Ok(RecordData::Nsec(Nsec::parse_message_bytes(contents, start)?)),
@@ -179,6 +173,7 @@ impl RecordData<'_> {
             RecordData::Aaaa(v) => v.built_bytes_size(),
             RecordData::Srv(v) => v.built_bytes_size(),
             RecordData::DName(v) => v.built_bytes_size(),
+            RecordData::Opt(v) => v.built_bytes_size(),
             RecordData::Ds(v) => v.built_bytes_size(),
             RecordData::Rrsig(v) => v.built_bytes_size(),
             RecordData::Nsec(v) => v.built_bytes_size(),
@@ -213,6 +208,7 @@ impl RecordData<'_> {
             RecordData::Aaaa(v) => v.build_canonical_at(bytes, start),
             RecordData::Srv(v) => v.build_canonical_at(bytes, start),
             RecordData::DName(v) => v.build_canonical_at(bytes, start),
+            RecordData::Opt(v) => v.build_canonical_at(bytes, start),
             RecordData::Ds(v) => v.build_canonical_at(bytes, start),
             RecordData::Rrsig(v) => v.build_canonical_at(bytes, start),
             RecordData::Nsec(v) => v.build_canonical_at(bytes, start),

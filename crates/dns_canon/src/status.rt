@@ -12,8 +12,8 @@ pub enum Status {
     Short {
         message: u8,
     },
-    /// This item is the first of a message that can't be read, and it is plainly bad. Sections are
-    /// numbered 0 to 3 (question, answer, authority, additional), and items from 0 in each.
+    /// This item is the first of a message that can't be read. Sections are numbered 0 to 3 (question,
+    /// answer, authority, additional), and items from 0 in each.
     Item {
         message: u8,
         section: u8,
@@ -31,18 +31,11 @@ pub enum Status {
     WriteFault,
     /// Memory ran out.
     Memory,
-    /// This item is the first of a message that can't be read, because it is a record of type OPT, whose
-    /// data are not read yet.
-    NotBuilt {
-        message: u8,
-        section: u8,
-        index: u16,
-    },
 }
 
 impl From<TextError> for Status {
     ghost use Rattle.std.specs.Prelude.{◌≡◌};
-    ghost use Rattle.dns_canon.specs.Run.{text_status};
+    ghost use Rattle.dns_canon.specs.Statuses.{text_status};
 
     ghost from_gives = { λ e s. s ≡ text_status e };
 
@@ -57,7 +50,7 @@ impl From<TextError> for Status {
 
 impl From<SpellingError> for Status {
     ghost use Rattle.std.specs.Prelude.{◌≡◌};
-    ghost use Rattle.dns_canon.specs.Run.{spelling_status};
+    ghost use Rattle.dns_canon.specs.Statuses.{spelling_status};
 
     ghost from_gives = { λ e s. s ≡ spelling_status e };
 
@@ -65,30 +58,6 @@ impl From<SpellingError> for Status {
         match error {
             SpellingError::BadHex => Status::BadHex,
             SpellingError::Memory => Status::Memory,
-        }
-    }
-}
-
-impl From<CanonError> for Status {
-    ghost use Rattle.std.specs.Prelude.{◌≡◌};
-    ghost use Rattle.dns_canon.specs.Run.{canon_status};
-
-    ghost from_gives = { λ e s. s ≡ canon_status e };
-
-    fn from(error: CanonError) -> Status {
-        match error {
-            CanonError::Short => Status::Short { message: 0 },
-            CanonError::Item { section, index } => Status::Item {
-                message: 0,
-                section,
-                index,
-            },
-            CanonError::NotBuilt { section, index } => Status::NotBuilt {
-                message: 0,
-                section,
-                index,
-            },
-            CanonError::Memory => Status::Memory,
         }
     }
 }
@@ -106,9 +75,24 @@ impl From<AllocError> for Status {
 
 impl Status {
     ghost use Rattle.std.specs.Prelude.{◌≡◌};
-    ghost use Rattle.dns_canon.specs.Run.{code_of};
+    ghost use Rattle.dns_canon.specs.Statuses.{canon_status, code_of};
 
-    /// The code that a process ends with, from 0 to 9.
+    /// The status of a refusal, for the message of this number.
+    pub(crate) fn of_message(message: u8, error: CanonError) -> Status
+        ensures { result ≡ canon_status message error }
+    {
+        match error {
+            CanonError::Short => Status::Short { message },
+            CanonError::Item { section, index } => Status::Item {
+                message,
+                section,
+                index,
+            },
+            CanonError::Memory => Status::Memory,
+        }
+    }
+
+    /// The code that a process ends with, from 0 to 8.
     pub fn code(&self) -> u8
         ensures { result ≡ code_of self.now }
     {
@@ -122,7 +106,6 @@ impl Status {
             Status::ReadFault => 6,
             Status::WriteFault => 7,
             Status::Memory => 8,
-            Status::NotBuilt { .. } => 9,
         }
     }
 }

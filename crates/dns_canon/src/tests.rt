@@ -8,13 +8,13 @@ mod types;
 mod zones;
 
 use crate::{
-    CanonError, LIMIT, Status, Words, canonical_lists, canonicalise, four_kinds_of_messages,
-    one_status, order_of_records, readings_in_words, run,
+    CanonError, Command, LIMIT, Status, Words, canonical_lists, canonicalise, order_of_records,
+    readings_in_words, run, three_kinds_of_messages, verdicts_in_words, words_of_commands,
 };
 use dns_wire::{NullSink, PlainSource, ReadSource, TextSink, TextSource, WriteSink};
 use messages::MESSAGES;
 use pointers::POINTERS;
-use rows::ROWS;
+use rows::{ORDINARY_REPLY, ORDINARY_REPLY_LINES, ROWS};
 use std::alloc::Global;
 use std::fs;
 use std::fs::File;
@@ -25,14 +25,6 @@ use types::TYPES;
 use zones::ZONES;
 
 const HEADER: &str = "000000000000000000000000";
-
-/// Three records of one owner, two of them alike.
-const REPEATS: &str =
-    "123481800000000300000000016100000100010000003c0004c0000201016100000100010000003c0004c0000201016100000100010000003b0004c0000201";
-
-/// Their lines.
-const REPEATS_LINES: &[u8] =
-    b"016100000100010000003b0004c0000201\n016100000100010000003c0004c0000201\n016100000100010000003c0004c0000201\n";
 
 /// The words of a command line.
 fn words_of(alloc: Global, list: &[&str]) -> Result<Words, Fail> {
@@ -130,7 +122,7 @@ fn reads_the_data_of_each_type(rt: HostRuntime) -> Result<(), Fail> {
         answers_entry(&rt, alloc, entry)?;
         count = count.saturating_add(1);
     }
-    assert_eq!(rt; count, 106);
+    assert_eq!(rt; count, 139);
     Ok(())
 }
 
@@ -239,7 +231,7 @@ fn answers_a_source_that_fails(rt: HostRuntime) -> Result<(), Fail> {
     let words = words_of(alloc, &["canon"])?;
     for call in 0..6u64 {
         let failing = [call];
-        let mut source = TextSource::new(REPEATS.as_bytes(), 40, &failing);
+        let mut source = TextSource::new(ORDINARY_REPLY.as_bytes(), 40, &failing);
         let (mut lines, mut line) = ([0u8; 200], [0u8; 100]);
         let mut sink = TextSink::new(&mut lines, 64, &[]);
         let mut notes = TextSink::new(&mut line, 64, &[]);
@@ -250,29 +242,33 @@ fn answers_a_source_that_fails(rt: HostRuntime) -> Result<(), Fail> {
             assert_eq!(rt; notes.written(), b"read fault\n".as_slice(), "{call}");
         } else {
             assert_eq!(rt; status, Status::Done);
-            assert_eq!(rt; sink.written(), REPEATS_LINES);
+            assert_eq!(rt; sink.written(), ORDINARY_REPLY_LINES.as_bytes());
             assert!(rt; notes.written().is_empty());
         }
     }
     Ok(())
 }
 
-/// Failing at each call in turn, until a run has too few calls to fail: writing 105 octets in pieces of
-/// eight takes fourteen calls, and the fifteenth flushes.
+/// Failing at each call in turn, until a run has too few calls to fail: writing 152 octets in pieces of
+/// eight takes nineteen calls, and the twentieth flushes.
 #[test]
 fn answers_a_sink_that_fails(rt: HostRuntime) -> Result<(), Fail> {
     let alloc = rt.alloc();
     let words = words_of(alloc, &["canon"])?;
-    for call in 0..16u64 {
+    for call in 0..21u64 {
         let failing = [call];
-        let mut source = PlainSource::new(REPEATS.as_bytes());
+        let mut source = PlainSource::new(ORDINARY_REPLY.as_bytes());
         let (mut lines, mut line) = ([0u8; 200], [0u8; 100]);
         let mut sink = TextSink::new(&mut lines, 8, &failing);
         let mut notes = TextSink::new(&mut line, 64, &[]);
         let status = run(alloc, &words, &mut source, &mut sink, &mut notes);
-        let count = REPEATS_LINES.len().min(8 * call as usize);
-        assert_eq!(rt; sink.written(), &REPEATS_LINES[..count], "{call}");
-        if call < 15 {
+        let count = ORDINARY_REPLY_LINES.len().min(8 * call as usize);
+        assert_eq!(rt;
+            sink.written(),
+            &ORDINARY_REPLY_LINES.as_bytes()[..count],
+            "{call}"
+        );
+        if call < 20 {
             assert_eq!(rt; status, Status::WriteFault, "{call}");
             assert_eq!(rt; notes.written(), b"write fault\n".as_slice(), "{call}");
         } else {
@@ -299,11 +295,11 @@ fn answers_devices_that_fail(rt: HostRuntime) -> Result<(), Fail> {
     assert!(rt; !sink.flushed());
 
     // A sink that is full after ten octets.
-    let mut source = PlainSource::new(REPEATS.as_bytes());
+    let mut source = PlainSource::new(ORDINARY_REPLY.as_bytes());
     let mut sink = TextSink::new(&mut buffer, 8, &[]);
     let status = run(alloc, &words, &mut source, &mut sink, &mut NullSink);
     assert_eq!(rt; status, Status::WriteFault);
-    assert_eq!(rt; sink.written(), &REPEATS_LINES[..10]);
+    assert_eq!(rt; sink.written(), &ORDINARY_REPLY_LINES.as_bytes()[..10]);
 
     // A fault of the notes changes no answer.
     let mut notes = TextSink::new(&mut buffer, 8, &[0]);
@@ -320,7 +316,7 @@ fn answers_devices_that_fail(rt: HostRuntime) -> Result<(), Fail> {
 fn reads_and_writes_files(rt: HostRuntime) -> Result<(), Fail> {
     let alloc = rt.alloc();
     let words = words_of(alloc, &["canon"])?;
-    let (front, back) = REPEATS.split_at(33);
+    let (front, back) = ORDINARY_REPLY.split_at(33);
     fs::write(&rt, "front", front)?;
     fs::write(&rt, "back", back)?;
 
@@ -334,7 +330,10 @@ fn reads_and_writes_files(rt: HostRuntime) -> Result<(), Fail> {
         &mut NullSink,
     );
     assert_eq!(rt; status, Status::Done);
-    assert_eq!(rt; fs::read(&rt, "lines")?.as_slice(), REPEATS_LINES);
+    assert_eq!(rt;
+        fs::read(&rt, "lines")?.as_slice(),
+        ORDINARY_REPLY_LINES.as_bytes()
+    );
 
     let text = File::open(&rt, "front")?.chain(File::open(&rt, "back")?);
     let mut buffer = [0u8; 10];
@@ -347,7 +346,7 @@ fn reads_and_writes_files(rt: HostRuntime) -> Result<(), Fail> {
         &mut NullSink,
     );
     assert_eq!(rt; status, Status::WriteFault);
-    assert_eq!(rt; buffer.as_slice(), &REPEATS_LINES[..10]);
+    assert_eq!(rt; buffer.as_slice(), &ORDINARY_REPLY_LINES.as_bytes()[..10]);
     for name in ["front", "back", "lines"] {
         fs::remove_file(&rt, name)?;
     }
@@ -367,11 +366,12 @@ fn lists_canonical_octets(rt: HostRuntime) -> Result<(), Fail> {
     assert_eq!(rt; list.get(1), None);
 
     assert!(rt; matches!(canonicalise(alloc, b""), Err(CanonError::Short)));
-    four_kinds_of_messages();
+    three_kinds_of_messages();
     readings_in_words();
     order_of_records();
     canonical_lists();
-    one_status();
+    verdicts_in_words();
+    words_of_commands();
     Ok(())
 }
 
@@ -392,11 +392,6 @@ fn ends_with_a_code(rt: HostRuntime) -> Result<(), Fail> {
         Status::ReadFault,
         Status::WriteFault,
         Status::Memory,
-        Status::NotBuilt {
-            message,
-            section,
-            index,
-        },
     ];
     for (code, status) in (0u8..).zip(statuses) {
         assert_eq!(rt; status.code(), code);

@@ -2,7 +2,8 @@
 
 ghost use Rattle.std.specs.Prelude.{◌≡◌, ◌≢◌, ◌+◌, ◌<◌, ◌≤◌, length, Err, true, OnOk, IfOk, IfSome, IsErrOf, IsSome, vec_len};
 ghost use Rattle.dns_wire.specs.Outside.{Rose, HasCause, BecomesFlag, ReadsAll, Puts};
-ghost use Rattle.dns_canon.specs.Run.{TakesAtMost, spaced, note_line};
+ghost use Rattle.dns_canon.specs.Run.{TakesAtMost};
+ghost use Rattle.dns_canon.specs.Statuses.{spaced, note_line};
 
 use crate::error::TextError;
 use dns_wire::{Failed, Sink, Source};

@@ -1,9 +1,31 @@
 //! The words of the command line.
 
-ghost use Rattle.std.specs.Prelude.{◌≡◌, ◌↔◌, ℕ, List, IsTrue, map, string_bytes};
-ghost use Rattle.dns_canon.specs.Words.{IsCanon};
+ghost use Rattle.std.specs.Prelude.{◌≡◌, ℕ, List, map, string_bytes};
+ghost use Rattle.dns_canon.specs.Verdict.{limit_of};
+ghost use Rattle.dns_canon.specs.Words.{command_of};
 
 use std::marker::Model;
+
+/// The most octets of the text of one message.
+pub const LIMIT: usize = 131_072;
+
+/// What the program is asked to do.
+#[derive(Clone, Copy, Debug, PartialEq, Eq)]
+pub enum Command {
+    /// `canon`: the canonical lines of one message.
+    Canon,
+}
+
+impl Command {
+    /// The most octets of the text that the command reads.
+    pub(crate) fn limit(self) -> usize
+        ensures { result ≡ limit_of self }
+    {
+        match self {
+            Command::Canon => LIMIT,
+        }
+    }
+}
 
 /// The words of the command line, without the program's own name.
 #[derive(Drop)]
@@ -25,13 +47,13 @@ impl Words {
         Words { words }
     }
 
-    /// Whether the words are the one command `canon`.
-    pub(crate) fn is_canon(&self) -> bool
-        ensures { IsTrue result ↔ IsCanon self.now }
+    /// The command that the words are; none where they are no command.
+    pub fn command(&self) -> Option<Command>
+        ensures { result ≡ command_of self.now }
     {
         match self.words.as_slice() {
-            [word] => word.as_str() == "canon",
-            _ => false,
+            [word] if word.as_str() == "canon" => Some(Command::Canon),
+            _ => None,
         }
     }
 }

@@ -9,7 +9,7 @@ use Rattle.std.proofs.lemmas.Option.{some_pair_parts}
 use Rattle.dns_wire.specs.Names.{heads}
 use Rattle.dns_wire.specs.Reading.{all_of}
 use Rattle.dns_wire.proofs.Spelled.{chosen}
-use Rattle.dns_label.specs.Labels.{IsShort, AreLabels, label_wire, plain_label, with_label, then_labels, labels_to_end, label_list, labels_in}
+use Rattle.dns_label.specs.Labels.{IsShort, AreLabels, label_wire, plain_label, with_label, then_labels, labels_to_end, label_sequence, sequence_labels}
 
 -- ---- one label
 
@@ -91,19 +91,19 @@ labels_again (suc steps) (contents ∷ others) sizes enough =
     ap (then_labels (λ more. labels_to_end steps more)) (label_again contents (heads others) sizes.0) ∙ ap (with_label contents) (labels_again steps others sizes.1 room)
 
 -- octets that labels fill are those of the labels, each behind its length
-pub list_takes : (octets : List ℕ) (labels : List (List ℕ)) → label_list octets ≡ Some labels → AllByRecursion IsShort labels × (octets ≡ heads labels)
-unfolding label_list
+pub list_takes : (octets : List ℕ) (labels : List (List ℕ)) → label_sequence octets ≡ Some labels → AllByRecursion IsShort labels × (octets ≡ heads labels)
+unfolding label_sequence
 list_takes octets labels e = labels_take (length octets) octets labels e
 
 -- and such octets are filled by the labels
-pub list_again : (labels : List (List ℕ)) → AllByRecursion IsShort labels → label_list (heads labels) ≡ Some labels
-unfolding label_list
+pub list_again : (labels : List (List ℕ)) → AllByRecursion IsShort labels → label_sequence (heads labels) ≡ Some labels
+unfolding label_sequence
 list_again labels sizes = labels_again (length (heads labels)) labels sizes (omega arith)
 
-pub labels_in_heads : (octets : List ℕ) (labels : List (List ℕ)) → AllByRecursion IsShort labels → octets ≡ heads labels → (label_list octets ≡ Some labels) × (labels_in octets ≡ labels)
-unfolding labels_in
+pub labels_in_heads : (octets : List ℕ) (labels : List (List ℕ)) → AllByRecursion IsShort labels → octets ≡ heads labels → (label_sequence octets ≡ Some labels) × (sequence_labels octets ≡ labels)
+unfolding sequence_labels
 labels_in_heads octets labels sizes e =
-    let read : label_list octets ≡ Some labels = ap label_list e ∙ list_again labels sizes in
+    let read : label_sequence octets ≡ Some labels = ap label_sequence e ∙ list_again labels sizes in
     (read, ap (λ (o : Option (List (List ℕ))). unwrap_or o []) read)
 
 pub are_labels : (octets : List ℕ) (labels : List (List ℕ)) → AllByRecursion IsShort labels → octets ≡ heads labels → AreLabels octets
@@ -112,12 +112,12 @@ are_labels octets labels sizes e = let t = labels_in_heads octets labels sizes e
 -- ---- the first of them
 
 -- none is read where none is left
-pub last_label : (octets : List ℕ) → AreLabels octets → plain_label octets ≡ None → labels_in octets ≡ []
-last_label octets is none = by (labels_in octets) refl where
-  by : (labels : List (List ℕ)) → labels_in octets ≡ labels → labels_in octets ≡ []
+pub last_label : (octets : List ℕ) → AreLabels octets → plain_label octets ≡ None → sequence_labels octets ≡ []
+last_label octets is none = by (sequence_labels octets) refl where
+  by : (labels : List (List ℕ)) → sequence_labels octets ≡ labels → sequence_labels octets ≡ []
   by [] e = e
   by (contents ∷ others) e =
-      let t = list_takes octets (labels_in octets) is in
+      let t = list_takes octets (sequence_labels octets) is in
       let sizes : AllByRecursion IsShort (contents ∷ others) = subst (AllByRecursion IsShort) e t.0 in
       let parts : octets ≡ length contents ∷ (contents ++ heads others) = t.1 ∙ ap heads e in
       let read : plain_label octets ≡ Some (contents, heads others) = ap plain_label parts ∙ label_again contents (heads others) sizes.0 in
@@ -126,17 +126,17 @@ last_label octets is none = by (labels_in octets) refl where
 -- the first label, and the labels behind it
 pub record FirstIn (octets contents rest : List ℕ) : Type 0 where
   pub left : AreLabels rest
-  pub first : labels_in octets ≡ contents ∷ labels_in rest
+  pub first : sequence_labels octets ≡ contents ∷ sequence_labels rest
 
 pub first_in : (octets contents rest : List ℕ) → AreLabels octets → plain_label octets ≡ Some (contents, rest) → FirstIn octets contents rest
-first_in octets contents rest is read = by (labels_in octets) refl where
-  by : (labels : List (List ℕ)) → labels_in octets ≡ labels → FirstIn octets contents rest
+first_in octets contents rest is read = by (sequence_labels octets) refl where
+  by : (labels : List (List ℕ)) → sequence_labels octets ≡ labels → FirstIn octets contents rest
   by [] e =
-      let t = list_takes octets (labels_in octets) is in
+      let t = list_takes octets (sequence_labels octets) is in
       let s = label_takes octets contents rest read in
       absurd (let h : length contents ∷ (contents ++ rest) ≡ [] = sym s.1 ∙ t.1 ∙ ap heads e in cc)
   by (label ∷ others) e =
-      let t = list_takes octets (labels_in octets) is in
+      let t = list_takes octets (sequence_labels octets) is in
       let sizes : AllByRecursion IsShort (label ∷ others) = subst (AllByRecursion IsShort) e t.0 in
       let parts : octets ≡ length label ∷ (label ++ heads others) = t.1 ∙ ap heads e in
       let same = some_pair_parts contents label rest (heads others) (sym read ∙ ap plain_label parts ∙ label_again label (heads others) sizes.0) in
@@ -144,10 +144,10 @@ first_in octets contents rest is read = by (labels_in octets) refl where
       record { left = are_labels rest others sizes.1 same.1; first = rw (same.0, behind.1) e }
 
 -- nothing is left exactly where no octets are
-pub none_left : (octets : List ℕ) → AreLabels octets → labels_in octets ≡ [] → octets ≡ []
-none_left octets is e = (list_takes octets (labels_in octets) is).1 ∙ ap heads e
+pub none_left : (octets : List ℕ) → AreLabels octets → sequence_labels octets ≡ [] → octets ≡ []
+none_left octets is e = (list_takes octets (sequence_labels octets) is).1 ∙ ap heads e
 
-pub nothing_in : labels_in [] ≡ []
+pub nothing_in : sequence_labels [] ≡ []
 nothing_in = (labels_in_heads [] [] tt refl).1
 
 -- ---- a test
@@ -157,8 +157,8 @@ pub behind_label : (octets contents rest : List ℕ) → plain_label octets ≡ 
 behind_label octets contents rest read =
     let t = label_takes octets contents rest read in
     let whole : AreLabels rest → AreLabels octets = λ are.
-    let s = list_takes rest (labels_in rest) are in
-    are_labels octets (contents ∷ labels_in rest) (t.0, s.0) (t.1 ∙ ap (λ (l : List ℕ). length contents ∷ (contents ++ l)) s.1) in
+    let s = list_takes rest (sequence_labels rest) are in
+    are_labels octets (contents ∷ sequence_labels rest) (t.0, s.0) (t.1 ∙ ap (λ (l : List ℕ). length contents ∷ (contents ++ l)) s.1) in
     ((λ are. (first_in octets contents rest are read).left, whole), omega (arith, ap length t.1, length-append contents rest))
 
 -- where no label stands there are none exactly where no octets are

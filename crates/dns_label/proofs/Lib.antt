@@ -1,5 +1,4 @@
 -- The crate's own lemmas.
-pub mod Cells
 pub mod Compared
 pub mod Filled
 pub mod Preceding

@@ -38,13 +38,13 @@ labels_to_end zero (size ∷ rest) = None
 labels_to_end (suc steps) (size ∷ rest) = then_labels (λ more. labels_to_end steps more) (plain_label (size ∷ rest))
 
 -- the labels that fill the octets, one after another
-unfoldable pub label_list : List ℕ → Option (List (List ℕ))
-label_list octets = labels_to_end (length octets) octets
+unfoldable pub label_sequence : List ℕ → Option (List (List ℕ))
+label_sequence octets = labels_to_end (length octets) octets
 
 -- the labels of octets that they fill
-unfoldable pub labels_in : List ℕ → List (List ℕ)
-labels_in octets = unwrap_or (label_list octets) []
+unfoldable pub sequence_labels : List ℕ → List (List ℕ)
+sequence_labels octets = unwrap_or (label_sequence octets) []
 
 -- Octets are labels one after another. `labels_fill` says it in other words.
 abbrev pub AreLabels : List ℕ → Type 0
-AreLabels octets = label_list octets ≡ Some (labels_in octets)
+AreLabels octets = label_sequence octets ≡ Some (sequence_labels octets)

@@ -4,4 +4,3 @@ pub mod Labels
 pub mod Left
 pub mod Lends
 pub mod Order
-pub mod Storage

@@ -3,7 +3,7 @@
 ghost use Rattle.std.specs.Prelude.{◌≡◌, ◌↔◌, [], IsTrue, ⊤};
 ghost use Rattle.std.specs.Iterator.{YieldsFirstBy, item_count};
 ghost use Rattle.dns_wire.specs.Names.{heads};
-ghost use Rattle.dns_label.specs.Labels.{AreLabels, contents_of, labels_in};
+ghost use Rattle.dns_label.specs.Labels.{AreLabels, contents_of, sequence_labels};
 
 use crate::label::Label;
 use dns_wire::SplitBytes;
@@ -18,11 +18,11 @@ pub struct LabelIter<'a> {
 
 impl<'a> Model for LabelIter<'a> {
     ghost use Rattle.std.specs.Prelude.{ℕ, List};
-    ghost use Rattle.dns_label.specs.Labels.{AreLabels, labels_in};
+    ghost use Rattle.dns_label.specs.Labels.{AreLabels, sequence_labels};
 
     ghost Value = { List (List ℕ) };
 
-    ghost view = { λ i. labels_in i.octets.now };
+    ghost view = { λ i. sequence_labels i.octets.now };
 
     ghost invariant = { λ i. AreLabels i.octets.now };
 }
@@ -31,7 +31,7 @@ impl<'a> LabelIter<'a> {
     /// Goes over the labels that fill the octets.
     pub fn new(octets: &'a [u8]) -> LabelIter<'a>
         requires { AreLabels octets.now }
-        ensures { result ≡ labels_in octets.entry.now }
+        ensures { result ≡ sequence_labels octets.entry.now }
     {
         LabelIter { octets }
     }
@@ -50,7 +50,7 @@ impl<'a> LabelIter<'a> {
     /// The octets of the labels that are still to come.
     pub fn remaining(&self) -> &'a [u8]
         ensures octets { result.now ≡ heads self.now }
-        ensures labels { labels_in result.now ≡ self.now }
+        ensures labels { sequence_labels result.now ≡ self.now }
     {
         self.octets
     }

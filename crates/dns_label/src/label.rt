@@ -2,16 +2,14 @@
 
 ghost use Rattle.std.specs.Prelude.{◌≡◌, ◌≤◌, ◌↔◌, ℕ, List, [], ◌∷◌, length, codes, Option, Some, IsTrue};
 ghost use Rattle.std.proofs.Props.{props};
-ghost use Rattle.dns_wire.specs.Reading.{all_of, plain_at};
-ghost use Rattle.dns_wire.specs.Left.{plain_ends};
+ghost use Rattle.dns_wire.specs.Reading.{all_of};
 ghost use Rattle.dns_label.specs.Left.{label_leaves};
 ghost use Rattle.dns_label.specs.Labels.{plain_label, contents_of, label_wire};
 
 use crate::label_buf::LabelBuf;
 use dns_wire::{
-    AsBytes, BuildBytes, BuildInMessage, NameCompressor, ParseBytes, ParseError, ParseMessageBytes,
-    SplitBytes, SplitMessageBytes, TruncationError, build_whole, parse_without_compression, put,
-    split_without_compression, whole,
+    AsBytes, BuildBytes, BuildInMessage, NameCompressor, ParseError, ReadPlainValue,
+    TruncationError, build_whole, put,
 };
 
 /// A label: a length of at most 63, and so many octets (RFC 1035 section 3.1). What contracts see of it
@@ -87,27 +85,17 @@ impl AsBytes for Label<'_> {
     }
 }
 
-impl<'a> ParseBytes<'a> for Label<'a> {
+impl<'a> ReadPlainValue<'a> for Label<'a> {
     ghost Seen = { List ℕ };
 
     ghost seen = { λ v. contents_of v.slice.now };
 
     ghost reads = { plain_label };
 
-    ghost reads_at = { plain_at plain_label };
-
     ghost leaves_rest = { label_leaves };
 
-    ghost ends_within = { plain_ends plain_label label_leaves };
-
-    fn parse_bytes(bytes: &'a [u8]) -> Result<Label<'a>, ParseError> {
-        whole(Label::split_bytes(bytes))
-    }
-}
-
-impl<'a> SplitBytes<'a> for Label<'a> {
     #[tactic(auto, unfolding(crate::specs::Labels::plain_label))]
-    fn split_bytes(bytes: &'a [u8]) -> Result<(Label<'a>, &'a [u8]), ParseError> {
+    fn read_plain(bytes: &'a [u8]) -> Result<(Label<'a>, &'a [u8]), ParseError> {
         let [size, behind @ ..] = bytes else {
             return Err(ParseError);
         };
@@ -117,21 +105,6 @@ impl<'a> SplitBytes<'a> for Label<'a> {
         }
         let (slice, rest) = bytes.split_at(1 + size);
         Ok((Label { slice }, rest))
-    }
-}
-
-impl<'a> ParseMessageBytes<'a> for Label<'a> {
-    fn parse_message_bytes(contents: &'a [u8], start: usize) -> Result<Label<'a>, ParseError> {
-        parse_without_compression(contents, start)
-    }
-}
-
-impl<'a> SplitMessageBytes<'a> for Label<'a> {
-    fn split_message_bytes(
-        contents: &'a [u8],
-        start: usize,
-    ) -> Result<(Label<'a>, usize), ParseError> {
-        split_without_compression(contents, start)
     }
 }
 

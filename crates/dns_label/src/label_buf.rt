@@ -3,18 +3,13 @@
 ghost use Rattle.std.specs.Prelude.{◌≡◌, ◌≤◌, ◌<◌, ◌+◌, ◌↔◌, ℕ, List, [], ◌∷◌, ◌++◌, length, take, slice_index, IsOk, IfOk, OnOk, OnErr, ⊤};
 ghost use Rattle.std.specs.Borrow.{sem};
 ghost use Rattle.std.specs.Str.{str_to_ascii_lowercase};
-ghost use Rattle.dns_wire.specs.Reading.{plain_at};
-ghost use Rattle.dns_wire.specs.Left.{plain_ends};
 ghost use Rattle.dns_label.specs.Left.{label_leaves};
 ghost use Rattle.dns_label.specs.Labels.{plain_label, contents_of};
-ghost use Rattle.dns_label.specs.Storage.{stored};
 
 use crate::label::Label;
-use crate::storage::Storage;
 use dns_wire::{
-    BuildBytes, BuildInMessage, NameCompressor, ParseBytes, ParseError, ParseMessageBytes,
-    SplitBytes, SplitMessageBytes, TruncationError, build_whole, parse_without_compression,
-    split_without_compression,
+    BuildBytes, BuildInMessage, NameCompressor, ParseError, ReadPlainValue, SplitBytes, Storage,
+    TruncationError, build_whole,
 };
 use std::alloc::AllocError;
 use std::marker::Model;
@@ -22,12 +17,12 @@ use std::marker::Model;
 /// A label that owns its octets, and is seen as its contents. It takes no memory.
 #[derive(Debug, Drop)]
 pub struct LabelBuf {
-    storage: Storage,
+    storage: Storage<64>,
 }
 
 impl Model for LabelBuf {
     ghost use Rattle.std.specs.Prelude.{◌≡◌, ◌<◌, ℕ, List, length, slice_index};
-    ghost use Rattle.dns_label.specs.Storage.{stored};
+    ghost use Rattle.dns_wire.specs.Storage.{stored};
 
     ghost Value = { List ℕ };
 
@@ -163,44 +158,18 @@ impl Clone for LabelBuf {
     }
 }
 
-impl<'a> ParseBytes<'a> for LabelBuf {
+impl<'a> ReadPlainValue<'a> for LabelBuf {
     ghost Seen = { List ℕ };
 
     ghost seen = { λ v. v };
 
     ghost reads = { plain_label };
 
-    ghost reads_at = { plain_at plain_label };
-
     ghost leaves_rest = { label_leaves };
 
-    ghost ends_within = { plain_ends plain_label label_leaves };
-
-    fn parse_bytes(bytes: &'a [u8]) -> Result<LabelBuf, ParseError> {
-        let label = Label::parse_bytes(bytes)?;
-        Ok(LabelBuf::copy_from(label))
-    }
-}
-
-impl<'a> SplitBytes<'a> for LabelBuf {
-    fn split_bytes(bytes: &'a [u8]) -> Result<(LabelBuf, &'a [u8]), ParseError> {
+    fn read_plain(bytes: &'a [u8]) -> Result<(LabelBuf, &'a [u8]), ParseError> {
         let (label, rest) = Label::split_bytes(bytes)?;
         Ok((LabelBuf::copy_from(label), rest))
-    }
-}
-
-impl<'a> ParseMessageBytes<'a> for LabelBuf {
-    fn parse_message_bytes(contents: &'a [u8], start: usize) -> Result<LabelBuf, ParseError> {
-        parse_without_compression(contents, start)
-    }
-}
-
-impl<'a> SplitMessageBytes<'a> for LabelBuf {
-    fn split_message_bytes(
-        contents: &'a [u8],
-        start: usize,
-    ) -> Result<(LabelBuf, usize), ParseError> {
-        split_without_compression(contents, start)
     }
 }
 

@@ -5,7 +5,7 @@ ghost use Rattle.std.specs.List.{AllByRecursion};
 ghost use Rattle.std.specs.Str.{str_to_ascii_lowercase};
 ghost use Rattle.std.specs.declared.cmp.Ordering.TheVariants.{Less, Equal};
 ghost use Rattle.dns_wire.specs.Names.{heads};
-ghost use Rattle.dns_label.specs.Labels.{AreLabels, IsShort, label_wire, labels_in, plain_label};
+ghost use Rattle.dns_label.specs.Labels.{AreLabels, IsShort, label_wire, sequence_labels, plain_label};
 ghost use Rattle.dns_label.specs.Order.{label_cmp, Precedes};
 
 /// A label is read exactly where its octets stand at the front: its length, which is at most 63, and so
@@ -21,9 +21,9 @@ pub fn one_label()
 /// each behind its length. They are so of one list of labels only, and it is the one that is read.
 pub fn labels_fill()
     ensures spelled { (octets : List ℕ) → AreLabels octets →
-        AllByRecursion IsShort (labels_in octets) × (octets ≡ heads (labels_in octets)) }
+        AllByRecursion IsShort (sequence_labels octets) × (octets ≡ heads (sequence_labels octets)) }
     ensures read { (labels : List (List ℕ)) → AllByRecursion IsShort labels →
-        AreLabels (heads labels) × (labels_in (heads labels) ≡ labels) }
+        AreLabels (heads labels) × (sequence_labels (heads labels) ≡ labels) }
 {}
 
 /// A label comes before another exactly where, in small letters, it has the smaller octet at the first place

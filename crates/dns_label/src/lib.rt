@@ -7,7 +7,6 @@ mod label;
 mod label_buf;
 mod laws;
 mod order;
-mod storage;
 
 pub use iter::LabelIter;
 pub use label::Label;

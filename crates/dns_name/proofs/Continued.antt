@@ -8,7 +8,7 @@ use Rattle.dns_wire.specs.Pointers.{Segment, NameAt, offset_at, name_at}
 use Rattle.dns_wire.specs.Pointers.Segment.{at_root, at_label, at_pointer}
 use Rattle.dns_wire.proofs.Following.{name_at_is, name_at_finds, segment_ends}
 use Rattle.dns_wire.proofs.Walk.{heads-append, wire_long, next_head}
-use Rattle.dns_name.specs.Unparsed.{Unparsed, IsUnparsed, LeadsBack, GoesOn, Continued, offset_of, end_offset, last_octets, unparsed_at, unparsed_wire}
+use Rattle.dns_name.specs.Unparsed.{Unparsed, IsUnparsed, LeadsBack, GoesOn, Continued, pointed_offset, end_offset, last_octets, unparsed_at, unparsed_wire}
 use Rattle.dns_name.proofs.StandingAt.{UnparsedParts, unparsed_parts, unparsed_found}
 
 -- ---- from a name to an unparsed one
@@ -127,16 +127,16 @@ stood contents at x rest e =
     let both : slice_index contents at ∷ drop (at + 1) contents ≡ x ∷ rest = sym (next_head contents at (slice_index contents at) within refl) ∙ e in
     record { within = within; here = cc; behind = cc }
 
-segment_on : (contents : List ℕ) (start : ℕ) (others labels : List (List ℕ)) (last : Option (ℕ × ℕ)) (at end : ℕ) → AllByRecursion IsLabel labels → IfSome last (λ octets. 192 ≤ octets.0) → LeadsBack start (option_map offset_of last) → GoesOn contents (option_map offset_of last) others → drop at contents ≡ (heads labels ++ last_octets last) ++ drop end contents → at + length (heads labels ++ last_octets last) ≡ end → Segment contents start at (labels ++ others) end
+segment_on : (contents : List ℕ) (start : ℕ) (others labels : List (List ℕ)) (last : Option (ℕ × ℕ)) (at end : ℕ) → AllByRecursion IsLabel labels → IfSome last (λ octets. 192 ≤ octets.0) → LeadsBack start (option_map pointed_offset last) → GoesOn contents (option_map pointed_offset last) others → drop at contents ≡ (heads labels ++ last_octets last) ++ drop end contents → at + length (heads labels ++ last_octets last) ≡ end → Segment contents start at (labels ++ others) end
 segment_on contents start others [] None at end sizes high back on octets ends =
     let s = stood contents at 0 (drop end contents) octets in
     at_root s.within s.here on (sym ends)
 segment_on contents start others [] (Some (first, second)) at end sizes high back on octets ends =
     let s = stood contents at first (second ∷ drop end contents) octets in
     let t = stood contents (at + 1) second (drop end contents) s.behind in
-    let offset : offset_at contents at ≡ offset_of (first, second) = rw (s.here, t.here) refl in
-    let name : NameAt contents (offset_of (first, second) - 12) others on.0 = name_at_is contents (offset_of (first, second) - 12) others on.0 on.1 in
-    at_pointer {target = offset_of (first, second) - 12} (rw s.here high) (omega (arith, t.within)) (omega (arith, offset, back.0)) (omega (arith, back.0, back.1)) name.reads (omega (arith, ends))
+    let offset : offset_at contents at ≡ pointed_offset (first, second) = rw (s.here, t.here) refl in
+    let name : NameAt contents (pointed_offset (first, second) - 12) others on.0 = name_at_is contents (pointed_offset (first, second) - 12) others on.0 on.1 in
+    at_pointer {target = pointed_offset (first, second) - 12} (rw s.here high) (omega (arith, t.within)) (omega (arith, offset, back.0)) (omega (arith, back.0, back.1)) name.reads (omega (arith, ends))
 segment_on contents start others (label ∷ labels) last at end sizes high back on octets ends =
     let tail : List ℕ = (heads labels ++ last_octets last) ++ drop end contents in
     let s = stood contents at (length label) (((label ++ heads labels) ++ last_octets last) ++ drop end contents) octets in

@@ -8,7 +8,7 @@ use Rattle.std.proofs.Math.Seq.{drop-cons}
 use Rattle.dns_wire.specs.Reading.{Gives, all_of}
 use Rattle.dns_wire.specs.declared.follow.Head.{Head}
 use Rattle.dns_wire.specs.declared.follow.Head.TheVariants.{Root, Label, Pointer}
-use Rattle.dns_wire.specs.Names.{heads, wire, IsLabel, plain_name, labels_of}
+use Rattle.dns_wire.specs.Names.{heads, wire, IsLabel, plain_name, name_labels}
 use Rattle.dns_wire.specs.Pointers.{NameAt, head_at, joined, after_head, segment_within, short_name, name_at}
 use Rattle.dns_wire.proofs.Following.{name_at_is, name_at_finds}
 use Rattle.dns_wire.proofs.Walk.{AllByRecursion-append, heads-append, wire_long, plain_wire}
@@ -131,12 +131,12 @@ followed_bad contents start segment at end front followed is = ap short_name (re
 
 -- a name that is read
 pub record Reads (contents : List ℕ) (start : ℕ) (octets : List ℕ) (end : ℕ) : Type 0 where
-  pub reads : name_at contents start ≡ Some (labels_of octets, end)
-  pub whole : all_of (plain_name octets) ≡ Some (labels_of octets)
+  pub reads : name_at contents start ≡ Some (name_labels octets, end)
+  pub whole : all_of (plain_name octets) ≡ Some (name_labels octets)
   pub within : (start ≤ end) × (end ≤ length contents)
 
 pub followed_root : (contents : List ℕ) (start segment at : ℕ) (end : Option ℕ) (front : List ℕ) → Followed contents start segment at end front → head_at contents segment at ≡ Some Root → at < length contents → Reads contents start (front ++ 0 ∷ []) (unwrap_or end (at + 1))
-unfolding labels_of name_at
+unfolding name_labels name_at
 followed_root contents start segment at end front followed is within =
     let octets : front ++ 0 ∷ [] ≡ wire followed.labels = ap (λ (f : List ℕ). f ++ 0 ∷ []) followed.front_is in
     let long : length (wire followed.labels) ≤ 255 = omega (arith, wire_long followed.labels, ap length followed.front_is, followed.short) in

@@ -4,9 +4,9 @@ use Rattle.std.specs.Prelude.{reverse, unwrap_or, slice_index, slice_range}
 use Rattle.std.specs.List.{AllByRecursion}
 use Rattle.std.proofs.lemmas.List.{take_at, drop_at, drop_all, length-append, length-take, length-drop, append-nil, reverse-append}
 use Rattle.dns_wire.specs.declared.follow.Head.TheVariants.{Root, Label, Pointer}
-use Rattle.dns_wire.specs.Names.{heads, wire, IsLabel, IsName, labels_of}
+use Rattle.dns_wire.specs.Names.{heads, wire, IsLabel, IsName, name_labels}
 use Rattle.dns_wire.specs.Pointers.{head_at, name_at}
-use Rattle.dns_wire.specs.Reversed.{reversed_wire, reversed_name, reversed_labels_of}
+use Rattle.dns_wire.specs.Reversed.{reversed_wire, reversed_name, reversed_name_labels}
 use Rattle.dns_wire.proofs.Backward.{reversed_long, reversed_read, reversed_labels, reversed_wire_long}
 use Rattle.dns_wire.proofs.Spelled.{labels_of_wire}
 use Rattle.dns_wire.proofs.Walk.{AllByRecursion-append, heads-append, wire_long}
@@ -22,12 +22,12 @@ put_before old new octets offset room within is =
 -- the octets at the end of a buffer are a name's, from the root on
 pub record HoldsReversed (buffer : List ℕ) (offset : ℕ) (labels : List (List ℕ)) : Type 0 where
   pub early : offset < 255
-  pub whole : reversed_name (drop offset buffer) ≡ Some (reversed_labels_of (drop offset buffer))
-  pub labels_are : reversed_labels_of (drop offset buffer) ≡ labels
+  pub whole : reversed_name (drop offset buffer) ≡ Some (reversed_name_labels (drop offset buffer))
+  pub labels_are : reversed_name_labels (drop offset buffer) ≡ labels
 
 pub holds_reversed : (buffer : List ℕ) (offset : ℕ) (labels : List (List ℕ)) → IsName labels → length buffer ≡ 255 → drop offset buffer ≡ reversed_wire labels → HoldsReversed buffer offset labels
 holds_reversed buffer offset labels is array end_is =
-    let again : reversed_labels_of (drop offset buffer) ≡ labels = ap reversed_labels_of end_is ∙ reversed_labels labels is in
+    let again : reversed_name_labels (drop offset buffer) ≡ labels = ap reversed_name_labels end_is ∙ reversed_labels labels is in
     record {
       early = omega (arith, array, ap length end_is, length-drop offset buffer, reversed_wire_long labels, wire_long labels);
       whole = ap reversed_name end_is ∙ reversed_read labels is ∙ ap Some (sym again);
@@ -63,7 +63,7 @@ pub gathered_root : (contents : List ℕ) (start segment at : ℕ) (end : Option
 gathered_root contents start segment at end offset buffer newer gathered is within put =
     let name : IsName gathered.labels = record { sizes = gathered.sizes; size = omega (arith, wire_long gathered.labels, gathered.followed.short) } in
     let found = followed_root _ _ _ _ _ _ gathered.followed is within in
-    let labels_are : labels_of (wire gathered.labels) ≡ gathered.labels = (labels_of_wire gathered.labels name).1 in
+    let labels_are : name_labels (wire gathered.labels) ≡ gathered.labels = (labels_of_wire gathered.labels name).1 in
     let room : 1 ≤ offset = omega (arith, gathered.offset_is, gathered.followed.short) in
     let long : length newer ≡ 255 = ap length put ∙ length-append (take (offset - 1) buffer) (0 ∷ drop offset buffer) ∙ omega (arith, room, gathered.array, gathered.offset_is, length-take (offset - 1) buffer, length-drop offset buffer) in
     record {

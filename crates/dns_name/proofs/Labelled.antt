@@ -3,13 +3,13 @@ use Rattle.std.proofs.Common.{◌≡◌, ℕ, suc, ◌+◌, ◌*◌, ◌<◌, �
 use Rattle.std.specs.Prelude.{reverse}
 use Rattle.std.specs.List.{AllByRecursion}
 use Rattle.std.proofs.lemmas.List.{length-append}
-use Rattle.dns_wire.specs.Names.{IsLabel, heads, plain_name, labels_of}
+use Rattle.dns_wire.specs.Names.{IsLabel, heads, plain_name, name_labels}
 use Rattle.dns_wire.specs.Reading.{all_of}
-use Rattle.dns_wire.specs.Reversed.{reversed_name, reversed_labels_of}
+use Rattle.dns_wire.specs.Reversed.{reversed_name, reversed_name_labels}
 use Rattle.dns_wire.proofs.Backward.{name_reversed, reversed_is}
 use Rattle.dns_wire.proofs.Spelled.{name_octets}
 use Rattle.dns_wire.proofs.Walk.{heads-append, wire_long}
-use Rattle.dns_label.specs.Labels.{IsShort, AreLabels, labels_in}
+use Rattle.dns_label.specs.Labels.{IsShort, AreLabels, sequence_labels}
 use Rattle.dns_label.proofs.Filled.{are_labels, labels_in_heads}
 
 sizes_short : (labels : List (List ℕ)) → AllByRecursion IsLabel labels → AllByRecursion IsShort (labels ++ [] ∷ [])
@@ -22,20 +22,20 @@ twice [] sizes = omega arith
 twice (label ∷ labels) sizes = omega (arith, twice labels sizes.1, sizes.0.0, length-append label (heads labels))
 
 -- a name's octets are its labels, and then the root's
-pub record LabelsOf (bytes : List ℕ) : Type 0 where
+pub record NameFilled (bytes : List ℕ) : Type 0 where
   pub are : AreLabels bytes
-  pub labels : labels_in bytes ≡ labels_of bytes ++ [] ∷ []
-  pub few : length (labels_of bytes) < 128
+  pub labels : sequence_labels bytes ≡ name_labels bytes ++ [] ∷ []
+  pub few : length (name_labels bytes) < 128
 
-pub name_labels : (bytes : List ℕ) → all_of (plain_name bytes) ≡ Some (labels_of bytes) → LabelsOf bytes
-name_labels bytes is =
-    let t = name_octets bytes (labels_of bytes) is in
-    let parts : bytes ≡ heads (labels_of bytes ++ [] ∷ []) = t.1 ∙ sym (heads-append (labels_of bytes) ([] ∷ [])) in
-    let sizes = sizes_short (labels_of bytes) t.0.sizes in
+pub name_filled : (bytes : List ℕ) → all_of (plain_name bytes) ≡ Some (name_labels bytes) → NameFilled bytes
+name_filled bytes is =
+    let t = name_octets bytes (name_labels bytes) is in
+    let parts : bytes ≡ heads (name_labels bytes ++ [] ∷ []) = t.1 ∙ sym (heads-append (name_labels bytes) ([] ∷ [])) in
+    let sizes = sizes_short (name_labels bytes) t.0.sizes in
     record {
-      are = are_labels bytes (labels_of bytes ++ [] ∷ []) sizes parts;
-      labels = (labels_in_heads bytes (labels_of bytes ++ [] ∷ []) sizes parts).1;
-      few = omega (arith, twice (labels_of bytes) t.0.sizes, wire_long (labels_of bytes), t.0.size);
+      are = are_labels bytes (name_labels bytes ++ [] ∷ []) sizes parts;
+      labels = (labels_in_heads bytes (name_labels bytes ++ [] ∷ []) sizes parts).1;
+      few = omega (arith, twice (name_labels bytes) t.0.sizes, wire_long (name_labels bytes), t.0.size);
     }
 
 -- ---- from the root on
@@ -45,20 +45,20 @@ all_short [] sizes = tt
 all_short (label ∷ labels) sizes = (sizes.0.1, all_short labels sizes.1)
 
 -- the octets of a name from the root on are the root's label, and then its labels from the last to the first
-pub record ReversedLabelsOf (bytes : List ℕ) : Type 0 where
+pub record ReversedNameFilled (bytes : List ℕ) : Type 0 where
   pub are : AreLabels bytes
-  pub labels : labels_in bytes ≡ [] ∷ reverse (reversed_labels_of bytes)
-  pub few : length (reverse (reversed_labels_of bytes)) < 128
+  pub labels : sequence_labels bytes ≡ [] ∷ reverse (reversed_name_labels bytes)
+  pub few : length (reverse (reversed_name_labels bytes)) < 128
 
-pub reversed_name_labels : (bytes : List ℕ) → reversed_name bytes ≡ Some (reversed_labels_of bytes) → ReversedLabelsOf bytes
-reversed_name_labels bytes is =
-    let t = reversed_is bytes (reversed_labels_of bytes) is in
-    let turned = name_reversed (reversed_labels_of bytes) t.0 in
-    let sizes : AllByRecursion IsShort ([] ∷ reverse (reversed_labels_of bytes)) = (omega arith, all_short (reverse (reversed_labels_of bytes)) turned.sizes) in
+pub reversed_name_filled : (bytes : List ℕ) → reversed_name bytes ≡ Some (reversed_name_labels bytes) → ReversedNameFilled bytes
+reversed_name_filled bytes is =
+    let t = reversed_is bytes (reversed_name_labels bytes) is in
+    let turned = name_reversed (reversed_name_labels bytes) t.0 in
+    let sizes : AllByRecursion IsShort ([] ∷ reverse (reversed_name_labels bytes)) = (omega arith, all_short (reverse (reversed_name_labels bytes)) turned.sizes) in
     record {
-      are = are_labels bytes ([] ∷ reverse (reversed_labels_of bytes)) sizes t.1;
-      labels = (labels_in_heads bytes ([] ∷ reverse (reversed_labels_of bytes)) sizes t.1).1;
-      few = omega (arith, twice (reverse (reversed_labels_of bytes)) turned.sizes, wire_long (reverse (reversed_labels_of bytes)), turned.size);
+      are = are_labels bytes ([] ∷ reverse (reversed_name_labels bytes)) sizes t.1;
+      labels = (labels_in_heads bytes ([] ∷ reverse (reversed_name_labels bytes)) sizes t.1).1;
+      few = omega (arith, twice (reverse (reversed_name_labels bytes)) turned.sizes, wire_long (reverse (reversed_name_labels bytes)), turned.size);
     }
 
 -- ---- the octets at the front

@@ -8,3 +8,4 @@ pub mod Sameness
 pub mod Standing
 pub mod StandingAt
 pub mod Turned
+pub mod WholeNames

@@ -14,7 +14,7 @@ use Rattle.dns_wire.proofs.Walk.{Walked, next_head, heads-append, heads_long}
 use Rattle.dns_label.specs.Labels.{contents_of, label_wire, plain_label}
 use Rattle.dns_label.proofs.Filled.{label_alone}
 use Rattle.dns_name.proofs.Labelled.{front_octets}
-use Rattle.dns_name.specs.Unparsed.{Unparsed, last_octets, unparsed_wire, IsUnparsed, offset_of, end_offset, alone_offset, behind_labels, pointer_from, unparsed_within, up_to_254, unparsed_name, unparsed_of}
+use Rattle.dns_name.specs.Unparsed.{Unparsed, last_octets, unparsed_wire, IsUnparsed, pointed_offset, end_offset, alone_offset, behind_labels, pointer_from, unparsed_within, up_to_254, unparsed_name, unparsed_of}
 
 abbrev pub ReadName : Type 0
 ReadName = Option (Unparsed × List ℕ)
@@ -207,7 +207,7 @@ root_alone_unparsed (label ∷ labels, end) e = absurd (omega (arith, e, length-
 pub record FirstHead (bytes : List ℕ) (name : Unparsed) : Type 0 where
   pub root : get_or bytes 0 0 ≡ 0 → name ≡ ([], None)
   pub no_pointer : get_or bytes 0 0 < 192 → alone_offset name ≡ None
-  pub pointer : 192 ≤ get_or bytes 0 0 → (1 < length bytes) × (name.0 ≡ []) × (alone_offset name ≡ Some (offset_of (get_or bytes 0 0, get_or bytes 1 0)))
+  pub pointer : 192 ≤ get_or bytes 0 0 → (1 < length bytes) × (name.0 ≡ []) × (alone_offset name ≡ Some (pointed_offset (get_or bytes 0 0, get_or bytes 1 0)))
 
 head_of : (name : Unparsed) → IsUnparsed name → FirstHead (unparsed_wire name) name
 head_of ([], None) is = record { root = λ e. refl; no_pointer = λ low. refl; pointer = λ high. absurd (omega (arith, high)) }
@@ -313,7 +313,7 @@ module _ (bytes : List ℕ) (at : ℕ) (walked : Walked bytes at) where
       walked.parts ∙ ap (λ (rest : List ℕ). heads walked.labels ++ rest) (next_head bytes at 0 within is) ∙ sym (append_assoc (heads walked.labels) (0 ∷ []) (drop (at + 1) bytes)) in
       ends_with bytes (walked.labels, None) (at + 1) (record { sizes = walked.sizes; size = omega (arith, walked.at_is); pointer = tt }) parts (length-append (heads walked.labels) (0 ∷ []) ∙ omega (arith, walked.at_is))
 
-  pub walked_to_pointer : (high : ℕ) → at < length bytes → at < 255 → get_or bytes at 0 ≡ high → 192 ≤ high → 2 ≤ length bytes - at → UnparsedEnds bytes (at + 2) (Some (offset_of (high, get_or bytes (at + 1) 0)))
+  pub walked_to_pointer : (high : ℕ) → at < length bytes → at < 255 → get_or bytes at 0 ≡ high → 192 ≤ high → 2 ≤ length bytes - at → UnparsedEnds bytes (at + 2) (Some (pointed_offset (high, get_or bytes (at + 1) 0)))
   walked_to_pointer high within short is above room =
       let pointer : ℕ × ℕ = (high, get_or bytes (at + 1) 0) in
       let behind : drop (at + 1) bytes ≡ get_or bytes (at + 1) 0 ∷ drop (at + 2) bytes = next_head bytes (at + 1) (get_or bytes (at + 1) 0) (omega arith) refl ∙ ap (λ (n : ℕ). get_or bytes (at + 1) 0 ∷ drop n bytes) (omega arith) in

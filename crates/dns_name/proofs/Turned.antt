@@ -4,7 +4,7 @@ use Rattle.std.specs.Prelude.{reverse, slice_range}
 use Rattle.std.proofs.lemmas.List.{take_at, drop_at, take-take, drop_all, take-append-drop, take-append-le, drop-drop, length-append, length-take, length-drop, append-nil, reverse-append}
 use Rattle.std.proofs.Math.Seq.{drop-cons}
 use Rattle.dns_wire.specs.Building.{Stands}
-use Rattle.dns_wire.specs.Names.{heads, wire, IsName, plain_name, labels_of}
+use Rattle.dns_wire.specs.Names.{heads, wire, IsName, plain_name, name_labels}
 use Rattle.dns_wire.specs.Reading.{all_of}
 use Rattle.dns_wire.specs.Reversed.{label_row, row_labels}
 use Rattle.dns_wire.proofs.Backward.{row_is, no_labels, reversed_long}
@@ -120,8 +120,8 @@ forward_stands old with_root new labels start end end_is within root_is new_is =
 -- the octets at the front of a buffer are a name's
 pub record HoldsName (buffer : List ℕ) (size : ℕ) (labels : List (List ℕ)) : Type 0 where
   pub short : size ≤ 255
-  pub whole : all_of (plain_name (take size buffer)) ≡ Some (labels_of (take size buffer))
-  pub labels_are : labels_of (take size buffer) ≡ labels
+  pub whole : all_of (plain_name (take size buffer)) ≡ Some (name_labels (take size buffer))
+  pub labels_are : name_labels (take size buffer) ≡ labels
 
 pub holds_name : (old new : List ℕ) (size : ℕ) (labels : List (List ℕ)) → IsName labels → Stands (wire labels) old 0 new size → HoldsName new size labels
 holds_name old new size labels is stands =

@@ -3,7 +3,7 @@ use Rattle.std.specs.Prelude.{ℕ, List, reverse}
 use Rattle.std.specs.Ordering.{nat_cmp}
 use Rattle.std.specs.Cmp.Lexicographic.{slice_cmp}
 use Rattle.std.specs.declared.cmp.Ordering.{Ordering}
-use Rattle.dns_wire.specs.Names.{labels_of, lowered}
+use Rattle.dns_wire.specs.Names.{name_labels, lowered}
 
 -- the labels from the root on, lowered
 abbrev pub key : List (List ℕ) → List (List ℕ)
@@ -15,4 +15,4 @@ key_cmp = slice_cmp (slice_cmp nat_cmp)
 
 -- the key of a name's octets
 abbrev pub key_of : List ℕ → List (List ℕ)
-key_of bytes = key (labels_of bytes)
+key_of bytes = key (name_labels bytes)

@@ -1,8 +1,9 @@
 -- Names as they stand, whatever their pointers lead to (RFC 1035 section 4.1.4).
-use Rattle.std.specs.Prelude.{◌≡◌, ℕ, zero, suc, ◌+◌, ◌-◌, ◌*◌, ◌<◌, ◌≤◌, List, [], ◌∷◌, ◌++◌, length, take, drop, Bool, true, Option, Some, None, option_map, unwrap_or, IfSome, nat_lt, nat_le, ◌==◌, ◌||◌, ◌&&◌, if◌then◌else◌}
+use Rattle.std.specs.Prelude.{◌≡◌, ℕ, zero, suc, ◌+◌, ◌-◌, ◌<◌, ◌≤◌, List, [], ◌∷◌, ◌++◌, length, take, drop, Bool, true, Option, Some, None, option_map, unwrap_or, IfSome, nat_lt, nat_le, ◌==◌, ◌||◌, ◌&&◌, if◌then◌else◌}
 use Rattle.std.specs.List.{AllByRecursion}
+use Rattle.dns_wire.specs.declared.sizes.TheConstants.{HEADER_SIZE, POINTER_TAG}
 use Rattle.dns_wire.specs.Names.{IsLabel, heads, wire}
-use Rattle.dns_wire.specs.Pointers.{name_at}
+use Rattle.dns_wire.specs.Pointers.{offset_of, name_at}
 use Rattle.dns_wire.specs.Reading.{all_of, plain_at}
 
 -- labels, and the two octets of the pointer behind them; where the root is behind them, there is none
@@ -19,23 +20,23 @@ abbrev pub unparsed_wire : Unparsed → List ℕ
 unparsed_wire name = heads name.0 ++ last_octets name.1
 
 -- Labels and a pointer are an unparsed name where the octets of the labels are at most 254, so that the root or the pointer
--- begins at octet 254, counted from 0, at the latest. A pointer's first octet is at least 192.
+-- begins at octet 254, counted from 0, at the latest. A pointer's first octet has its two high bits set.
 pub record IsUnparsed (name : Unparsed) : Type 0 where
   pub sizes : AllByRecursion IsLabel name.0
   pub size : length (heads name.0) ≤ 254
-  pub pointer : IfSome name.1 (λ octets. 192 ≤ octets.0)
+  pub pointer : IfSome name.1 (λ octets. POINTER_TAG ≤ octets.0)
 
--- where a pointer leads, counted from the front of the message: the 14 bits behind the two ones in front
-abbrev pub offset_of : ℕ × ℕ → ℕ
-offset_of (high, low) = (high - 192) * 256 + low
+-- where a pointer of these two octets leads, counted from the front of the message
+abbrev pub pointed_offset : ℕ × ℕ → ℕ
+pointed_offset (first, second) = offset_of first second
 
 -- where the pointer at the end leads
 abbrev pub end_offset : Unparsed → Option ℕ
-end_offset name = option_map offset_of name.1
+end_offset name = option_map pointed_offset name.1
 
 -- where a name leads that is one pointer and nothing else
 abbrev pub alone_offset : Unparsed → Option ℕ
-alone_offset ([], end) = option_map offset_of end
+alone_offset ([], end) = option_map pointed_offset end
 alone_offset (label ∷ labels, end) = None
 
 -- ---- reading
@@ -56,7 +57,7 @@ unparsed_within zero bytes = None
 unparsed_within (suc steps) [] = None
 unparsed_within (suc steps) (head ∷ rest) =
     if head == 0 then Some (([], None), rest)
-    else if nat_le 192 head then pointer_from head rest
+    else if nat_le POINTER_TAG head then pointer_from head rest
     else if nat_lt 63 head || nat_lt (length rest) head then None
     else behind_labels (take head rest ∷ []) (unparsed_within steps (drop head rest))
 
@@ -80,11 +81,11 @@ unparsed_of bytes = unwrap_or (all_of (unparsed_name bytes)) ([], None)
 -- and places do not.
 abbrev pub leads_back : ℕ → Option ℕ → Bool
 leads_back start None = true
-leads_back start (Some offset) = nat_le 12 offset && nat_lt (offset - 12) start
+leads_back start (Some offset) = nat_le HEADER_SIZE offset && nat_lt (offset - HEADER_SIZE) start
 
 -- the same in words, where there is a pointer
 abbrev pub LeadsBack : ℕ → Option ℕ → Type 0
-LeadsBack start offset = IfSome offset (λ o. (12 ≤ o) × (o < start + 12))
+LeadsBack start offset = IfSome offset (λ o. (HEADER_SIZE ≤ o) × (o < start + HEADER_SIZE))
 
 -- a reading of a name whose pointer leads back
 abbrev pub if_it_leads_back : ℕ → Option (Unparsed × ℕ) → Option (Unparsed × ℕ)
@@ -101,7 +102,7 @@ unparsed_at contents start = if_it_leads_back start (plain_at unparsed_name cont
 -- behind a pointer those of the name that is read at its target
 abbrev pub GoesOn : List ℕ → Option ℕ → List (List ℕ) → Type 0
 GoesOn contents None others = others ≡ []
-GoesOn contents (Some offset) others = (end : ℕ) × (name_at contents (offset - 12) ≡ Some (others, end))
+GoesOn contents (Some offset) others = (end : ℕ) × (name_at contents (offset - HEADER_SIZE) ≡ Some (others, end))
 
 -- An unparsed name stands at the place and ends at end. Its labels and those behind them are these labels, whose octets are
 -- at most 255 in all.

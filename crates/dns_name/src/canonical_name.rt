@@ -4,7 +4,7 @@ ghost use Rattle.std.specs.Prelude.{◌≡◌, ◌≤◌, ◌<◌, ℕ, List, le
 ghost use Rattle.std.specs.Borrow.{sem};
 ghost use Rattle.std.proofs.Common.{refl};
 ghost use Rattle.dns_wire.specs.Building.{Builds, LendsRest};
-ghost use Rattle.dns_wire.specs.Names.{wire, lowered, labels_of, IsName};
+ghost use Rattle.dns_wire.specs.Names.{wire, lowered, name_labels, IsName};
 ghost use Rattle.dns_name.specs.Composed.{composed_cmp, lowercase_composed_cmp};
 ghost use Rattle.dns_name.specs.Order.{key, key_cmp};
 
@@ -71,7 +71,7 @@ pub trait CanonicalName: BuildBytes + Ord {
 }
 
 impl CanonicalName for Name<'_> {
-    ghost name = { λ v. labels_of v.slice.now };
+    ghost name = { λ v. name_labels v.slice.now };
 
     ghost octets_are = { λ _. refl };
 

@@ -1,8 +1,8 @@
 //! Names from one layout to the other.
 
 ghost use Rattle.std.specs.Prelude.{◌≡◌};
-ghost use Rattle.dns_wire.specs.Names.{labels_of};
-ghost use Rattle.dns_wire.specs.Reversed.{reversed_labels_of};
+ghost use Rattle.dns_wire.specs.Names.{name_labels};
+ghost use Rattle.dns_wire.specs.Reversed.{reversed_name_labels};
 
 use crate::label_row::copy_before;
 use crate::name::Name;
@@ -13,7 +13,7 @@ use crate::rev_name_buf::RevNameBuf;
 impl<'a> Name<'a> {
     /// The name from the root on.
     pub fn to_revname(&self) -> RevNameBuf
-        ensures { result ≡ labels_of self.now.slice.now }
+        ensures { result ≡ name_labels self.now.slice.now }
     {
         let labels = self.row();
         let mut buffer = [0; RevName::MAX_SIZE];
@@ -27,7 +27,7 @@ impl<'a> Name<'a> {
 impl<'a> RevName<'a> {
     /// The name with its first label in front.
     pub fn to_name(&self) -> NameBuf
-        ensures { result ≡ reversed_labels_of self.now.slice.now }
+        ensures { result ≡ reversed_name_labels self.now.slice.now }
     {
         let mut buffer = [0; Name::MAX_SIZE];
         let size = self.put_forward(&mut buffer, 0);

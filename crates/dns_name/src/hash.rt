@@ -2,8 +2,8 @@
 
 ghost use Rattle.std.specs.Prelude.{◌≡◌, ◌≤◌, fold, length};
 ghost use Rattle.std.specs.Str.{str_to_ascii_lowercase};
-ghost use Rattle.dns_wire.specs.Names.{labels_of};
-ghost use Rattle.dns_wire.specs.Reversed.{reversed_labels_of};
+ghost use Rattle.dns_wire.specs.Names.{name_labels};
+ghost use Rattle.dns_wire.specs.Reversed.{reversed_name_labels};
 ghost use Rattle.dns_name.specs.Hashing.{name_writes, reversed_writes, same_names_alike, same_reversed_alike};
 
 use crate::name::Name;
@@ -25,9 +25,9 @@ fn feed_lowercase<H: Hasher>(octets: &[u8], state: &mut H)
 }
 
 impl Hash for Name<'_> {
-    ghost hash_input = { λ v. name_writes (labels_of v.slice.now) };
+    ghost hash_input = { λ v. name_writes (name_labels v.slice.now) };
 
-    ghost respects_eq = { λ a b same. same_names_alike (labels_of a.slice.now) (labels_of b.slice.now) same };
+    ghost respects_eq = { λ a b same. same_names_alike (name_labels a.slice.now) (name_labels b.slice.now) same };
 
     /// Feeds the octets in small letters, in one write.
     fn hash<H: Hasher>(&self, state: &mut H) {
@@ -47,9 +47,9 @@ impl Hash for NameBuf {
 }
 
 impl Hash for RevName<'_> {
-    ghost hash_input = { λ v. reversed_writes (reversed_labels_of v.slice.now) };
+    ghost hash_input = { λ v. reversed_writes (reversed_name_labels v.slice.now) };
 
-    ghost respects_eq = { λ a b same. same_reversed_alike (reversed_labels_of a.slice.now) (reversed_labels_of b.slice.now) same };
+    ghost respects_eq = { λ a b same. same_reversed_alike (reversed_name_labels a.slice.now) (reversed_name_labels b.slice.now) same };
 
     /// Feeds the octets in small letters, in one write.
     fn hash<H: Hasher>(&self, state: &mut H) {

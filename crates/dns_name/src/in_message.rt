@@ -2,7 +2,7 @@
 
 ghost use Rattle.std.specs.Prelude.{[], ◌∷◌, Some, ⊤};
 ghost use Rattle.dns_wire.specs.Compression.{name_presses};
-ghost use Rattle.dns_wire.specs.Names.{labels_of};
+ghost use Rattle.dns_wire.specs.Names.{name_labels};
 ghost use Rattle.dns_wire.specs.Pieces.Piece.{Pressed};
 ghost use Rattle.dns_wire.specs.Told.{told_piece};
 
@@ -11,11 +11,11 @@ use crate::name_buf::NameBuf;
 use dns_wire::{BuildInMessage, NameCompressor, TruncationError, put_name};
 
 impl BuildInMessage for Name<'_> {
-    ghost presses = { λ v. name_presses (labels_of v.slice.now) };
+    ghost presses = { λ v. name_presses (name_labels v.slice.now) };
 
-    ghost pieces = { λ v. Some (Pressed (labels_of v.slice.now) ∷ []) };
+    ghost pieces = { λ v. Some (Pressed (name_labels v.slice.now) ∷ []) };
 
-    ghost told = { λ v. told_piece (Pressed (labels_of v.slice.now)) };
+    ghost told = { λ v. told_piece (Pressed (name_labels v.slice.now)) };
 
     fn build_in_message(
         &self,

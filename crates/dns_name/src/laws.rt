@@ -3,8 +3,8 @@
 ghost use Rattle.std.specs.Prelude.{◌≡◌, ◌<◌, ◌≤◌, ◌↔◌, ◌+◌, ◌++◌, ℕ, List, length, take, Some};
 ghost use Rattle.std.specs.Str.{str_to_ascii_lowercase};
 ghost use Rattle.std.specs.declared.cmp.Ordering.TheVariants.{Less, Equal};
-ghost use Rattle.dns_wire.specs.Names.{IsName, wire, lowered, labels_of};
-ghost use Rattle.dns_wire.specs.Reversed.{reversed_wire, reversed_name, reversed_labels_of};
+ghost use Rattle.dns_wire.specs.Names.{IsName, wire, lowered, name_labels};
+ghost use Rattle.dns_wire.specs.Reversed.{reversed_wire, reversed_name, reversed_name_labels};
 ghost use Rattle.dns_wire.specs.Pointers.{name_at};
 ghost use Rattle.dns_label.specs.Order.{Precedes};
 ghost use Rattle.dns_name.specs.Composed.{octets_cmp, composed_cmp, lowercase_composed_cmp};
@@ -45,8 +45,8 @@ pub fn label_order()
 /// Names stand in one order, whichever way their octets go: views of the same labels compare alike, and so
 /// do the buffers, and both as label order.
 pub fn one_order(a: &Name<'_>, b: &Name<'_>, c: &RevName<'_>, d: &RevName<'_>)
-    requires first { labels_of a.now.slice.now ≡ reversed_labels_of c.now.slice.now }
-    requires second { labels_of b.now.slice.now ≡ reversed_labels_of d.now.slice.now }
+    requires first { name_labels a.now.slice.now ≡ reversed_name_labels c.now.slice.now }
+    requires second { name_labels b.now.slice.now ≡ reversed_name_labels d.now.slice.now }
     ensures views { ⟦<Name<'static> as Ord>⟧.cmp a.now b.now ≡ ⟦<RevName<'static> as Ord>⟧.cmp c.now d.now }
     ensures buffers { (labels others : List (List ℕ)) →
         ⟦<NameBuf as Ord>⟧.cmp labels others ≡ ⟦<RevNameBuf as Ord>⟧.cmp labels others }

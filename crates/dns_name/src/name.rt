@@ -5,7 +5,7 @@ ghost use Rattle.std.proofs.Props.{props};
 ghost use Rattle.dns_wire.specs.Reading.{Gives, all_of, plain_at};
 ghost use Rattle.dns_wire.specs.Left.{plain_ends};
 ghost use Rattle.dns_wire.proofs.NamesLeft.{plain_name_leaves, plain_name_names};
-ghost use Rattle.dns_wire.specs.Names.{plain_name, labels_of, wire};
+ghost use Rattle.dns_wire.specs.Names.{plain_name, name_labels, wire};
 ghost use Rattle.dns_wire.specs.Reversed.{row_labels};
 
 use crate::label_row::LabelRow;
@@ -21,7 +21,7 @@ use dns_wire::{
 pub struct Name<'a> {
     /// All the octets, the last of them the root's 0.
     pub slice: &'a [u8],
-    ghost is_name: { all_of (plain_name slice.now) ≡ Some (labels_of slice.now) } by { Prim.hlevel props },
+    ghost is_name: { all_of (plain_name slice.now) ≡ Some (name_labels slice.now) } by { Prim.hlevel props },
 }
 
 impl<'a> Name<'a> {
@@ -30,7 +30,7 @@ impl<'a> Name<'a> {
 
     /// The root: a name without labels.
     pub fn root() -> Name<'a>
-        ensures { labels_of result.slice.now ≡ [] }
+        ensures { name_labels result.slice.now ≡ [] }
     {
         Name { slice: &[0] }
     }
@@ -38,7 +38,7 @@ impl<'a> Name<'a> {
     /// The number of octets, from 1 to 255.
     pub fn len(&self) -> usize
         ensures octets { result ≡ length self.now.slice.now }
-        ensures wire { result ≡ length (wire (labels_of self.now.slice.now)) }
+        ensures wire { result ≡ length (wire (name_labels self.now.slice.now)) }
         ensures short { result ≤ 255 }
     {
         self.as_bytes().len()
@@ -46,7 +46,7 @@ impl<'a> Name<'a> {
 
     /// Whether there are no labels before the root.
     pub fn is_root(&self) -> bool
-        ensures { IsTrue result ↔ (labels_of self.now.slice.now ≡ []) }
+        ensures { IsTrue result ↔ (name_labels self.now.slice.now ≡ []) }
     {
         self.len() == 1
     }
@@ -54,8 +54,8 @@ impl<'a> Name<'a> {
     /// The octets: the labels, each behind its length, and the root's 0.
     pub fn as_bytes(&self) -> &'a [u8]
         ensures octets { result.now ≡ self.now.slice.now }
-        ensures name { all_of (plain_name result.now) ≡ Some (labels_of self.now.slice.now) }
-        ensures wire { result.now ≡ wire (labels_of self.now.slice.now) }
+        ensures name { all_of (plain_name result.now) ≡ Some (name_labels self.now.slice.now) }
+        ensures wire { result.now ≡ wire (name_labels self.now.slice.now) }
         ensures short { length result.now ≤ 255 }
     {
         self.slice
@@ -63,7 +63,7 @@ impl<'a> Name<'a> {
 
     /// The labels in order, the root's last, at most 128 in all.
     pub fn labels(&self) -> LabelIter<'a>
-        ensures labels { result ≡ labels_of self.now.slice.now ++ [] ∷ [] }
+        ensures labels { result ≡ name_labels self.now.slice.now ++ [] ∷ [] }
         ensures few { length result ≤ 128 }
     {
         LabelIter::new(self.as_bytes())
@@ -71,7 +71,7 @@ impl<'a> Name<'a> {
 
     /// The labels, from the first to the last.
     pub(crate) fn row(&self) -> LabelRow<'a>
-        ensures labels { row_labels result.slice.now ≡ labels_of self.now.slice.now }
+        ensures labels { row_labels result.slice.now ≡ name_labels self.now.slice.now }
         ensures short { length result.slice.now ≤ 254 }
     {
         let octets = self.as_bytes();
@@ -89,7 +89,7 @@ impl AsBytes for Name<'_> {
 impl<'a> ParseBytes<'a> for Name<'a> {
     ghost Seen = { List (List ℕ) };
 
-    ghost seen = { λ v. labels_of v.slice.now };
+    ghost seen = { λ v. name_labels v.slice.now };
 
     ghost reads = { plain_name };
 
@@ -126,7 +126,7 @@ impl<'a> BuildBytes for Name<'a> {
     ghost use Rattle.std.specs.Prelude.{⊤};
     ghost use Rattle.dns_wire.specs.Building.{Builds};
 
-    ghost octets = { λ v. wire (labels_of v.slice.now) };
+    ghost octets = { λ v. wire (name_labels v.slice.now) };
 
     fn build_at(&self, bytes: &mut [u8], start: usize) -> Result<usize, TruncationError> {
         put(self.as_bytes(), bytes, start)
@@ -134,7 +134,7 @@ impl<'a> BuildBytes for Name<'a> {
 
     /// The number of octets, from 1 to 255.
     fn built_bytes_size(&self) -> usize
-        ensures size { result ≡ length (wire (labels_of self.now.slice.now)) }
+        ensures size { result ≡ length (wire (name_labels self.now.slice.now)) }
         ensures short { result ≤ 255 }
     {
         self.len()

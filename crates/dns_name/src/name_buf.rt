@@ -3,13 +3,13 @@
 ghost use Rattle.std.specs.Prelude.{◌≡◌, ◌+◌, ◌≤◌, ℕ, List, ◌++◌, length, take, Some, IfOk, OnErr, ⊤};
 ghost use Rattle.dns_wire.specs.Reading.{Gives, all_of, all_at};
 ghost use Rattle.dns_wire.proofs.NamesLeft.{plain_name_leaves, name_ends, plain_name_names, name_at_names};
-ghost use Rattle.dns_wire.specs.Names.{plain_name, labels_of};
+ghost use Rattle.dns_wire.specs.Names.{plain_name, name_labels};
 ghost use Rattle.dns_wire.specs.Pointers.{NameAt, name_at};
 
 use crate::name::Name;
 use dns_wire::{
     BuildBytes, Head, NameCursor, ParseBytes, ParseError, ParseMessageBytes, SplitBytes,
-    SplitMessageBytes, TruncationError,
+    SplitMessageBytes, TruncationError, whole_message,
 };
 use std::alloc::AllocError;
 use std::marker::Model;
@@ -25,19 +25,19 @@ impl Model for NameBuf {
     ghost use Rattle.std.specs.Prelude.{◌≡◌, ◌≤◌, ℕ, List, take, Some};
     ghost use Rattle.dns_wire.specs.Reading.{all_of};
     ghost use Rattle.dns_wire.proofs.NamesLeft.{plain_name_leaves, name_ends, plain_name_names, name_at_names};
-    ghost use Rattle.dns_wire.specs.Names.{plain_name, labels_of};
+    ghost use Rattle.dns_wire.specs.Names.{plain_name, name_labels};
 
     ghost Value = { List (List ℕ) };
 
-    ghost view = { λ b. labels_of (take b.size b.buffer) };
+    ghost view = { λ b. name_labels (take b.size b.buffer) };
 
-    ghost invariant = { λ b. (b.size ≤ 255) × (all_of (plain_name (take b.size b.buffer)) ≡ Some (labels_of (take b.size b.buffer))) };
+    ghost invariant = { λ b. (b.size ≤ 255) × (all_of (plain_name (take b.size b.buffer)) ≡ Some (name_labels (take b.size b.buffer))) };
 }
 
 impl NameBuf {
     /// A copy of the name.
     pub fn copy_from(name: Name<'_>) -> NameBuf
-        ensures { result ≡ labels_of name.entry.slice.now }
+        ensures { result ≡ name_labels name.entry.slice.now }
     {
         let octets = name.as_bytes();
         let mut buffer = [0; Name::MAX_SIZE];
@@ -48,8 +48,8 @@ impl NameBuf {
     /// The name whose octets are so many at the front of the buffer.
     pub(crate) fn from_buffer(buffer: [u8; Name::MAX_SIZE], size: usize) -> NameBuf
         requires short { size ≤ 255 }
-        requires name { all_of (plain_name (take size buffer)) ≡ Some (labels_of (take size buffer)) }
-        ensures { result ≡ labels_of (take size buffer) }
+        requires name { all_of (plain_name (take size buffer)) ≡ Some (name_labels (take size buffer)) }
+        ensures { result ≡ name_labels (take size buffer) }
     {
         NameBuf {
             size: size as u8,
@@ -59,7 +59,7 @@ impl NameBuf {
 
     /// The name as a view.
     pub fn as_name(&self) -> Name<'_>
-        ensures { labels_of result.slice.now ≡ self.now }
+        ensures { name_labels result.slice.now ≡ self.now }
     {
         Name {
             slice: &self.buffer[..self.size as usize],
@@ -153,12 +153,7 @@ impl<'a> ParseMessageBytes<'a> for NameBuf {
         ensures follows { IfOk result (λ v. NameAt contents.now start v (length contents.now)) }
         ensures refused { OnErr result ((labels : List (List ℕ)) → ¬ NameAt contents.now start labels (length contents.now)) }
     {
-        let (name, end) = read_name(contents, start)?;
-        if end == contents.len() {
-            Ok(name)
-        } else {
-            Err(ParseError)
-        }
+        whole_message(read_name(contents, start), contents)
     }
 }
 

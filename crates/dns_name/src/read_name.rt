@@ -3,7 +3,7 @@
 ghost use Rattle.std.specs.Prelude.{◌≡◌, ◌≤◌, ℕ, List, length, Some};
 ghost use Rattle.std.proofs.Common.{refl};
 ghost use Rattle.dns_wire.proofs.NamesLeft.{plain_name_names, name_at_names, placed_names};
-ghost use Rattle.dns_wire.specs.Names.{IsName, plain_name, labels_of};
+ghost use Rattle.dns_wire.specs.Names.{IsName, plain_name, name_labels};
 ghost use Rattle.dns_wire.specs.Pointers.{name_at};
 ghost use Rattle.dns_name.specs.Left.{unparsed_names, unparsed_names_at};
 ghost use Rattle.dns_name.specs.Unparsed.{unparsed_of};
@@ -42,14 +42,14 @@ pub trait ReadMessageName<'a>: ReadName<'a> + SplitMessageBytes<'a> {
 }
 
 impl<'a> ParseName<'a> for Name<'a> {
-    ghost labels = { λ v. labels_of v.slice.now };
+    ghost labels = { λ v. name_labels v.slice.now };
 
-    ghost names = { λ v bytes rest e. plain_name_names (labels_of v.slice.now) bytes rest e };
+    ghost names = { λ v bytes rest e. plain_name_names (name_labels v.slice.now) bytes rest e };
 
-    ghost names_at = { λ v contents at end e. placed_names (labels_of v.slice.now) contents at end e };
+    ghost names_at = { λ v contents at end e. placed_names (name_labels v.slice.now) contents at end e };
 
     fn label_count(&self) -> usize
-        ensures count { result ≡ length (labels_of self.now.slice.now) }
+        ensures count { result ≡ length (name_labels self.now.slice.now) }
         ensures few { result ≤ 127 }
     {
         self.row().count()

@@ -5,7 +5,7 @@ ghost use Rattle.std.specs.Prelude.{◌≡◌, ◌≤◌, length, ⊤};
 ghost use Rattle.std.proofs.Common.{refl};
 ghost use Rattle.dns_wire.specs.Building.{Builds};
 ghost use Rattle.dns_wire.specs.Names.{wire, lowered, IsName};
-ghost use Rattle.dns_wire.specs.Reversed.{reversed_labels_of};
+ghost use Rattle.dns_wire.specs.Reversed.{reversed_name_labels};
 ghost use Rattle.dns_name.specs.Composed.{composed_cmp, lowercase_composed_cmp};
 
 use crate::canonical_name::CanonicalName;
@@ -16,7 +16,7 @@ use dns_wire::{BuildBytes, TruncationError, build_lowercase};
 use std::cmp::Ordering;
 
 impl CanonicalName for RevName<'_> {
-    ghost name = { λ v. reversed_labels_of v.slice.now };
+    ghost name = { λ v. reversed_name_labels v.slice.now };
 
     ghost octets_are = { λ _. refl };
 

@@ -4,7 +4,7 @@ ghost use Rattle.std.specs.Prelude.{◌≡◌, ◌+◌, ◌≤◌, ◌<◌, ◌^
 ghost use Rattle.std.proofs.Props.{props};
 ghost use Rattle.dns_wire.specs.Building.{Builds, Stands};
 ghost use Rattle.dns_wire.specs.Names.{wire};
-ghost use Rattle.dns_wire.specs.Reversed.{row_labels, reversed_wire, reversed_name, reversed_labels_of};
+ghost use Rattle.dns_wire.specs.Reversed.{row_labels, reversed_wire, reversed_name, reversed_name_labels};
 
 use crate::label_row::{LabelRow, copy_before};
 use dns_label::LabelIter;
@@ -17,7 +17,7 @@ use dns_wire::{BuildBytes, TruncationError};
 pub struct RevName<'a> {
     /// All the octets, the first of them the root's 0.
     pub slice: &'a [u8],
-    ghost is_name: { reversed_name slice.now ≡ Some (reversed_labels_of slice.now) } by { Prim.hlevel props },
+    ghost is_name: { reversed_name slice.now ≡ Some (reversed_name_labels slice.now) } by { Prim.hlevel props },
 }
 
 impl<'a> RevName<'a> {
@@ -26,7 +26,7 @@ impl<'a> RevName<'a> {
 
     /// The root: a name without labels.
     pub fn root() -> RevName<'a>
-        ensures { reversed_labels_of result.slice.now ≡ [] }
+        ensures { reversed_name_labels result.slice.now ≡ [] }
     {
         RevName { slice: &[0] }
     }
@@ -34,7 +34,7 @@ impl<'a> RevName<'a> {
     /// The number of octets, from 1 to 255, which is the same in both layouts.
     pub fn len(&self) -> usize
         ensures octets { result ≡ length self.now.slice.now }
-        ensures wire { result ≡ length (wire (reversed_labels_of self.now.slice.now)) }
+        ensures wire { result ≡ length (wire (reversed_name_labels self.now.slice.now)) }
         ensures short { result ≤ 255 }
     {
         self.as_bytes().len()
@@ -42,7 +42,7 @@ impl<'a> RevName<'a> {
 
     /// Whether there are no labels but the root.
     pub fn is_root(&self) -> bool
-        ensures { IsTrue result ↔ (reversed_labels_of self.now.slice.now ≡ []) }
+        ensures { IsTrue result ↔ (reversed_name_labels self.now.slice.now ≡ []) }
     {
         self.len() == 1
     }
@@ -50,8 +50,8 @@ impl<'a> RevName<'a> {
     /// The octets: the root's 0, and the labels from the last to the first, each behind its length.
     pub fn as_bytes(&self) -> &'a [u8]
         ensures octets { result.now ≡ self.now.slice.now }
-        ensures name { reversed_name result.now ≡ Some (reversed_labels_of self.now.slice.now) }
-        ensures reversed { result.now ≡ reversed_wire (reversed_labels_of self.now.slice.now) }
+        ensures name { reversed_name result.now ≡ Some (reversed_name_labels self.now.slice.now) }
+        ensures reversed { result.now ≡ reversed_wire (reversed_name_labels self.now.slice.now) }
         ensures short { length result.now ≤ 255 }
     {
         self.slice
@@ -59,7 +59,7 @@ impl<'a> RevName<'a> {
 
     /// The labels, the root's first, and then from the last to the first.
     pub fn labels(&self) -> LabelIter<'a>
-        ensures labels { result ≡ [] ∷ reverse (reversed_labels_of self.now.slice.now) }
+        ensures labels { result ≡ [] ∷ reverse (reversed_name_labels self.now.slice.now) }
         ensures few { length result ≤ 128 }
     {
         LabelIter::new(self.as_bytes())
@@ -67,7 +67,7 @@ impl<'a> RevName<'a> {
 
     /// The labels, from the last to the first.
     pub(crate) fn row(&self) -> LabelRow<'a>
-        ensures labels { row_labels result.slice.now ≡ reverse (reversed_labels_of self.now.slice.now) }
+        ensures labels { row_labels result.slice.now ≡ reverse (reversed_name_labels self.now.slice.now) }
         ensures octets { length self.now.slice.now ≡ length result.slice.now + 1 }
     {
         let (_root, labels) = self.slice.split_at(1);
@@ -77,7 +77,7 @@ impl<'a> RevName<'a> {
     /// Copies the labels to a place of the buffer, the first label first, and gives the place where they end.
     pub(crate) fn put_forward(&self, bytes: &mut [u8], start: usize) -> usize
         requires { start + length self.now.slice.now ≤ length bytes.old }
-        ensures { Stands (wire (reversed_labels_of self.now.slice.now)) bytes.old start bytes.new result }
+        ensures { Stands (wire (reversed_name_labels self.now.slice.now)) bytes.old start bytes.new result }
     {
         let end = start + self.slice.len();
         copy_before(&[0], bytes, end);
@@ -88,7 +88,7 @@ impl<'a> RevName<'a> {
 
 /// The octets with the first label in front and the root last.
 impl BuildBytes for RevName<'_> {
-    ghost octets = { λ v. wire (reversed_labels_of v.slice.now) };
+    ghost octets = { λ v. wire (reversed_name_labels v.slice.now) };
 
     fn build_at(&self, bytes: &mut [u8], start: usize) -> Result<usize, TruncationError> {
         if bytes.len() - start < self.len() {
@@ -99,7 +99,7 @@ impl BuildBytes for RevName<'_> {
 
     /// The number of octets, from 1 to 255.
     fn built_bytes_size(&self) -> usize
-        ensures size { result ≡ length (wire (reversed_labels_of self.now.slice.now)) }
+        ensures size { result ≡ length (wire (reversed_name_labels self.now.slice.now)) }
         ensures short { result ≤ 255 }
     {
         self.len()

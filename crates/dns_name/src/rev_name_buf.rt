@@ -5,14 +5,14 @@ ghost use Rattle.dns_wire.specs.Reading.{Gives, all_of, all_at};
 ghost use Rattle.dns_wire.proofs.NamesLeft.{plain_name_leaves, name_ends, plain_name_names, name_at_names};
 ghost use Rattle.dns_wire.specs.Names.{plain_name, wire};
 ghost use Rattle.dns_wire.specs.Pointers.{NameAt, name_at};
-ghost use Rattle.dns_wire.specs.Reversed.{reversed_name, reversed_labels_of};
+ghost use Rattle.dns_wire.specs.Reversed.{reversed_name, reversed_name_labels};
 
 use crate::label_row::copy_before;
 use crate::name::Name;
 use crate::rev_name::RevName;
 use dns_wire::{
     BuildBytes, Head, NameCursor, ParseBytes, ParseError, ParseMessageBytes, SplitBytes,
-    SplitMessageBytes, TruncationError,
+    SplitMessageBytes, TruncationError, whole_message,
 };
 use std::alloc::AllocError;
 use std::marker::Model;
@@ -29,19 +29,19 @@ pub struct RevNameBuf {
 
 impl Model for RevNameBuf {
     ghost use Rattle.std.specs.Prelude.{◌≡◌, ◌<◌, ℕ, List, drop, Some};
-    ghost use Rattle.dns_wire.specs.Reversed.{reversed_name, reversed_labels_of};
+    ghost use Rattle.dns_wire.specs.Reversed.{reversed_name, reversed_name_labels};
 
     ghost Value = { List (List ℕ) };
 
-    ghost view = { λ b. reversed_labels_of (drop b.offset b.buffer) };
+    ghost view = { λ b. reversed_name_labels (drop b.offset b.buffer) };
 
-    ghost invariant = { λ b. (b.offset < 255) × (reversed_name (drop b.offset b.buffer) ≡ Some (reversed_labels_of (drop b.offset b.buffer))) };
+    ghost invariant = { λ b. (b.offset < 255) × (reversed_name (drop b.offset b.buffer) ≡ Some (reversed_name_labels (drop b.offset b.buffer))) };
 }
 
 impl RevNameBuf {
     /// A copy of the name.
     pub fn copy_from(name: RevName<'_>) -> RevNameBuf
-        ensures { result ≡ reversed_labels_of name.entry.slice.now }
+        ensures { result ≡ reversed_name_labels name.entry.slice.now }
     {
         let octets = name.as_bytes();
         let mut buffer = [0; RevName::MAX_SIZE];
@@ -52,8 +52,8 @@ impl RevNameBuf {
     /// The name whose octets are those of the buffer from `offset` on.
     pub(crate) fn from_buffer(buffer: [u8; RevName::MAX_SIZE], offset: usize) -> RevNameBuf
         requires early { offset < 255 }
-        requires name { reversed_name (drop offset buffer) ≡ Some (reversed_labels_of (drop offset buffer)) }
-        ensures { result ≡ reversed_labels_of (drop offset buffer) }
+        requires name { reversed_name (drop offset buffer) ≡ Some (reversed_name_labels (drop offset buffer)) }
+        ensures { result ≡ reversed_name_labels (drop offset buffer) }
     {
         RevNameBuf {
             offset: offset as u8,
@@ -63,7 +63,7 @@ impl RevNameBuf {
 
     /// The name as a view.
     pub fn as_revname(&self) -> RevName<'_>
-        ensures { reversed_labels_of result.slice.now ≡ self.now }
+        ensures { reversed_name_labels result.slice.now ≡ self.now }
     {
         RevName {
             slice: &self.buffer[self.offset as usize..],
@@ -150,12 +150,7 @@ impl<'a> ParseMessageBytes<'a> for RevNameBuf {
         ensures follows { IfOk result (λ v. NameAt contents.now start v (length contents.now)) }
         ensures refused { OnErr result ((labels : List (List ℕ)) → ¬ NameAt contents.now start labels (length contents.now)) }
     {
-        let (name, end) = read_reversed(contents, start)?;
-        if end == contents.len() {
-            Ok(name)
-        } else {
-            Err(ParseError)
-        }
+        whole_message(read_reversed(contents, start), contents)
     }
 }
 

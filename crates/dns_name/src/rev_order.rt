@@ -7,7 +7,7 @@ ghost use Rattle.std.specs.Cmp.{partial_order_from_own_ties};
 ghost use Rattle.std.specs.Cmp.Rules.{comparing};
 ghost use Rattle.std.specs.Ordering.{on, as_partial_cmp, eq_by_cmp};
 ghost use Rattle.dns_wire.specs.Names.{lowered};
-ghost use Rattle.dns_wire.specs.Reversed.{row_labels, reversed_labels_of};
+ghost use Rattle.dns_wire.specs.Reversed.{row_labels, reversed_name_labels};
 ghost use Rattle.dns_name.specs.Order.{key, key_cmp};
 
 use crate::label_row::LabelRow;
@@ -42,7 +42,7 @@ fn compare_rows(a: LabelRow<'_>, b: LabelRow<'_>) -> Ordering
 }
 
 impl PartialEq for RevName<'_> {
-    ghost eq = { eq_by_cmp (on (λ v. key (reversed_labels_of v.slice.now)) key_cmp) };
+    ghost eq = { eq_by_cmp (on (λ v. key (reversed_name_labels v.slice.now)) key_cmp) };
 
     ghost laws = { Prim.search (comparing, rules) depth 9 };
 
@@ -57,7 +57,7 @@ impl Eq for RevName<'_> {
 }
 
 impl Ord for RevName<'_> {
-    ghost cmp = { on (λ v. key (reversed_labels_of v.slice.now)) key_cmp };
+    ghost cmp = { on (λ v. key (reversed_name_labels v.slice.now)) key_cmp };
 
     ghost total = { Prim.search (comparing, rules) depth 9 };
 
@@ -73,7 +73,7 @@ impl Ord for RevName<'_> {
 }
 
 impl PartialOrd for RevName<'_> {
-    ghost partial_cmp = { as_partial_cmp (on (λ v. key (reversed_labels_of v.slice.now)) key_cmp) };
+    ghost partial_cmp = { as_partial_cmp (on (λ v. key (reversed_name_labels v.slice.now)) key_cmp) };
 
     ghost laws = { partial_order_from_own_ties (Prim.search (comparing, rules) depth 9) (Prim.search (comparing, rules) depth 9) };
 

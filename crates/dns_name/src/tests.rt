@@ -29,7 +29,7 @@ fn reads_and_writes_names(rt: HostRuntime) -> Result<(), Fail> {
     Ok(())
 }
 
-fn labels_in<'a, T: ParseName<'a>>(name: &T) -> usize {
+fn label_count_of<'a, T: ParseName<'a>>(name: &T) -> usize {
     name.label_count()
 }
 
@@ -37,11 +37,11 @@ fn labels_in<'a, T: ParseName<'a>>(name: &T) -> usize {
 #[test]
 fn tells_how_many_labels_there_are(rt: HostRuntime) -> Result<(), Fail> {
     let octets = b"\x03www\x07example\0";
-    assert_eq!(rt; labels_in(&Name::parse_bytes(octets)?), 2);
-    assert_eq!(rt; labels_in(&NameBuf::parse_bytes(octets)?), 2);
-    assert_eq!(rt; labels_in(&RevNameBuf::parse_bytes(octets)?), 2);
+    assert_eq!(rt; label_count_of(&Name::parse_bytes(octets)?), 2);
+    assert_eq!(rt; label_count_of(&NameBuf::parse_bytes(octets)?), 2);
+    assert_eq!(rt; label_count_of(&RevNameBuf::parse_bytes(octets)?), 2);
     assert_eq!(rt;
-        labels_in(&UnparsedName::parse_bytes(b"\x03www\xc0\x0c")?),
+        label_count_of(&UnparsedName::parse_bytes(b"\x03www\xc0\x0c")?),
         1
     );
     Ok(())

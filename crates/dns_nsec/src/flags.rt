@@ -1,17 +1,16 @@
 //! Flags of hashed owners.
 
-ghost use Rattle.dns_wire.specs.Left.{octet_leaves, plain_ends};
+ghost use Rattle.dns_wire.specs.Left.{octet_leaves};
 ghost use Rattle.std.specs.Prelude.{◌≡◌, ◌≢◌, ◌↔◌, ◌∷◌, if◌then◌else◌, ℕ, [], None, IsTrue, ⊤};
 ghost use Rattle.std.specs.Int.{bit_at};
 ghost use Rattle.dns_wire.specs.Pieces.{whole_presses};
-ghost use Rattle.dns_wire.specs.Reading.{octet, plain_at};
+ghost use Rattle.dns_wire.specs.Reading.{octet};
 ghost use Rattle.dns_nsec.specs.Flags.{nsec3_flag_bits};
 
 use dns_num::octet_with_bit;
 use dns_wire::{
-    BuildBytes, BuildInMessage, NameCompressor, ParseBytes, ParseError, ParseMessageBytes,
-    SplitBytes, SplitMessageBytes, TruncationError, build_whole, parse_without_compression,
-    split_without_compression,
+    BuildBytes, BuildInMessage, NameCompressor, ParseError, ReadPlainValue, SplitBytes,
+    TruncationError, build_whole,
 };
 
 /// The place of the bit of names without security between owners, counted from the lowest.
@@ -50,44 +49,18 @@ impl Nsec3Flags {
     }
 }
 
-impl<'a> ParseBytes<'a> for Nsec3Flags {
+impl<'a> ReadPlainValue<'a> for Nsec3Flags {
     ghost Seen = { ℕ };
 
     ghost seen = { nsec3_flag_bits };
 
     ghost reads = { octet };
 
-    ghost reads_at = { plain_at octet };
-
     ghost leaves_rest = { octet_leaves };
 
-    ghost ends_within = { plain_ends octet octet_leaves };
-
-    fn parse_bytes(bytes: &'a [u8]) -> Result<Nsec3Flags, ParseError> {
-        let bits = u8::parse_bytes(bytes)?;
-        Ok(Nsec3Flags { bits })
-    }
-}
-
-impl<'a> SplitBytes<'a> for Nsec3Flags {
-    fn split_bytes(bytes: &'a [u8]) -> Result<(Nsec3Flags, &'a [u8]), ParseError> {
+    fn read_plain(bytes: &'a [u8]) -> Result<(Nsec3Flags, &'a [u8]), ParseError> {
         let (bits, rest) = u8::split_bytes(bytes)?;
         Ok((Nsec3Flags { bits }, rest))
-    }
-}
-
-impl<'a> ParseMessageBytes<'a> for Nsec3Flags {
-    fn parse_message_bytes(contents: &'a [u8], start: usize) -> Result<Nsec3Flags, ParseError> {
-        parse_without_compression(contents, start)
-    }
-}
-
-impl<'a> SplitMessageBytes<'a> for Nsec3Flags {
-    fn split_message_bytes(
-        contents: &'a [u8],
-        start: usize,
-    ) -> Result<(Nsec3Flags, usize), ParseError> {
-        split_without_compression(contents, start)
     }
 }
 

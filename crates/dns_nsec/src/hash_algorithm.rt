@@ -1,14 +1,13 @@
 //! How owners are hashed.
 
-ghost use Rattle.dns_wire.specs.Left.{octet_leaves, plain_ends};
+ghost use Rattle.dns_wire.specs.Left.{octet_leaves};
 ghost use Rattle.std.specs.Prelude.{◌≡◌, ◌∷◌, ℕ, [], None, ⊤};
 ghost use Rattle.dns_wire.specs.Pieces.{whole_presses};
-ghost use Rattle.dns_wire.specs.Reading.{octet, plain_at};
+ghost use Rattle.dns_wire.specs.Reading.{octet};
 
 use dns_wire::{
-    BuildBytes, BuildInMessage, NameCompressor, ParseBytes, ParseError, ParseMessageBytes,
-    SplitBytes, SplitMessageBytes, TruncationError, build_whole, parse_without_compression,
-    split_without_compression,
+    BuildBytes, BuildInMessage, NameCompressor, ParseError, ReadPlainValue, SplitBytes,
+    TruncationError, build_whole,
 };
 
 /// How owners are hashed: one octet on the wire (RFC 5155 section 3.1.1).
@@ -23,47 +22,18 @@ impl Nsec3HashAlgorithm {
     pub const SHA1: Nsec3HashAlgorithm = Nsec3HashAlgorithm { code: 1 };
 }
 
-impl<'a> ParseBytes<'a> for Nsec3HashAlgorithm {
+impl<'a> ReadPlainValue<'a> for Nsec3HashAlgorithm {
     ghost Seen = { ℕ };
 
     ghost seen = { λ v. v.code };
 
     ghost reads = { octet };
 
-    ghost reads_at = { plain_at octet };
-
     ghost leaves_rest = { octet_leaves };
 
-    ghost ends_within = { plain_ends octet octet_leaves };
-
-    fn parse_bytes(bytes: &'a [u8]) -> Result<Nsec3HashAlgorithm, ParseError> {
-        let code = u8::parse_bytes(bytes)?;
-        Ok(Nsec3HashAlgorithm { code })
-    }
-}
-
-impl<'a> SplitBytes<'a> for Nsec3HashAlgorithm {
-    fn split_bytes(bytes: &'a [u8]) -> Result<(Nsec3HashAlgorithm, &'a [u8]), ParseError> {
+    fn read_plain(bytes: &'a [u8]) -> Result<(Nsec3HashAlgorithm, &'a [u8]), ParseError> {
         let (code, rest) = u8::split_bytes(bytes)?;
         Ok((Nsec3HashAlgorithm { code }, rest))
-    }
-}
-
-impl<'a> ParseMessageBytes<'a> for Nsec3HashAlgorithm {
-    fn parse_message_bytes(
-        contents: &'a [u8],
-        start: usize,
-    ) -> Result<Nsec3HashAlgorithm, ParseError> {
-        parse_without_compression(contents, start)
-    }
-}
-
-impl<'a> SplitMessageBytes<'a> for Nsec3HashAlgorithm {
-    fn split_message_bytes(
-        contents: &'a [u8],
-        start: usize,
-    ) -> Result<(Nsec3HashAlgorithm, usize), ParseError> {
-        split_without_compression(contents, start)
     }
 }
 

@@ -6,11 +6,11 @@ ghost use Rattle.dns_wire.specs.Building.{Builds};
 ghost use Rattle.dns_wire.specs.Compression.{FitsIn};
 ghost use Rattle.dns_wire.specs.InMessage.{BuildsIn};
 ghost use Rattle.dns_wire.specs.Pieces.{whole_presses};
-ghost use Rattle.dns_wire.specs.Reading.{Gives, all_of, all_at, plain_at};
+ghost use Rattle.dns_wire.specs.Reading.{Gives, all_of, all_at};
 ghost use Rattle.dns_record.specs.Canonical.{ranked_cmp};
 ghost use Rattle.dns_record.specs.Fields.{Field, fields_octets, canonical_octets};
 ghost use Rattle.dns_record.specs.Kinds.{fields_of, no_name};
-ghost use Rattle.dns_record.specs.Left.{bare_leave, bare_end};
+ghost use Rattle.dns_record.specs.Left.{bare_leave};
 ghost use Rattle.dns_record.specs.Rows.{row};
 ghost use Rattle.dns_record.specs.Whole.{whole_pieces, told_whole};
 ghost use Rattle.dns_record.proofs.Sizes.{canonical_long};
@@ -24,9 +24,8 @@ use crate::hash_parameters::HashParameters;
 use dns_num::SizePrefixed;
 use dns_record::{CanonicalRecordData, DataOfType, RType};
 use dns_wire::{
-    BuildBytes, BuildInMessage, NameCompressor, ParseBytes, ParseError, ParseMessageBytes,
-    SplitBytes, SplitMessageBytes, TruncationError, build_whole, parse_without_compression,
-    split_without_compression, whole,
+    BuildBytes, BuildInMessage, NameCompressor, ParseError, ReadPlainValue, SplitBytes,
+    TruncationError, build_whole,
 };
 use std::cmp::Ordering;
 
@@ -93,43 +92,18 @@ impl<'a> Nsec3Param<'a> {
     }
 }
 
-impl<'a> ParseBytes<'a> for Nsec3Param<'a> {
+impl<'a> ReadPlainValue<'a> for Nsec3Param<'a> {
     ghost Seen = { List Field };
 
     ghost seen = { nsec3param_fields };
 
     ghost reads = { fields_of no_name (row 51) };
 
-    ghost reads_at = { plain_at (fields_of no_name (row 51)) };
-
     ghost leaves_rest = { bare_leave (row 51) };
 
-    ghost ends_within = { bare_end (row 51) };
-
-    fn parse_bytes(bytes: &'a [u8]) -> Result<Nsec3Param<'a>, ParseError> {
-        whole(Nsec3Param::split_bytes(bytes))
-    }
-}
-
-impl<'a> SplitBytes<'a> for Nsec3Param<'a> {
-    fn split_bytes(bytes: &'a [u8]) -> Result<(Nsec3Param<'a>, &'a [u8]), ParseError> {
+    fn read_plain(bytes: &'a [u8]) -> Result<(Nsec3Param<'a>, &'a [u8]), ParseError> {
         let (parameters, rest) = HashParameters::split_bytes(bytes)?;
         Ok((Nsec3Param { parameters }, rest))
-    }
-}
-
-impl<'a> ParseMessageBytes<'a> for Nsec3Param<'a> {
-    fn parse_message_bytes(contents: &'a [u8], start: usize) -> Result<Nsec3Param<'a>, ParseError> {
-        parse_without_compression(contents, start)
-    }
-}
-
-impl<'a> SplitMessageBytes<'a> for Nsec3Param<'a> {
-    fn split_message_bytes(
-        contents: &'a [u8],
-        start: usize,
-    ) -> Result<(Nsec3Param<'a>, usize), ParseError> {
-        split_without_compression(contents, start)
     }
 }
 

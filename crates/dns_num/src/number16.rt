@@ -6,13 +6,12 @@ ghost use Rattle.std.specs.Fmt.{decimal};
 ghost use Rattle.std.specs.Ordering.{nat_cmp};
 ghost use Rattle.std.specs.Result.{OkIff};
 ghost use Rattle.dns_wire.specs.Pieces.{whole_presses};
-ghost use Rattle.dns_wire.specs.Left.{number_leaves, plain_ends};
-ghost use Rattle.dns_wire.specs.Reading.{number, plain_at};
+ghost use Rattle.dns_wire.specs.Left.{number_leaves};
+ghost use Rattle.dns_wire.specs.Reading.{number};
 
 use dns_wire::{
-    BuildBytes, BuildInMessage, NameCompressor, ParseBytes, ParseError, ParseMessageBytes,
-    SplitBytes, SplitMessageBytes, TruncationError, build_whole, parse_without_compression, put,
-    split_without_compression, whole,
+    BuildBytes, BuildInMessage, NameCompressor, ParseError, ReadPlainValue, TruncationError,
+    build_whole, put,
 };
 use std::cmp::Ordering;
 use std::fmt;
@@ -109,42 +108,20 @@ impl TryFrom<usize> for U16 {
     }
 }
 
-impl<'a> ParseBytes<'a> for U16 {
+impl<'a> ReadPlainValue<'a> for U16 {
     ghost Seen = { ℕ };
 
     ghost seen = { λ v. v.value };
 
     ghost reads = { number w16 };
 
-    ghost reads_at = { plain_at (number w16) };
-
     ghost leaves_rest = { number_leaves w16 };
 
-    ghost ends_within = { plain_ends (number w16) (number_leaves w16) };
-
-    fn parse_bytes(bytes: &'a [u8]) -> Result<U16, ParseError> {
-        whole(U16::split_bytes(bytes))
-    }
-}
-
-impl<'a> SplitBytes<'a> for U16 {
-    fn split_bytes(bytes: &'a [u8]) -> Result<(U16, &'a [u8]), ParseError> {
+    fn read_plain(bytes: &'a [u8]) -> Result<(U16, &'a [u8]), ParseError> {
         match bytes.split_first_chunk::<2>() {
             Some((octets, rest)) => Ok((U16::new(u16::from_be_bytes(*octets)), rest)),
             None => Err(ParseError),
         }
-    }
-}
-
-impl<'a> ParseMessageBytes<'a> for U16 {
-    fn parse_message_bytes(contents: &'a [u8], start: usize) -> Result<U16, ParseError> {
-        parse_without_compression(contents, start)
-    }
-}
-
-impl<'a> SplitMessageBytes<'a> for U16 {
-    fn split_message_bytes(contents: &'a [u8], start: usize) -> Result<(U16, usize), ParseError> {
-        split_without_compression(contents, start)
     }
 }
 

@@ -5,13 +5,12 @@ ghost use Rattle.std.specs.Int.{w32, to_be_bytes};
 ghost use Rattle.std.specs.Fmt.{decimal};
 ghost use Rattle.std.specs.Ordering.{nat_cmp};
 ghost use Rattle.dns_wire.specs.Pieces.{whole_presses};
-ghost use Rattle.dns_wire.specs.Left.{number_leaves, plain_ends};
-ghost use Rattle.dns_wire.specs.Reading.{number, plain_at};
+ghost use Rattle.dns_wire.specs.Left.{number_leaves};
+ghost use Rattle.dns_wire.specs.Reading.{number};
 
 use dns_wire::{
-    BuildBytes, BuildInMessage, NameCompressor, ParseBytes, ParseError, ParseMessageBytes,
-    SplitBytes, SplitMessageBytes, TruncationError, build_whole, parse_without_compression, put,
-    split_without_compression, whole,
+    BuildBytes, BuildInMessage, NameCompressor, ParseError, ReadPlainValue, TruncationError,
+    build_whole, put,
 };
 use std::cmp::Ordering;
 use std::fmt;
@@ -87,42 +86,20 @@ impl From<U32> for u32 {
     }
 }
 
-impl<'a> ParseBytes<'a> for U32 {
+impl<'a> ReadPlainValue<'a> for U32 {
     ghost Seen = { ℕ };
 
     ghost seen = { λ v. v.value };
 
     ghost reads = { number w32 };
 
-    ghost reads_at = { plain_at (number w32) };
-
     ghost leaves_rest = { number_leaves w32 };
 
-    ghost ends_within = { plain_ends (number w32) (number_leaves w32) };
-
-    fn parse_bytes(bytes: &'a [u8]) -> Result<U32, ParseError> {
-        whole(U32::split_bytes(bytes))
-    }
-}
-
-impl<'a> SplitBytes<'a> for U32 {
-    fn split_bytes(bytes: &'a [u8]) -> Result<(U32, &'a [u8]), ParseError> {
+    fn read_plain(bytes: &'a [u8]) -> Result<(U32, &'a [u8]), ParseError> {
         match bytes.split_first_chunk::<4>() {
             Some((octets, rest)) => Ok((U32::new(u32::from_be_bytes(*octets)), rest)),
             None => Err(ParseError),
         }
-    }
-}
-
-impl<'a> ParseMessageBytes<'a> for U32 {
-    fn parse_message_bytes(contents: &'a [u8], start: usize) -> Result<U32, ParseError> {
-        parse_without_compression(contents, start)
-    }
-}
-
-impl<'a> SplitMessageBytes<'a> for U32 {
-    fn split_message_bytes(contents: &'a [u8], start: usize) -> Result<(U32, usize), ParseError> {
-        split_without_compression(contents, start)
     }
 }
 

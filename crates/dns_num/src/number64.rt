@@ -5,13 +5,12 @@ ghost use Rattle.std.specs.Int.{w64, to_be_bytes};
 ghost use Rattle.std.specs.Fmt.{decimal};
 ghost use Rattle.std.specs.Ordering.{nat_cmp};
 ghost use Rattle.dns_wire.specs.Pieces.{whole_presses};
-ghost use Rattle.dns_wire.specs.Left.{number_leaves, plain_ends};
-ghost use Rattle.dns_wire.specs.Reading.{number, plain_at};
+ghost use Rattle.dns_wire.specs.Left.{number_leaves};
+ghost use Rattle.dns_wire.specs.Reading.{number};
 
 use dns_wire::{
-    BuildBytes, BuildInMessage, NameCompressor, ParseBytes, ParseError, ParseMessageBytes,
-    SplitBytes, SplitMessageBytes, TruncationError, build_whole, parse_without_compression, put,
-    split_without_compression, whole,
+    BuildBytes, BuildInMessage, NameCompressor, ParseError, ReadPlainValue, TruncationError,
+    build_whole, put,
 };
 use std::cmp::Ordering;
 use std::fmt;
@@ -87,42 +86,20 @@ impl From<U64> for u64 {
     }
 }
 
-impl<'a> ParseBytes<'a> for U64 {
+impl<'a> ReadPlainValue<'a> for U64 {
     ghost Seen = { ℕ };
 
     ghost seen = { λ v. v.value };
 
     ghost reads = { number w64 };
 
-    ghost reads_at = { plain_at (number w64) };
-
     ghost leaves_rest = { number_leaves w64 };
 
-    ghost ends_within = { plain_ends (number w64) (number_leaves w64) };
-
-    fn parse_bytes(bytes: &'a [u8]) -> Result<U64, ParseError> {
-        whole(U64::split_bytes(bytes))
-    }
-}
-
-impl<'a> SplitBytes<'a> for U64 {
-    fn split_bytes(bytes: &'a [u8]) -> Result<(U64, &'a [u8]), ParseError> {
+    fn read_plain(bytes: &'a [u8]) -> Result<(U64, &'a [u8]), ParseError> {
         match bytes.split_first_chunk::<8>() {
             Some((octets, rest)) => Ok((U64::new(u64::from_be_bytes(*octets)), rest)),
             None => Err(ParseError),
         }
-    }
-}
-
-impl<'a> ParseMessageBytes<'a> for U64 {
-    fn parse_message_bytes(contents: &'a [u8], start: usize) -> Result<U64, ParseError> {
-        parse_without_compression(contents, start)
-    }
-}
-
-impl<'a> SplitMessageBytes<'a> for U64 {
-    fn split_message_bytes(contents: &'a [u8], start: usize) -> Result<(U64, usize), ParseError> {
-        split_without_compression(contents, start)
     }
 }
 

@@ -9,20 +9,19 @@ ghost use Rattle.dns_wire.specs.InMessage.{BuildsIn};
 ghost use Rattle.dns_wire.specs.Pieces.{whole_presses};
 ghost use Rattle.dns_wire.specs.Pieces.Piece.{Whole};
 ghost use Rattle.dns_wire.specs.Told.{told_piece};
-ghost use Rattle.dns_wire.specs.Reading.{Gives, all_of, all_at, plain_at};
+ghost use Rattle.dns_wire.specs.Reading.{Gives, all_of, all_at};
 ghost use Rattle.dns_record.specs.Canonical.{ranked_cmp};
 ghost use Rattle.dns_record.specs.Fields.{Field, canonical_octets};
 ghost use Rattle.dns_record.specs.Kinds.{fields_of, no_name};
-ghost use Rattle.dns_record.specs.Left.{bare_leave, bare_end};
+ghost use Rattle.dns_record.specs.Left.{bare_leave};
 ghost use Rattle.dns_record.specs.Rows.{row};
 ghost use Rattle.dns_record.proofs.Sizes.{canonical_long};
 ghost use Rattle.dns_plain.specs.Types.{aaaa_fields};
 
 use dns_record::{CanonicalRecordData, DataOfType, RType};
 use dns_wire::{
-    AsBytes, BuildBytes, BuildInMessage, NameCompressor, ParseBytes, ParseError, ParseMessageBytes,
-    SplitBytes, SplitMessageBytes, TruncationError, build_whole, parse_without_compression, put,
-    split_without_compression, whole,
+    AsBytes, BuildBytes, BuildInMessage, NameCompressor, ParseError, ReadPlainValue, SplitBytes,
+    TruncationError, build_whole, put,
 };
 use std::cmp::Ordering;
 
@@ -39,41 +38,19 @@ impl AsBytes for Aaaa {
     }
 }
 
-impl<'a> ParseBytes<'a> for Aaaa {
+impl<'a> ReadPlainValue<'a> for Aaaa {
     ghost Seen = { List Field };
 
     ghost seen = { aaaa_fields };
 
     ghost reads = { fields_of no_name (row 28) };
 
-    ghost reads_at = { plain_at (fields_of no_name (row 28)) };
-
     ghost leaves_rest = { bare_leave (row 28) };
 
-    ghost ends_within = { bare_end (row 28) };
-
-    fn parse_bytes(bytes: &'a [u8]) -> Result<Aaaa, ParseError> {
-        whole(Aaaa::split_bytes(bytes))
-    }
-}
-
-impl<'a> SplitBytes<'a> for Aaaa {
-    fn split_bytes(bytes: &'a [u8]) -> Result<(Aaaa, &'a [u8]), ParseError> {
+    fn read_plain(bytes: &'a [u8]) -> Result<(Aaaa, &'a [u8]), ParseError> {
         let (octets, rest) = <[u8; 16]>::split_bytes(bytes)?;
         let value = Aaaa { octets };
         Ok((value, rest))
-    }
-}
-
-impl<'a> ParseMessageBytes<'a> for Aaaa {
-    fn parse_message_bytes(contents: &'a [u8], start: usize) -> Result<Aaaa, ParseError> {
-        parse_without_compression(contents, start)
-    }
-}
-
-impl<'a> SplitMessageBytes<'a> for Aaaa {
-    fn split_message_bytes(contents: &'a [u8], start: usize) -> Result<(Aaaa, usize), ParseError> {
-        split_without_compression(contents, start)
     }
 }
 

@@ -5,11 +5,11 @@ ghost use Rattle.dns_wire.specs.Building.{Builds};
 ghost use Rattle.dns_wire.specs.Compression.{FitsIn};
 ghost use Rattle.dns_wire.specs.InMessage.{BuildsIn};
 ghost use Rattle.dns_wire.specs.Pieces.{whole_presses};
-ghost use Rattle.dns_wire.specs.Reading.{Gives, all_of, all_at, plain_at};
+ghost use Rattle.dns_wire.specs.Reading.{Gives, all_of, all_at};
 ghost use Rattle.dns_record.specs.Canonical.{ranked_cmp};
 ghost use Rattle.dns_record.specs.Fields.{Field, fields_octets, canonical_octets};
 ghost use Rattle.dns_record.specs.Kinds.{fields_of, no_name};
-ghost use Rattle.dns_record.specs.Left.{bare_leave, bare_end};
+ghost use Rattle.dns_record.specs.Left.{bare_leave};
 ghost use Rattle.dns_record.specs.Rows.{row};
 ghost use Rattle.dns_record.specs.Whole.{whole_pieces, told_whole};
 ghost use Rattle.dns_record.proofs.Sizes.{canonical_long};
@@ -18,9 +18,8 @@ ghost use Rattle.dns_plain.specs.Types.{dname_fields};
 use dns_name::{CanonicalName, Lowercased, Name};
 use dns_record::{CanonicalRecordData, DataOfType, RType};
 use dns_wire::{
-    BuildBytes, BuildInMessage, NameCompressor, ParseBytes, ParseError, ParseMessageBytes,
-    SplitBytes, SplitMessageBytes, TruncationError, build_whole, parse_without_compression,
-    split_without_compression, whole,
+    BuildBytes, BuildInMessage, NameCompressor, ParseError, ReadPlainValue, SplitBytes,
+    TruncationError, build_whole,
 };
 use std::cmp::Ordering;
 
@@ -40,44 +39,19 @@ impl<'a> DName<'a> {
     }
 }
 
-impl<'a> ParseBytes<'a> for DName<'a> {
+impl<'a> ReadPlainValue<'a> for DName<'a> {
     ghost Seen = { List Field };
 
     ghost seen = { dname_fields };
 
     ghost reads = { fields_of no_name (row 39) };
 
-    ghost reads_at = { plain_at (fields_of no_name (row 39)) };
-
     ghost leaves_rest = { bare_leave (row 39) };
 
-    ghost ends_within = { bare_end (row 39) };
-
-    fn parse_bytes(bytes: &'a [u8]) -> Result<DName<'a>, ParseError> {
-        whole(DName::split_bytes(bytes))
-    }
-}
-
-impl<'a> SplitBytes<'a> for DName<'a> {
-    fn split_bytes(bytes: &'a [u8]) -> Result<(DName<'a>, &'a [u8]), ParseError> {
+    fn read_plain(bytes: &'a [u8]) -> Result<(DName<'a>, &'a [u8]), ParseError> {
         let (name, rest) = Name::split_bytes(bytes)?;
         let value = DName { name };
         Ok((value, rest))
-    }
-}
-
-impl<'a> ParseMessageBytes<'a> for DName<'a> {
-    fn parse_message_bytes(contents: &'a [u8], start: usize) -> Result<DName<'a>, ParseError> {
-        parse_without_compression(contents, start)
-    }
-}
-
-impl<'a> SplitMessageBytes<'a> for DName<'a> {
-    fn split_message_bytes(
-        contents: &'a [u8],
-        start: usize,
-    ) -> Result<(DName<'a>, usize), ParseError> {
-        split_without_compression(contents, start)
     }
 }
 

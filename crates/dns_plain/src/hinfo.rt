@@ -7,12 +7,12 @@ ghost use Rattle.dns_wire.specs.Building.{Builds};
 ghost use Rattle.dns_wire.specs.Compression.{FitsIn};
 ghost use Rattle.dns_wire.specs.InMessage.{BuildsIn};
 ghost use Rattle.dns_wire.specs.Pieces.{whole_presses};
-ghost use Rattle.dns_wire.specs.Reading.{Gives, all_of, all_at, plain_at};
+ghost use Rattle.dns_wire.specs.Reading.{Gives, all_of, all_at};
 ghost use Rattle.dns_record.specs.Canonical.{ranked_cmp};
 ghost use Rattle.dns_record.specs.CharStrs.{octets_of};
 ghost use Rattle.dns_record.specs.Fields.{Field, fields_octets, canonical_octets};
 ghost use Rattle.dns_record.specs.Kinds.{fields_of, no_name};
-ghost use Rattle.dns_record.specs.Left.{bare_leave, bare_end};
+ghost use Rattle.dns_record.specs.Left.{bare_leave};
 ghost use Rattle.dns_record.specs.Rows.{row};
 ghost use Rattle.dns_record.specs.Whole.{whole_pieces, told_whole};
 ghost use Rattle.dns_record.proofs.Sizes.{canonical_long};
@@ -20,9 +20,8 @@ ghost use Rattle.dns_plain.specs.Types.{hinfo_fields};
 
 use dns_record::{CanonicalRecordData, CharStr, DataOfType, RType};
 use dns_wire::{
-    BuildBytes, BuildInMessage, NameCompressor, ParseBytes, ParseError, ParseMessageBytes,
-    SplitBytes, SplitMessageBytes, TruncationError, build_whole, parse_without_compression,
-    split_without_compression, whole,
+    BuildBytes, BuildInMessage, NameCompressor, ParseError, ReadPlainValue, SplitBytes,
+    TruncationError, build_whole,
 };
 use std::cmp::Ordering;
 
@@ -35,45 +34,20 @@ pub struct HInfo<'a> {
     pub os: CharStr<'a>,
 }
 
-impl<'a> ParseBytes<'a> for HInfo<'a> {
+impl<'a> ReadPlainValue<'a> for HInfo<'a> {
     ghost Seen = { List Field };
 
     ghost seen = { hinfo_fields };
 
     ghost reads = { fields_of no_name (row 13) };
 
-    ghost reads_at = { plain_at (fields_of no_name (row 13)) };
-
     ghost leaves_rest = { bare_leave (row 13) };
 
-    ghost ends_within = { bare_end (row 13) };
-
-    fn parse_bytes(bytes: &'a [u8]) -> Result<HInfo<'a>, ParseError> {
-        whole(HInfo::split_bytes(bytes))
-    }
-}
-
-impl<'a> SplitBytes<'a> for HInfo<'a> {
-    fn split_bytes(bytes: &'a [u8]) -> Result<(HInfo<'a>, &'a [u8]), ParseError> {
+    fn read_plain(bytes: &'a [u8]) -> Result<(HInfo<'a>, &'a [u8]), ParseError> {
         let (cpu, rest) = CharStr::split_bytes(bytes)?;
         let (os, rest) = CharStr::split_bytes(rest)?;
         let value = HInfo { cpu, os };
         Ok((value, rest))
-    }
-}
-
-impl<'a> ParseMessageBytes<'a> for HInfo<'a> {
-    fn parse_message_bytes(contents: &'a [u8], start: usize) -> Result<HInfo<'a>, ParseError> {
-        parse_without_compression(contents, start)
-    }
-}
-
-impl<'a> SplitMessageBytes<'a> for HInfo<'a> {
-    fn split_message_bytes(
-        contents: &'a [u8],
-        start: usize,
-    ) -> Result<(HInfo<'a>, usize), ParseError> {
-        split_without_compression(contents, start)
     }
 }
 

@@ -6,11 +6,11 @@ ghost use Rattle.dns_wire.specs.Building.{Builds};
 ghost use Rattle.dns_wire.specs.Compression.{FitsIn};
 ghost use Rattle.dns_wire.specs.InMessage.{BuildsIn};
 ghost use Rattle.dns_wire.specs.Pieces.{whole_presses};
-ghost use Rattle.dns_wire.specs.Reading.{Gives, all_of, all_at, plain_at};
+ghost use Rattle.dns_wire.specs.Reading.{Gives, all_of, all_at};
 ghost use Rattle.dns_record.specs.Canonical.{ranked_cmp};
 ghost use Rattle.dns_record.specs.Fields.{Field, fields_octets, canonical_octets};
 ghost use Rattle.dns_record.specs.Kinds.{fields_of, no_name};
-ghost use Rattle.dns_record.specs.Left.{bare_leave, bare_end};
+ghost use Rattle.dns_record.specs.Left.{bare_leave};
 ghost use Rattle.dns_record.specs.Rows.{row};
 ghost use Rattle.dns_record.specs.Whole.{whole_pieces, told_whole};
 ghost use Rattle.dns_record.proofs.Sizes.{canonical_long};
@@ -20,9 +20,8 @@ use dns_name::{CanonicalName, Lowercased, Name};
 use dns_num::U16;
 use dns_record::{CanonicalRecordData, DataOfType, RType};
 use dns_wire::{
-    BuildBytes, BuildInMessage, NameCompressor, ParseBytes, ParseError, ParseMessageBytes,
-    SplitBytes, SplitMessageBytes, TruncationError, build_whole, parse_without_compression,
-    split_without_compression, whole,
+    BuildBytes, BuildInMessage, NameCompressor, ParseError, ReadPlainValue, SplitBytes,
+    TruncationError, build_whole,
 };
 use std::cmp::Ordering;
 
@@ -39,26 +38,16 @@ pub struct Srv<'a> {
     pub name: Name<'a>,
 }
 
-impl<'a> ParseBytes<'a> for Srv<'a> {
+impl<'a> ReadPlainValue<'a> for Srv<'a> {
     ghost Seen = { List Field };
 
     ghost seen = { srv_fields };
 
     ghost reads = { fields_of no_name (row 33) };
 
-    ghost reads_at = { plain_at (fields_of no_name (row 33)) };
-
     ghost leaves_rest = { bare_leave (row 33) };
 
-    ghost ends_within = { bare_end (row 33) };
-
-    fn parse_bytes(bytes: &'a [u8]) -> Result<Srv<'a>, ParseError> {
-        whole(Srv::split_bytes(bytes))
-    }
-}
-
-impl<'a> SplitBytes<'a> for Srv<'a> {
-    fn split_bytes(bytes: &'a [u8]) -> Result<(Srv<'a>, &'a [u8]), ParseError> {
+    fn read_plain(bytes: &'a [u8]) -> Result<(Srv<'a>, &'a [u8]), ParseError> {
         let (priority, rest) = U16::split_bytes(bytes)?;
         let (weight, rest) = U16::split_bytes(rest)?;
         let (port, rest) = U16::split_bytes(rest)?;
@@ -70,21 +59,6 @@ impl<'a> SplitBytes<'a> for Srv<'a> {
             name,
         };
         Ok((value, rest))
-    }
-}
-
-impl<'a> ParseMessageBytes<'a> for Srv<'a> {
-    fn parse_message_bytes(contents: &'a [u8], start: usize) -> Result<Srv<'a>, ParseError> {
-        parse_without_compression(contents, start)
-    }
-}
-
-impl<'a> SplitMessageBytes<'a> for Srv<'a> {
-    fn split_message_bytes(
-        contents: &'a [u8],
-        start: usize,
-    ) -> Result<(Srv<'a>, usize), ParseError> {
-        split_without_compression(contents, start)
     }
 }
 

@@ -12,7 +12,8 @@ use Rattle.dns_wire.specs.Steps.{◌>>=◌, first_to}
 use Rattle.dns_record.specs.Fields.{FieldOf}
 use Rattle.dns_record.specs.Fields.FieldOf.{Bare, Raw, Sized, Byte, Number}
 use Rattle.dns_record.specs.Kinds.{Kind, field_of, fields_of, field_in, fields_in}
-use Rattle.dns_record.specs.Kinds.Kind.{OneByte, OneNumber, SoMany, Pointed, Plain, Text, Texts, Windows, SomeWindows, Rest}
+use Rattle.dns_record.specs.Kinds.Kind.{OneByte, OneNumber, SoMany, Pointed, Plain, Text, Texts, Options, Windows, SomeWindows, Rest}
+use Rattle.dns_record.specs.Options.{options}
 use Rattle.dns_record.specs.Texts.{text, texts}
 use Rattle.dns_record.specs.Windows.{bitmap, some_bitmap}
 
@@ -55,6 +56,7 @@ module _ {N : Type 0} (place : List ℕ → ℕ → Option (N × ℕ)) (name : L
   field_placed Plain c at bare = plain_first plain_name Bare c at
   field_placed Text c at bare = plain_first text Sized c at
   field_placed Texts c at bare = plain_first texts Raw c at
+  field_placed Options c at bare = plain_first options Raw c at
   field_placed Windows c at bare = plain_first bitmap Raw c at
   field_placed SomeWindows c at bare = plain_first some_bitmap Raw c at
   field_placed Rest c at bare = plain_first (λ bytes. Some (bytes, [])) Raw c at

@@ -2,7 +2,7 @@
 use Rattle.std.proofs.Common.{◌≡◌, ℕ, ◌+◌, ◌*◌, ◌/◌, ◌%◌, ◌^◌, ◌<◌, ◌≤◌, ◌⊎◌, inl, inr, List, [], ◌∷◌, ◌++◌, length, refl, sym, ap, ◌∙◌, append_assoc, append-nil, arith, nat_cmp, Bool, true, false, cond}
 use Rattle.std.specs.Prelude.{map}
 use Rattle.std.specs.Int.{Width, w16, w32, to_be_bytes}
-use Rattle.std.specs.Ordering.{ordering_then}
+use Rattle.std.specs.Ordering.{ordering_then, is_ne}
 use Rattle.std.specs.Cmp.Lexicographic.{slice_cmp}
 use Rattle.std.specs.List.{AllByRecursion}
 use Rattle.std.specs.declared.cmp.Ordering.{Ordering}
@@ -193,22 +193,34 @@ fields_compared fold fs gs is = absurd is
 
 -- ---- field by field
 
+-- the first order decides, where it is not Equal
+pub decided : (first later : Ordering) → is_ne first ≡ true → first ≡ ordering_then first later
+decided Less later e = refl
+decided Equal later e = absurd cc
+decided Greater later e = refl
+
+-- and where it is Equal, the later one does
+pub undecided : (first later : Ordering) → is_ne first ≡ false → later ≡ ordering_then first later
+undecided Less later e = absurd cc
+undecided Equal later e = refl
+undecided Greater later e = absurd cc
+
 -- where the first fields are alike, the others decide
 pub first_ties : (fold : Bool) (f g : Field) (fs gs : List Field) (r : Ordering) → FieldsMeet f g → field_cmp fold f g ≡ Equal → r ≡ slice_cmp nat_cmp (fields_octets (map (kept fold) fs)) (fields_octets (map (kept fold) gs)) → r ≡ slice_cmp nat_cmp (fields_octets (map (kept fold) (f ∷ fs))) (fields_octets (map (kept fold) (g ∷ gs)))
 first_ties fold f g fs gs r is e later =
     let rest : Ordering = slice_cmp nat_cmp (fields_octets (map (kept fold) fs)) (fields_octets (map (kept fold) gs)) in
     later ∙ sym (field_compared fold f g (fields_octets (map (kept fold) fs)) (fields_octets (map (kept fold) gs)) is ∙ ap (λ o. ordering_then o rest) e)
 
-decided : (o rest : Ordering) → (o ≡ Equal → ⊥) → ordering_then o rest ≡ o
-decided Less rest n = refl
-decided Equal rest n = absurd (n refl)
-decided Greater rest n = refl
+unequal : (o rest : Ordering) → (o ≡ Equal → ⊥) → ordering_then o rest ≡ o
+unequal Less rest n = refl
+unequal Equal rest n = absurd (n refl)
+unequal Greater rest n = refl
 
 -- and where they are not, they do
 pub first_decides : (fold : Bool) (f g : Field) (fs gs : List Field) (o : Ordering) → FieldsMeet f g → o ≡ field_cmp fold f g → (o ≡ Equal → ⊥) → o ≡ slice_cmp nat_cmp (fields_octets (map (kept fold) (f ∷ fs))) (fields_octets (map (kept fold) (g ∷ gs)))
 first_decides fold f g fs gs o is e n =
     let rest : Ordering = slice_cmp nat_cmp (fields_octets (map (kept fold) fs)) (fields_octets (map (kept fold) gs)) in
-    sym (field_compared fold f g (fields_octets (map (kept fold) fs)) (fields_octets (map (kept fold) gs)) is ∙ ap (λ p. ordering_then p rest) (sym e) ∙ decided o rest n)
+    sym (field_compared fold f g (fields_octets (map (kept fold) fs)) (fields_octets (map (kept fold) gs)) is ∙ ap (λ p. ordering_then p rest) (sym e) ∙ unequal o rest n)
 
 -- the last fields decide by themselves
 pub last_decides : (fold : Bool) (f g : Field) (o : Ordering) → LastMeet f g → o ≡ field_cmp fold f g → o ≡ slice_cmp nat_cmp (fields_octets (map (kept fold) (f ∷ []))) (fields_octets (map (kept fold) (g ∷ [])))

@@ -13,8 +13,9 @@ use Rattle.dns_record.specs.Data.{data_as, data_in}
 use Rattle.dns_record.specs.Fields.{FieldOf, named_by}
 use Rattle.dns_record.specs.Fields.FieldOf.{Named, Bare, Raw, Sized, Byte, Number}
 use Rattle.dns_record.specs.Kinds.{Kind, field_of, fields_of, field_in, fields_in, no_name}
-use Rattle.dns_record.specs.Kinds.Kind.{OneByte, OneNumber, SoMany, Pointed, Plain, Text, Texts, Windows, SomeWindows, Rest}
+use Rattle.dns_record.specs.Kinds.Kind.{OneByte, OneNumber, SoMany, Pointed, Plain, Text, Texts, Options, Windows, SomeWindows, Rest}
 use Rattle.dns_record.specs.Rows.{row}
+use Rattle.dns_record.specs.Options.{options}
 use Rattle.dns_record.specs.Texts.{text, texts}
 use Rattle.dns_record.specs.Windows.{bitmap, some_bitmap}
 use Rattle.dns_record.proofs.Bare.{is_bare, all_bare, is_bare_row, all_placed}
@@ -67,6 +68,7 @@ module _ {V S L : Type 0} (seen : V → S) (name : V → L) where
     field_again Plain bytes f rest e = again Bare Bare same_bare (plain_name bytes) f rest e
     field_again Text bytes f rest e = again Sized Sized same_sized (text bytes) f rest e
     field_again Texts bytes f rest e = again Raw Raw same_raw (texts bytes) f rest e
+    field_again Options bytes f rest e = again Raw Raw same_raw (options bytes) f rest e
     field_again Windows bytes f rest e = again Raw Raw same_raw (bitmap bytes) f rest e
     field_again SomeWindows bytes f rest e = again Raw Raw same_raw (some_bitmap bytes) f rest e
     field_again Rest bytes f rest e = again Raw Raw same_raw (Some (bytes, [])) f rest e
@@ -102,6 +104,7 @@ module _ {V S L : Type 0} (seen : V → S) (name : V → L) where
     field_again_in Plain c at f end e = again Bare Bare same_bare (plain_at plain_name c at) f end e
     field_again_in Text c at f end e = again Sized Sized same_sized (plain_at text c at) f end e
     field_again_in Texts c at f end e = again Raw Raw same_raw (plain_at texts c at) f end e
+    field_again_in Options c at f end e = again Raw Raw same_raw (plain_at options c at) f end e
     field_again_in Windows c at f end e = again Raw Raw same_raw (plain_at bitmap c at) f end e
     field_again_in SomeWindows c at f end e = again Raw Raw same_raw (plain_at some_bitmap c at) f end e
     field_again_in Rest c at f end e = again Raw Raw same_raw (plain_at (λ bytes. Some (bytes, [])) c at) f end e

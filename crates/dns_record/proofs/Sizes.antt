@@ -11,7 +11,7 @@ use Rattle.dns_record.specs.Fields.{Field, field_octets, fields_octets, folded_f
 use Rattle.dns_record.specs.Fields.FieldOf.{Named, Bare, Raw, Sized, Byte, Number}
 use Rattle.dns_record.specs.InPlace.{FieldAt, FieldsAt, DataAt}
 use Rattle.dns_record.specs.Kinds.{Kind}
-use Rattle.dns_record.specs.Kinds.Kind.{OneByte, OneNumber, SoMany, Pointed, Plain, Text, Texts, Windows, SomeWindows, Rest}
+use Rattle.dns_record.specs.Kinds.Kind.{OneByte, OneNumber, SoMany, Pointed, Plain, Text, Texts, Options, Windows, SomeWindows, Rest}
 use Rattle.dns_record.specs.Rows.{row}
 use Rattle.dns_record.specs.Types.{is_lowercased}
 use Rattle.dns_record.proofs.EachRow.{of_each_row}
@@ -54,6 +54,7 @@ field_long Pointed contents at field end bare is = absurd cc
 field_long Plain contents at (Bare labels) end bare is = is.stands.end_is
 field_long Text contents at (Sized octets) end bare is = is.end_is
 field_long Texts contents at (Raw octets) end bare is = is.1.end_is
+field_long Options contents at (Raw octets) end bare is = is.1.end_is
 field_long Windows contents at (Raw octets) end bare is = is.1.end_is
 field_long SomeWindows contents at (Raw octets) end bare is = is.1.end_is
 field_long Rest contents at (Raw octets) end bare is = is.1.end_is
@@ -92,6 +93,7 @@ field_small (SoMany n) contents at field end small is = absurd cc
 field_small Plain contents at field end small is = absurd cc
 field_small Text contents at field end small is = absurd cc
 field_small Texts contents at field end small is = absurd cc
+field_small Options contents at field end small is = absurd cc
 field_small Windows contents at field end small is = absurd cc
 field_small SomeWindows contents at field end small is = absurd cc
 field_small Rest contents at field end small is = absurd cc

@@ -15,15 +15,17 @@ use Rattle.dns_wire.proofs.Spelled.{plain_name_takes, plain_name_again}
 use Rattle.dns_record.specs.Data.{data_in}
 use Rattle.dns_record.specs.Fields.{Field}
 use Rattle.dns_record.specs.Fields.FieldOf.{Named, Bare, Raw, Sized, Byte, Number}
-use Rattle.dns_record.specs.InPlace.{OctetsAt, AreTexts, AreWindows, FieldAt, FieldsAt, DataAt, QuestionAt, RecordAt}
+use Rattle.dns_record.specs.InPlace.{OctetsAt, AreTexts, AreOptions, AreWindows, FieldAt, FieldsAt, DataAt, QuestionAt, RecordAt}
 use Rattle.dns_record.specs.Kinds.{Kind, field_in, fields_in}
-use Rattle.dns_record.specs.Kinds.Kind.{OneByte, OneNumber, SoMany, Pointed, Plain, Text, Texts, Windows, SomeWindows, Rest}
+use Rattle.dns_record.specs.Kinds.Kind.{OneByte, OneNumber, SoMany, Pointed, Plain, Text, Texts, Options, Windows, SomeWindows, Rest}
 use Rattle.dns_record.specs.Questions.{QuestionOf, question_in}
 use Rattle.dns_record.specs.Records.{RecordOf, record_in, end_of}
 use Rattle.dns_record.specs.Rows.{row}
+use Rattle.dns_record.specs.Options.{options, is_option_data}
 use Rattle.dns_record.specs.Texts.{text, texts, is_text_data}
 use Rattle.dns_record.specs.Windows.{bitmap, some_bitmap, is_bitmap}
 use Rattle.dns_record.proofs.Bitmaps.{bitmap_is, is_this_bitmap}
+use Rattle.dns_record.proofs.Opted.{options_are, are_these_options}
 use Rattle.dns_record.proofs.Strings.{are_texts, texts_are}
 use Rattle.dns_record.proofs.Places.{placed, stands_at, read_at, read_placed, octet_spelled, octets_spelled, octets_read, text_spelled, text_read, number_at, read_number}
 
@@ -143,6 +145,9 @@ field_is Text contents at field end e =
 field_is Texts contents at field end e =
     let p = put_in Raw (plain_at texts contents at) field end e in
     subst (λ (f : Field). FieldAt Texts contents at f end) p.is (tested_spelled is_text_data AreTexts texts_are contents at p.value end p.first)
+field_is Options contents at field end e =
+    let p = put_in Raw (plain_at options contents at) field end e in
+    subst (λ (f : Field). FieldAt Options contents at f end) p.is (tested_spelled is_option_data AreOptions options_are contents at p.value end p.first)
 field_is Windows contents at field end e =
     let p = put_in Raw (plain_at bitmap contents at) field end e in
     subst (λ (f : Field). FieldAt Windows contents at f end) p.is (tested_spelled is_bitmap AreWindows bitmap_is contents at p.value end p.first)
@@ -170,6 +175,7 @@ field_found Pointed contents at (Named labels) end h = ap (first_to Named) (name
 field_found Plain contents at (Bare labels) end h = ap (first_to Bare) (read_at plain_name wire contents at labels end (λ rest. plain_name_again (wire labels ++ rest) labels rest h.name refl) h.stands)
 field_found Text contents at (Sized found) end h = ap (first_to Sized) (read_at text (λ o. length o ∷ o) contents at found end (λ rest. text_read found rest) h)
 field_found Texts contents at (Raw found) end h = ap (first_to Raw) (tested_read is_text_data AreTexts contents at found end h.0 h.1 (are_texts found h.2))
+field_found Options contents at (Raw found) end h = ap (first_to Raw) (tested_read is_option_data AreOptions contents at found end h.0 h.1 (are_these_options found h.2))
 field_found Windows contents at (Raw found) end h = ap (first_to Raw) (tested_read is_bitmap AreWindows contents at found end h.0 h.1 (is_this_bitmap found h.2))
 field_found SomeWindows contents at (Raw found) end h = ap (first_to Raw) (some_found contents at found end h.0 h.1 h.2 h.3)
 field_found Rest contents at (Raw found) end h = ap (first_to Raw) (rest_read contents at found end h.0 h.1)

@@ -1,16 +1,17 @@
 -- Questions, records and their data in place, in the words of the standard (RFC 1035 sections 3.2.1, 3.3 and 4.1). Contents
 -- are a message's octets behind its header. Each relation says what stands from a place up to an end.
-use Rattle.std.specs.Prelude.{◌≡◌, ℕ, suc, ◌+◌, ◌-◌, ◌≤◌, ◌<◌, ◌^◌, List, [], ◌∷◌, length, take, drop, slice_index, ⊤}
+use Rattle.std.specs.Prelude.{◌≡◌, ℕ, suc, ◌+◌, ◌-◌, ◌≤◌, ◌<◌, ◌^◌, List, [], ◌∷◌, ◌++◌, length, take, drop, slice_index, ⊤}
 use Rattle.std.specs.Int.{Width, w16, w32, byte_len, from_be_bytes}
 use Rattle.dns_wire.specs.Names.{IsName, wire}
 use Rattle.dns_wire.specs.Pointers.{NameAt}
 use Rattle.dns_record.specs.Fields.{Field}
 use Rattle.dns_record.specs.Fields.FieldOf.{Named, Bare, Raw, Sized, Byte, Number}
 use Rattle.dns_record.specs.Kinds.{Kind}
-use Rattle.dns_record.specs.Kinds.Kind.{OneByte, OneNumber, SoMany, Pointed, Plain, Text, Texts, Windows, SomeWindows, Rest}
+use Rattle.dns_record.specs.Kinds.Kind.{OneByte, OneNumber, SoMany, Pointed, Plain, Text, Texts, Options, Windows, SomeWindows, Rest}
 use Rattle.dns_record.specs.Questions.{QuestionOf}
 use Rattle.dns_record.specs.Records.{RecordOf}
 use Rattle.dns_record.specs.Rows.{row}
+use Rattle.dns_record.specs.Options.{OptionSeen}
 use Rattle.dns_record.specs.Texts.{texts_octets}
 use Rattle.dns_record.specs.Windows.{Window, windows_octets}
 
@@ -38,6 +39,19 @@ pub record AreTexts (octets : List ℕ) : Type 0 where
   pub first : List ℕ
   pub others : List (List ℕ)
   pub is : octets ≡ texts_octets (first ∷ others)
+  pub short : length octets < 2 ^ 16
+
+-- these octets are options one after another: two octets of a code, two of a size, and so many
+abbrev pub FilledBy : List OptionSeen → List ℕ → Type 0
+FilledBy [] octets = octets ≡ []
+FilledBy (option ∷ others) octets =
+    (code size rest : List ℕ) × (octets ≡ code ++ (size ++ (option.content ++ rest))) × (length code ≡ 2) × (length size ≡ 2)
+    × (option.code ≡ from_be_bytes w16 code) × (length option.content ≡ from_be_bytes w16 size) × FilledBy others rest
+
+-- and no more than a size can say
+pub record AreOptions (octets : List ℕ) : Type 0 where
+  pub options : List OptionSeen
+  pub filled : FilledBy options octets
   pub short : length octets < 2 ^ 16
 
 -- from 1 to 32 octets, of which the last is not 0
@@ -68,6 +82,7 @@ FieldAt Pointed contents at (Named labels) end = NameAt contents at labels end
 FieldAt Plain contents at (Bare labels) end = PlainNameAt contents at labels end
 FieldAt Text contents at (Sized octets) end = OctetsAt contents at (length octets ∷ octets) end
 FieldAt Texts contents at (Raw octets) end = (end ≡ length contents) × OctetsAt contents at octets end × AreTexts octets
+FieldAt Options contents at (Raw octets) end = (end ≡ length contents) × OctetsAt contents at octets end × AreOptions octets
 FieldAt Windows contents at (Raw octets) end = (end ≡ length contents) × OctetsAt contents at octets end × AreWindows octets
 FieldAt SomeWindows contents at (Raw octets) end = (end ≡ length contents) × OctetsAt contents at octets end × AreWindows octets × (1 ≤ length octets)
 FieldAt Rest contents at (Raw octets) end = (end ≡ length contents) × OctetsAt contents at octets end

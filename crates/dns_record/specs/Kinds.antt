@@ -6,6 +6,7 @@ use Rattle.dns_wire.specs.Names.{plain_name}
 use Rattle.dns_wire.specs.Reading.{octet, octets, number, plain_at}
 use Rattle.dns_record.specs.Fields.{FieldOf}
 use Rattle.dns_record.specs.Fields.FieldOf.{Named, Bare, Raw, Sized, Byte, Number}
+use Rattle.dns_record.specs.Options.{options}
 use Rattle.dns_record.specs.Texts.{text, texts}
 use Rattle.dns_record.specs.Windows.{bitmap, some_bitmap}
 use Rattle.dns_wire.specs.Steps.{◌>>=◌, first_to}
@@ -18,6 +19,7 @@ pub data Kind : Type 0 where
   Plain : Kind  -- a name without pointers
   Text : Kind  -- octets behind an octet with their number
   Texts : Kind  -- such strings, at least one, up to the end
+  Options : Kind  -- options, perhaps none, up to the end
   Windows : Kind  -- a bitmap of types, up to the end
   SomeWindows : Kind  -- the same with one window at least
   Rest : Kind  -- all that remains
@@ -32,6 +34,7 @@ field_of name Pointed bytes = first_to Named (name bytes)
 field_of name Plain bytes = first_to Bare (plain_name bytes)
 field_of name Text bytes = first_to Sized (text bytes)
 field_of name Texts bytes = first_to Raw (texts bytes)
+field_of name Options bytes = first_to Raw (options bytes)
 field_of name Windows bytes = first_to Raw (bitmap bytes)
 field_of name SomeWindows bytes = first_to Raw (some_bitmap bytes)
 field_of name Rest bytes = Some (Raw bytes, [])
@@ -54,6 +57,7 @@ field_in name Pointed contents at = first_to Named (name contents at)
 field_in name Plain contents at = first_to Bare (plain_at plain_name contents at)
 field_in name Text contents at = first_to Sized (plain_at text contents at)
 field_in name Texts contents at = first_to Raw (plain_at texts contents at)
+field_in name Options contents at = first_to Raw (plain_at options contents at)
 field_in name Windows contents at = first_to Raw (plain_at bitmap contents at)
 field_in name SomeWindows contents at = first_to Raw (plain_at some_bitmap contents at)
 field_in name Rest contents at = first_to Raw (plain_at (λ bytes. Some (bytes, [])) contents at)

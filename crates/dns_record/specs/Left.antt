@@ -10,7 +10,8 @@ use Rattle.dns_wire.specs.Reading.{Follows, LeavesRest, EndsWithin, octet, octet
 use Rattle.dns_record.specs.Fields.{FieldOf}
 use Rattle.dns_record.specs.Fields.FieldOf.{Named, Bare, Raw, Sized, Byte, Number}
 use Rattle.dns_record.specs.Kinds.{Kind, field_of, fields_of, field_in, fields_in, no_name}
-use Rattle.dns_record.specs.Kinds.Kind.{OneByte, OneNumber, SoMany, Pointed, Plain, Text, Texts, Windows, SomeWindows, Rest}
+use Rattle.dns_record.specs.Kinds.Kind.{OneByte, OneNumber, SoMany, Pointed, Plain, Text, Texts, Options, Windows, SomeWindows, Rest}
+use Rattle.dns_record.specs.Options.{options, is_option_data}
 use Rattle.dns_record.specs.Questions.{question_at, question_in}
 use Rattle.dns_record.specs.Records.{record_at, record_in, end_of}
 use Rattle.dns_record.specs.Texts.{text, texts, is_text_data}
@@ -25,6 +26,9 @@ text_leaves (size ∷ bytes) octets rest e =
 
 pub texts_leave : LeavesRest texts
 texts_leave bytes octets rest e = tested_leaves (is_text_data bytes) bytes octets rest e
+
+pub options_leave : LeavesRest options
+options_leave bytes octets rest e = tested_leaves (is_option_data bytes) bytes octets rest e
 
 pub bitmap_leaves : LeavesRest bitmap
 bitmap_leaves bytes octets rest e = tested_leaves (is_bitmap bytes) bytes octets rest e
@@ -43,6 +47,7 @@ field_leaves name leaves Pointed = put_leaves Named name leaves
 field_leaves name leaves Plain = put_leaves Bare plain_name plain_name_leaves
 field_leaves name leaves Text = put_leaves Sized text text_leaves
 field_leaves name leaves Texts = put_leaves Raw texts texts_leave
+field_leaves name leaves Options = put_leaves Raw options options_leave
 field_leaves name leaves Windows = put_leaves Raw bitmap bitmap_leaves
 field_leaves name leaves SomeWindows = put_leaves Raw some_bitmap some_bitmap_leaves
 field_leaves name leaves Rest = put_leaves Raw (λ bytes. Some (bytes, [])) whole_leaves
@@ -65,6 +70,7 @@ field_ends name ends Pointed = put_ends Named name ends
 field_ends name ends Plain = put_ends Bare (plain_at plain_name) (plain_ends plain_name plain_name_leaves)
 field_ends name ends Text = put_ends Sized (plain_at text) (plain_ends text text_leaves)
 field_ends name ends Texts = put_ends Raw (plain_at texts) (plain_ends texts texts_leave)
+field_ends name ends Options = put_ends Raw (plain_at options) (plain_ends options options_leave)
 field_ends name ends Windows = put_ends Raw (plain_at bitmap) (plain_ends bitmap bitmap_leaves)
 field_ends name ends SomeWindows = put_ends Raw (plain_at some_bitmap) (plain_ends some_bitmap some_bitmap_leaves)
 field_ends name ends Rest = put_ends Raw (plain_at (λ bytes. Some (bytes, []))) (plain_ends (λ bytes. Some (bytes, [])) whole_leaves)

@@ -2,7 +2,6 @@
 pub mod Canonical
 pub mod CharStrHashing
 pub mod CharStrLends
-pub mod CharStrStorage
 pub mod CharStrTexts
 pub mod CharStrs
 pub mod Data
@@ -11,6 +10,7 @@ pub mod Fields
 pub mod InPlace
 pub mod Kinds
 pub mod Left
+pub mod Options
 pub mod Questions
 pub mod Records
 pub mod Rows

@@ -2,7 +2,7 @@
 use Rattle.std.specs.Prelude.{ℕ, List, [], ◌∷◌, Bool, Option, Some, None, unwrap_or, is_some, ◌==◌, if◌then◌else◌}
 use Rattle.std.specs.Int.{w16, w32}
 use Rattle.dns_record.specs.Kinds.{Kind}
-use Rattle.dns_record.specs.Kinds.Kind.{OneByte, OneNumber, SoMany, Pointed, Plain, Text, Texts, Windows, SomeWindows, Rest}
+use Rattle.dns_record.specs.Kinds.Kind.{OneByte, OneNumber, SoMany, Pointed, Plain, Text, Texts, Options, Windows, SomeWindows, Rest}
 
 -- A (RFC 1035 section 3.4.1): an address
 abbrev pub row_a : List Kind
@@ -43,6 +43,10 @@ row_srv = OneNumber w16 ∷ OneNumber w16 ∷ OneNumber w16 ∷ Plain ∷ []
 -- DNAME (RFC 6672 section 2.1): a name
 abbrev pub row_dname : List Kind
 row_dname = Plain ∷ []
+
+-- OPT (RFC 6891 section 6.1.2): options
+abbrev pub row_opt : List Kind
+row_opt = Options ∷ []
 
 -- DS (RFC 4034 section 5.1): key tag, algorithm, type of the digest, and the digest
 abbrev pub row_ds : List Kind
@@ -92,6 +96,7 @@ rows =
     ∷ (28, row_aaaa)
     ∷ (33, row_srv)
     ∷ (39, row_dname)
+    ∷ (41, row_opt)
     ∷ (43, row_ds)
     ∷ (46, row_rrsig)
     ∷ (47, row_nsec)

@@ -6,19 +6,17 @@ ghost use Rattle.std.specs.Cmp.{on_equiv, partial_equiv_from_equiv};
 ghost use Rattle.std.specs.Cmp.Lexicographic.{on_texts_equal, slice_cmp};
 ghost use Rattle.std.specs.Ordering.{nat_cmp, on};
 ghost use Rattle.std.specs.Str.{str_to_ascii_lowercase};
-ghost use Rattle.dns_wire.specs.Left.{plain_ends};
 ghost use Rattle.dns_record.specs.Left.{text_leaves};
 ghost use Rattle.dns_wire.specs.Pieces.{whole_presses};
-ghost use Rattle.dns_wire.specs.Reading.{all_of, plain_at};
+ghost use Rattle.dns_wire.specs.Reading.{all_of};
 ghost use Rattle.dns_record.specs.CharStrs.{charstr_wire, octets_of, same_charstr};
 ghost use Rattle.dns_record.specs.CharStrHashing.{charstr_writes, same_charstrs_alike};
 ghost use Rattle.dns_record.specs.Texts.{text};
 
 use crate::charstr_buf::CharStrBuf;
 use dns_wire::{
-    BuildBytes, BuildInMessage, NameCompressor, ParseBytes, ParseError, ParseMessageBytes,
-    SplitBytes, SplitMessageBytes, TruncationError, build_whole, parse_without_compression, put,
-    split_without_compression, whole,
+    BuildBytes, BuildInMessage, NameCompressor, ParseError, ReadPlainValue, TruncationError,
+    build_whole, put,
 };
 use std::cmp::Ordering;
 use std::hash::{Hash, Hasher};
@@ -73,26 +71,16 @@ impl<'a> CharStr<'a> {
     }
 }
 
-impl<'a> ParseBytes<'a> for CharStr<'a> {
+impl<'a> ReadPlainValue<'a> for CharStr<'a> {
     ghost Seen = { List ℕ };
 
     ghost seen = { λ v. octets_of v.slice.now };
 
     ghost reads = { text };
 
-    ghost reads_at = { plain_at text };
-
     ghost leaves_rest = { text_leaves };
 
-    ghost ends_within = { plain_ends text text_leaves };
-
-    fn parse_bytes(bytes: &'a [u8]) -> Result<CharStr<'a>, ParseError> {
-        whole(CharStr::split_bytes(bytes))
-    }
-}
-
-impl<'a> SplitBytes<'a> for CharStr<'a> {
-    fn split_bytes(bytes: &'a [u8]) -> Result<(CharStr<'a>, &'a [u8]), ParseError> {
+    fn read_plain(bytes: &'a [u8]) -> Result<(CharStr<'a>, &'a [u8]), ParseError> {
         let [size, behind @ ..] = bytes else {
             return Err(ParseError);
         };
@@ -102,21 +90,6 @@ impl<'a> SplitBytes<'a> for CharStr<'a> {
         }
         let (slice, rest) = bytes.split_at(1 + size);
         Ok((CharStr { slice }, rest))
-    }
-}
-
-impl<'a> ParseMessageBytes<'a> for CharStr<'a> {
-    fn parse_message_bytes(contents: &'a [u8], start: usize) -> Result<CharStr<'a>, ParseError> {
-        parse_without_compression(contents, start)
-    }
-}
-
-impl<'a> SplitMessageBytes<'a> for CharStr<'a> {
-    fn split_message_bytes(
-        contents: &'a [u8],
-        start: usize,
-    ) -> Result<(CharStr<'a>, usize), ParseError> {
-        split_without_compression(contents, start)
     }
 }
 

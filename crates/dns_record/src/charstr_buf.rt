@@ -1,6 +1,5 @@
 //! A character string with its octets.
 
-ghost use Rattle.dns_wire.specs.Left.{plain_ends};
 ghost use Rattle.dns_record.specs.Left.{text_leaves};
 ghost use Rattle.std.specs.Prelude.{◌≡◌, ◌≤◌, ℕ, List, [], length, None, ⊤};
 ghost use Rattle.std.specs.Borrow.{sem};
@@ -8,18 +7,15 @@ ghost use Rattle.std.specs.Cmp.{partial_equiv_from_equiv};
 ghost use Rattle.std.specs.Cmp.Lexicographic.{on_texts_equal};
 ghost use Rattle.std.specs.Str.{str_to_ascii_lowercase};
 ghost use Rattle.dns_wire.specs.Pieces.{whole_presses};
-ghost use Rattle.dns_wire.specs.Reading.{plain_at};
 ghost use Rattle.dns_record.specs.CharStrs.{IsShort, charstr_wire, octets_of, same_charstr};
 ghost use Rattle.dns_record.specs.CharStrTexts.{charstr_of};
 ghost use Rattle.dns_record.specs.Texts.{text};
 
 use crate::charstr::CharStr;
 use crate::charstr_error::CharStrParseError;
-use crate::charstr_storage::Storage;
 use dns_wire::{
-    BuildBytes, BuildInMessage, NameCompressor, ParseBytes, ParseError, ParseMessageBytes,
-    SplitBytes, SplitMessageBytes, TruncationError, build_whole, parse_without_compression,
-    split_without_compression,
+    BuildBytes, BuildInMessage, NameCompressor, ParseError, ReadPlainValue, SplitBytes, Storage,
+    TruncationError, build_whole,
 };
 use std::alloc::AllocError;
 use std::marker::Model;
@@ -32,12 +28,12 @@ const MAX_SIZE: usize = 255;
 /// memory.
 #[derive(Debug, Drop)]
 pub struct CharStrBuf {
-    storage: Storage,
+    storage: Storage<256>,
 }
 
 impl Model for CharStrBuf {
     ghost use Rattle.std.specs.Prelude.{◌≡◌, ◌<◌, ℕ, List, length, slice_index};
-    ghost use Rattle.dns_record.specs.CharStrStorage.{stored};
+    ghost use Rattle.dns_wire.specs.Storage.{stored};
 
     ghost Value = { List ℕ };
 
@@ -128,44 +124,18 @@ impl Clone for CharStrBuf {
     }
 }
 
-impl<'a> ParseBytes<'a> for CharStrBuf {
+impl<'a> ReadPlainValue<'a> for CharStrBuf {
     ghost Seen = { List ℕ };
 
     ghost seen = { λ v. v };
 
     ghost reads = { text };
 
-    ghost reads_at = { plain_at text };
-
     ghost leaves_rest = { text_leaves };
 
-    ghost ends_within = { plain_ends text text_leaves };
-
-    fn parse_bytes(bytes: &'a [u8]) -> Result<CharStrBuf, ParseError> {
-        let charstr = CharStr::parse_bytes(bytes)?;
-        Ok(CharStrBuf::copy_from(charstr))
-    }
-}
-
-impl<'a> SplitBytes<'a> for CharStrBuf {
-    fn split_bytes(bytes: &'a [u8]) -> Result<(CharStrBuf, &'a [u8]), ParseError> {
+    fn read_plain(bytes: &'a [u8]) -> Result<(CharStrBuf, &'a [u8]), ParseError> {
         let (charstr, rest) = CharStr::split_bytes(bytes)?;
         Ok((CharStrBuf::copy_from(charstr), rest))
-    }
-}
-
-impl<'a> ParseMessageBytes<'a> for CharStrBuf {
-    fn parse_message_bytes(contents: &'a [u8], start: usize) -> Result<CharStrBuf, ParseError> {
-        parse_without_compression(contents, start)
-    }
-}
-
-impl<'a> SplitMessageBytes<'a> for CharStrBuf {
-    fn split_message_bytes(
-        contents: &'a [u8],
-        start: usize,
-    ) -> Result<(CharStrBuf, usize), ParseError> {
-        split_without_compression(contents, start)
     }
 }
 

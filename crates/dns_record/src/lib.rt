@@ -6,7 +6,6 @@ mod charstr;
 mod charstr_buf;
 mod charstr_error;
 mod charstr_laws;
-mod charstr_storage;
 mod code_laws;
 mod laws;
 mod qclass;

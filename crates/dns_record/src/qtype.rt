@@ -1,16 +1,15 @@
 //! Types that a question asks for.
 
-ghost use Rattle.dns_wire.specs.Left.{number_leaves, plain_ends};
+ghost use Rattle.dns_wire.specs.Left.{number_leaves};
 ghost use Rattle.std.specs.Prelude.{◌≡◌, ℕ, [], None, ⊤, length};
 ghost use Rattle.std.specs.Int.{w16, to_be_bytes};
 ghost use Rattle.dns_wire.specs.Pieces.{whole_presses};
-ghost use Rattle.dns_wire.specs.Reading.{number, plain_at};
+ghost use Rattle.dns_wire.specs.Reading.{number};
 
 use dns_num::U16;
 use dns_wire::{
-    BuildBytes, BuildInMessage, NameCompressor, ParseBytes, ParseError, ParseMessageBytes,
-    SplitBytes, SplitMessageBytes, TruncationError, build_whole, parse_without_compression,
-    split_without_compression,
+    BuildBytes, BuildInMessage, NameCompressor, ParseError, ReadPlainValue, SplitBytes,
+    TruncationError, build_whole,
 };
 
 /// The type that a question asks for: two octets on the wire (RFC 1035 section 3.2.3).
@@ -170,41 +169,18 @@ impl From<QType> for u16 {
     }
 }
 
-impl<'a> ParseBytes<'a> for QType {
+impl<'a> ReadPlainValue<'a> for QType {
     ghost Seen = { ℕ };
 
     ghost seen = { λ v. v.code.value };
 
     ghost reads = { number w16 };
 
-    ghost reads_at = { plain_at (number w16) };
-
     ghost leaves_rest = { number_leaves w16 };
 
-    ghost ends_within = { plain_ends (number w16) (number_leaves w16) };
-
-    fn parse_bytes(bytes: &'a [u8]) -> Result<QType, ParseError> {
-        let code = U16::parse_bytes(bytes)?;
-        Ok(QType { code })
-    }
-}
-
-impl<'a> SplitBytes<'a> for QType {
-    fn split_bytes(bytes: &'a [u8]) -> Result<(QType, &'a [u8]), ParseError> {
+    fn read_plain(bytes: &'a [u8]) -> Result<(QType, &'a [u8]), ParseError> {
         let (code, rest) = U16::split_bytes(bytes)?;
         Ok((QType { code }, rest))
-    }
-}
-
-impl<'a> ParseMessageBytes<'a> for QType {
-    fn parse_message_bytes(contents: &'a [u8], start: usize) -> Result<QType, ParseError> {
-        parse_without_compression(contents, start)
-    }
-}
-
-impl<'a> SplitMessageBytes<'a> for QType {
-    fn split_message_bytes(contents: &'a [u8], start: usize) -> Result<(QType, usize), ParseError> {
-        split_without_compression(contents, start)
     }
 }
 

@@ -1,17 +1,16 @@
 //! Types of records.
 
-ghost use Rattle.dns_wire.specs.Left.{number_leaves, plain_ends};
+ghost use Rattle.dns_wire.specs.Left.{number_leaves};
 ghost use Rattle.std.specs.Prelude.{◌≡◌, ℕ, [], None, ⊤, length};
 ghost use Rattle.std.specs.Int.{w16, to_be_bytes};
 ghost use Rattle.dns_wire.specs.Pieces.{whole_presses};
-ghost use Rattle.dns_wire.specs.Reading.{number, plain_at};
+ghost use Rattle.dns_wire.specs.Reading.{number};
 ghost use Rattle.dns_record.specs.Types.{is_lowercased};
 
 use dns_num::U16;
 use dns_wire::{
-    BuildBytes, BuildInMessage, NameCompressor, ParseBytes, ParseError, ParseMessageBytes,
-    SplitBytes, SplitMessageBytes, TruncationError, build_whole, parse_without_compression,
-    split_without_compression,
+    BuildBytes, BuildInMessage, NameCompressor, ParseError, ReadPlainValue, SplitBytes,
+    TruncationError, build_whole,
 };
 
 /// The type of a record: two octets on the wire (RFC 1035 section 3.2.2).
@@ -164,41 +163,18 @@ impl From<RType> for u16 {
     }
 }
 
-impl<'a> ParseBytes<'a> for RType {
+impl<'a> ReadPlainValue<'a> for RType {
     ghost Seen = { ℕ };
 
     ghost seen = { λ v. v.code.value };
 
     ghost reads = { number w16 };
 
-    ghost reads_at = { plain_at (number w16) };
-
     ghost leaves_rest = { number_leaves w16 };
 
-    ghost ends_within = { plain_ends (number w16) (number_leaves w16) };
-
-    fn parse_bytes(bytes: &'a [u8]) -> Result<RType, ParseError> {
-        let code = U16::parse_bytes(bytes)?;
-        Ok(RType { code })
-    }
-}
-
-impl<'a> SplitBytes<'a> for RType {
-    fn split_bytes(bytes: &'a [u8]) -> Result<(RType, &'a [u8]), ParseError> {
+    fn read_plain(bytes: &'a [u8]) -> Result<(RType, &'a [u8]), ParseError> {
         let (code, rest) = U16::split_bytes(bytes)?;
         Ok((RType { code }, rest))
-    }
-}
-
-impl<'a> ParseMessageBytes<'a> for RType {
-    fn parse_message_bytes(contents: &'a [u8], start: usize) -> Result<RType, ParseError> {
-        parse_without_compression(contents, start)
-    }
-}
-
-impl<'a> SplitMessageBytes<'a> for RType {
-    fn split_message_bytes(contents: &'a [u8], start: usize) -> Result<(RType, usize), ParseError> {
-        split_without_compression(contents, start)
     }
 }
 

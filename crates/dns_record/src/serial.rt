@@ -1,18 +1,17 @@
 //! Serial numbers.
 
-ghost use Rattle.dns_wire.specs.Left.{number_leaves, plain_ends};
+ghost use Rattle.dns_wire.specs.Left.{number_leaves};
 ghost use Rattle.std.specs.Prelude.{◌≡◌, ◌≤ℤ◌, ◌+◌, ◌%◌, ◌^◌, ℕ, pos, [], Some, None, ⊤, length};
 ghost use Rattle.std.specs.Int.{w32, to_be_bytes};
 ghost use Rattle.std.specs.Fmt.{decimal};
 ghost use Rattle.dns_wire.specs.Pieces.{whole_presses};
-ghost use Rattle.dns_wire.specs.Reading.{number, plain_at};
+ghost use Rattle.dns_wire.specs.Reading.{number};
 ghost use Rattle.dns_record.specs.Serials.{serial_cmp};
 
 use dns_num::U32;
 use dns_wire::{
-    BuildBytes, BuildInMessage, NameCompressor, ParseBytes, ParseError, ParseMessageBytes,
-    SplitBytes, SplitMessageBytes, TruncationError, build_whole, parse_without_compression,
-    split_without_compression,
+    BuildBytes, BuildInMessage, NameCompressor, ParseError, ReadPlainValue, SplitBytes,
+    TruncationError, build_whole,
 };
 use std::cmp::Ordering;
 use std::fmt;
@@ -75,44 +74,18 @@ impl From<Serial> for u32 {
     }
 }
 
-impl<'a> ParseBytes<'a> for Serial {
+impl<'a> ReadPlainValue<'a> for Serial {
     ghost Seen = { ℕ };
 
     ghost seen = { λ v. v.0.value };
 
     ghost reads = { number w32 };
 
-    ghost reads_at = { plain_at (number w32) };
-
     ghost leaves_rest = { number_leaves w32 };
 
-    ghost ends_within = { plain_ends (number w32) (number_leaves w32) };
-
-    fn parse_bytes(bytes: &'a [u8]) -> Result<Serial, ParseError> {
-        let number = U32::parse_bytes(bytes)?;
-        Ok(Serial(number))
-    }
-}
-
-impl<'a> SplitBytes<'a> for Serial {
-    fn split_bytes(bytes: &'a [u8]) -> Result<(Serial, &'a [u8]), ParseError> {
+    fn read_plain(bytes: &'a [u8]) -> Result<(Serial, &'a [u8]), ParseError> {
         let (number, rest) = U32::split_bytes(bytes)?;
         Ok((Serial(number), rest))
-    }
-}
-
-impl<'a> ParseMessageBytes<'a> for Serial {
-    fn parse_message_bytes(contents: &'a [u8], start: usize) -> Result<Serial, ParseError> {
-        parse_without_compression(contents, start)
-    }
-}
-
-impl<'a> SplitMessageBytes<'a> for Serial {
-    fn split_message_bytes(
-        contents: &'a [u8],
-        start: usize,
-    ) -> Result<(Serial, usize), ParseError> {
-        split_without_compression(contents, start)
     }
 }
 

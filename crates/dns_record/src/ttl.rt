@@ -1,16 +1,15 @@
 //! Times to live.
 
-ghost use Rattle.dns_wire.specs.Left.{number_leaves, plain_ends};
+ghost use Rattle.dns_wire.specs.Left.{number_leaves};
 ghost use Rattle.std.specs.Prelude.{◌≡◌, ℕ, [], None, ⊤, length};
 ghost use Rattle.std.specs.Int.{w32, to_be_bytes};
 ghost use Rattle.dns_wire.specs.Pieces.{whole_presses};
-ghost use Rattle.dns_wire.specs.Reading.{number, plain_at};
+ghost use Rattle.dns_wire.specs.Reading.{number};
 
 use dns_num::U32;
 use dns_wire::{
-    BuildBytes, BuildInMessage, NameCompressor, ParseBytes, ParseError, ParseMessageBytes,
-    SplitBytes, SplitMessageBytes, TruncationError, build_whole, parse_without_compression,
-    split_without_compression,
+    BuildBytes, BuildInMessage, NameCompressor, ParseError, ReadPlainValue, SplitBytes,
+    TruncationError, build_whole,
 };
 
 /// For how many seconds a record may be kept: four octets on the wire (RFC 1035 section 3.2.1).
@@ -47,41 +46,18 @@ impl From<TTL> for u32 {
     }
 }
 
-impl<'a> ParseBytes<'a> for TTL {
+impl<'a> ReadPlainValue<'a> for TTL {
     ghost Seen = { ℕ };
 
     ghost seen = { λ v. v.value.value };
 
     ghost reads = { number w32 };
 
-    ghost reads_at = { plain_at (number w32) };
-
     ghost leaves_rest = { number_leaves w32 };
 
-    ghost ends_within = { plain_ends (number w32) (number_leaves w32) };
-
-    fn parse_bytes(bytes: &'a [u8]) -> Result<TTL, ParseError> {
-        let value = U32::parse_bytes(bytes)?;
-        Ok(TTL { value })
-    }
-}
-
-impl<'a> SplitBytes<'a> for TTL {
-    fn split_bytes(bytes: &'a [u8]) -> Result<(TTL, &'a [u8]), ParseError> {
+    fn read_plain(bytes: &'a [u8]) -> Result<(TTL, &'a [u8]), ParseError> {
         let (value, rest) = U32::split_bytes(bytes)?;
         Ok((TTL { value }, rest))
-    }
-}
-
-impl<'a> ParseMessageBytes<'a> for TTL {
-    fn parse_message_bytes(contents: &'a [u8], start: usize) -> Result<TTL, ParseError> {
-        parse_without_compression(contents, start)
-    }
-}
-
-impl<'a> SplitMessageBytes<'a> for TTL {
-    fn split_message_bytes(contents: &'a [u8], start: usize) -> Result<(TTL, usize), ParseError> {
-        split_without_compression(contents, start)
     }
 }
 

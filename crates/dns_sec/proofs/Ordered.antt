@@ -1,26 +1,15 @@
 -- The order of signatures: the numbers before the signer, the signer, and the signature, where the first that differs decides.
-use Rattle.std.proofs.Common.{◌≡◌, ◌<◌, ◌^◌, true, false, refl, sym, nat_cmp}
-use Rattle.std.specs.Ordering.{ordering_then, is_ne}
+use Rattle.std.proofs.Common.{◌≡◌, ◌<◌, ◌^◌, true, sym, nat_cmp}
+use Rattle.std.specs.Ordering.{ordering_then}
 use Rattle.std.specs.Cmp.Lexicographic.{slice_cmp}
 use Rattle.std.specs.declared.cmp.Ordering.{Ordering}
-use Rattle.std.specs.declared.cmp.Ordering.TheVariants.{Less, Equal, Greater}
-use Rattle.dns_wire.specs.Names.{IsName, labels_of}
+use Rattle.dns_wire.specs.Names.{IsName, name_labels}
 use Rattle.dns_name.specs.Composed.{lowercase_composed_cmp}
 use Rattle.dns_record.specs.Canonical.{ranked_cmp}
 use Rattle.dns_record.specs.Fields.{canonical_octets}
 use Rattle.dns_record.proofs.Compared.{fields_compared, then_assoc}
 use Rattle.dns_sec.specs.Types.{rrsig_fields}
 use Rattle.dns_sec.specs.declared.rrsig.Rrsig.{Rrsig}
-
-pub decided : (first later : Ordering) → is_ne first ≡ true → first ≡ ordering_then first later
-decided Less later e = refl
-decided Equal later e = absurd (cc)
-decided Greater later e = refl
-
-pub undecided : (first later : Ordering) → is_ne first ≡ false → later ≡ ordering_then first later
-undecided Less later e = absurd (cc)
-undecided Equal later e = refl
-undecided Greater later e = absurd (cc)
 
 -- the numbers fit their widths, and the signer is a name
 pub record IsWell (v : Rrsig) : Type 0 where
@@ -29,14 +18,14 @@ pub record IsWell (v : Rrsig) : Type 0 where
   pub expiration : v.expiration.0.value < 2 ^ 32
   pub inception : v.inception.0.value < 2 ^ 32
   pub keytag : v.keytag.value < 2 ^ 16
-  pub signer : IsName (labels_of v.signer.slice.now)
+  pub signer : IsName (name_labels v.signer.slice.now)
 
 abbrev pub fixed_cmp : Rrsig → Rrsig → Ordering
 fixed_cmp v w =
     ordering_then (ordering_then (ordering_then (ordering_then (ordering_then (ordering_then (nat_cmp v.rtype.code.value w.rtype.code.value) (nat_cmp v.algorithm.code w.algorithm.code)) (nat_cmp v.labels w.labels)) (nat_cmp v.ttl.value.value w.ttl.value.value)) (nat_cmp v.expiration.0.value w.expiration.0.value)) (nat_cmp v.inception.0.value w.inception.0.value)) (nat_cmp v.keytag.value w.keytag.value)
 
 abbrev pub signed_cmp : Rrsig → Rrsig → Ordering
-signed_cmp v w = ordering_then (lowercase_composed_cmp (labels_of v.signer.slice.now) (labels_of w.signer.slice.now)) (slice_cmp nat_cmp v.signature.now w.signature.now)
+signed_cmp v w = ordering_then (lowercase_composed_cmp (name_labels v.signer.slice.now) (name_labels w.signer.slice.now)) (slice_cmp nat_cmp v.signature.now w.signature.now)
 
 pub signatures_compared : (v w : Rrsig) → IsWell v → IsWell w → ordering_then (fixed_cmp v w) (signed_cmp v w) ≡ ranked_cmp 0 0 (canonical_octets 46 (rrsig_fields v)) (canonical_octets 46 (rrsig_fields w))
 signatures_compared v w p q =

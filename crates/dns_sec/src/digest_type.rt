@@ -1,14 +1,13 @@
 //! Digests of keys.
 
-ghost use Rattle.dns_wire.specs.Left.{octet_leaves, plain_ends};
+ghost use Rattle.dns_wire.specs.Left.{octet_leaves};
 ghost use Rattle.std.specs.Prelude.{◌≡◌, ℕ, [], ◌∷◌, None, ⊤};
 ghost use Rattle.dns_wire.specs.Pieces.{whole_presses};
-ghost use Rattle.dns_wire.specs.Reading.{octet, plain_at};
+ghost use Rattle.dns_wire.specs.Reading.{octet};
 
 use dns_wire::{
-    BuildBytes, BuildInMessage, NameCompressor, ParseBytes, ParseError, ParseMessageBytes,
-    SplitBytes, SplitMessageBytes, TruncationError, build_whole, parse_without_compression,
-    split_without_compression,
+    BuildBytes, BuildInMessage, NameCompressor, ParseError, ReadPlainValue, SplitBytes,
+    TruncationError, build_whole,
 };
 
 /// How a key is digested: one octet on the wire (RFC 4034 appendix A.2).
@@ -23,44 +22,18 @@ impl DigestType {
     pub const SHA1: DigestType = DigestType { code: 1 };
 }
 
-impl<'a> ParseBytes<'a> for DigestType {
+impl<'a> ReadPlainValue<'a> for DigestType {
     ghost Seen = { ℕ };
 
     ghost seen = { λ v. v.code };
 
     ghost reads = { octet };
 
-    ghost reads_at = { plain_at octet };
-
     ghost leaves_rest = { octet_leaves };
 
-    ghost ends_within = { plain_ends octet octet_leaves };
-
-    fn parse_bytes(bytes: &'a [u8]) -> Result<DigestType, ParseError> {
-        let code = u8::parse_bytes(bytes)?;
-        Ok(DigestType { code })
-    }
-}
-
-impl<'a> SplitBytes<'a> for DigestType {
-    fn split_bytes(bytes: &'a [u8]) -> Result<(DigestType, &'a [u8]), ParseError> {
+    fn read_plain(bytes: &'a [u8]) -> Result<(DigestType, &'a [u8]), ParseError> {
         let (code, rest) = u8::split_bytes(bytes)?;
         Ok((DigestType { code }, rest))
-    }
-}
-
-impl<'a> ParseMessageBytes<'a> for DigestType {
-    fn parse_message_bytes(contents: &'a [u8], start: usize) -> Result<DigestType, ParseError> {
-        parse_without_compression(contents, start)
-    }
-}
-
-impl<'a> SplitMessageBytes<'a> for DigestType {
-    fn split_message_bytes(
-        contents: &'a [u8],
-        start: usize,
-    ) -> Result<(DigestType, usize), ParseError> {
-        split_without_compression(contents, start)
     }
 }
 

@@ -1,18 +1,17 @@
 //! What a key is for.
 
-ghost use Rattle.dns_wire.specs.Left.{number_leaves, plain_ends};
+ghost use Rattle.dns_wire.specs.Left.{number_leaves};
 ghost use Rattle.std.specs.Prelude.{◌≡◌, ◌≢◌, ◌<◌, ◌^◌, ◌↔◌, ℕ, [], None, IsTrue, if◌then◌else◌, ⊤};
 ghost use Rattle.std.specs.Int.{w16, bit_at, to_be_bytes};
 ghost use Rattle.std.specs.Ordering.{nat_cmp};
 ghost use Rattle.dns_wire.specs.Pieces.{whole_presses};
-ghost use Rattle.dns_wire.specs.Reading.{number, plain_at};
+ghost use Rattle.dns_wire.specs.Reading.{number};
 ghost use Rattle.dns_sec.specs.Flags.{key_flag_bits};
 
 use dns_num::U16;
 use dns_wire::{
-    BuildBytes, BuildInMessage, NameCompressor, ParseBytes, ParseError, ParseMessageBytes,
-    SplitBytes, SplitMessageBytes, TruncationError, build_whole, parse_without_compression,
-    split_without_compression,
+    BuildBytes, BuildInMessage, NameCompressor, ParseError, ReadPlainValue, SplitBytes,
+    TruncationError, build_whole,
 };
 use std::cmp::Ordering;
 
@@ -72,44 +71,18 @@ impl DNSKeyFlags {
     }
 }
 
-impl<'a> ParseBytes<'a> for DNSKeyFlags {
+impl<'a> ReadPlainValue<'a> for DNSKeyFlags {
     ghost Seen = { ℕ };
 
     ghost seen = { key_flag_bits };
 
     ghost reads = { number w16 };
 
-    ghost reads_at = { plain_at (number w16) };
-
     ghost leaves_rest = { number_leaves w16 };
 
-    ghost ends_within = { plain_ends (number w16) (number_leaves w16) };
-
-    fn parse_bytes(bytes: &'a [u8]) -> Result<DNSKeyFlags, ParseError> {
-        let bits = U16::parse_bytes(bytes)?;
-        Ok(DNSKeyFlags { bits })
-    }
-}
-
-impl<'a> SplitBytes<'a> for DNSKeyFlags {
-    fn split_bytes(bytes: &'a [u8]) -> Result<(DNSKeyFlags, &'a [u8]), ParseError> {
+    fn read_plain(bytes: &'a [u8]) -> Result<(DNSKeyFlags, &'a [u8]), ParseError> {
         let (bits, rest) = U16::split_bytes(bytes)?;
         Ok((DNSKeyFlags { bits }, rest))
-    }
-}
-
-impl<'a> ParseMessageBytes<'a> for DNSKeyFlags {
-    fn parse_message_bytes(contents: &'a [u8], start: usize) -> Result<DNSKeyFlags, ParseError> {
-        parse_without_compression(contents, start)
-    }
-}
-
-impl<'a> SplitMessageBytes<'a> for DNSKeyFlags {
-    fn split_message_bytes(
-        contents: &'a [u8],
-        start: usize,
-    ) -> Result<(DNSKeyFlags, usize), ParseError> {
-        split_without_compression(contents, start)
     }
 }
 

@@ -1,14 +1,13 @@
 //! Algorithms of keys and signatures.
 
-ghost use Rattle.dns_wire.specs.Left.{octet_leaves, plain_ends};
+ghost use Rattle.dns_wire.specs.Left.{octet_leaves};
 ghost use Rattle.std.specs.Prelude.{◌≡◌, ℕ, [], ◌∷◌, None, ⊤};
 ghost use Rattle.dns_wire.specs.Pieces.{whole_presses};
-ghost use Rattle.dns_wire.specs.Reading.{octet, plain_at};
+ghost use Rattle.dns_wire.specs.Reading.{octet};
 
 use dns_wire::{
-    BuildBytes, BuildInMessage, NameCompressor, ParseBytes, ParseError, ParseMessageBytes,
-    SplitBytes, SplitMessageBytes, TruncationError, build_whole, parse_without_compression,
-    split_without_compression,
+    BuildBytes, BuildInMessage, NameCompressor, ParseError, ReadPlainValue, SplitBytes,
+    TruncationError, build_whole,
 };
 
 /// The algorithm of a key and of the signatures by it: one octet on the wire (RFC 4034 appendix A.1).
@@ -26,44 +25,18 @@ impl SecAlg {
     pub const RSA_SHA1: SecAlg = SecAlg { code: 5 };
 }
 
-impl<'a> ParseBytes<'a> for SecAlg {
+impl<'a> ReadPlainValue<'a> for SecAlg {
     ghost Seen = { ℕ };
 
     ghost seen = { λ v. v.code };
 
     ghost reads = { octet };
 
-    ghost reads_at = { plain_at octet };
-
     ghost leaves_rest = { octet_leaves };
 
-    ghost ends_within = { plain_ends octet octet_leaves };
-
-    fn parse_bytes(bytes: &'a [u8]) -> Result<SecAlg, ParseError> {
-        let code = u8::parse_bytes(bytes)?;
-        Ok(SecAlg { code })
-    }
-}
-
-impl<'a> SplitBytes<'a> for SecAlg {
-    fn split_bytes(bytes: &'a [u8]) -> Result<(SecAlg, &'a [u8]), ParseError> {
+    fn read_plain(bytes: &'a [u8]) -> Result<(SecAlg, &'a [u8]), ParseError> {
         let (code, rest) = u8::split_bytes(bytes)?;
         Ok((SecAlg { code }, rest))
-    }
-}
-
-impl<'a> ParseMessageBytes<'a> for SecAlg {
-    fn parse_message_bytes(contents: &'a [u8], start: usize) -> Result<SecAlg, ParseError> {
-        parse_without_compression(contents, start)
-    }
-}
-
-impl<'a> SplitMessageBytes<'a> for SecAlg {
-    fn split_message_bytes(
-        contents: &'a [u8],
-        start: usize,
-    ) -> Result<(SecAlg, usize), ParseError> {
-        split_without_compression(contents, start)
     }
 }
 

@@ -1,14 +1,13 @@
 //! Digests of zones.
 
-ghost use Rattle.dns_wire.specs.Left.{octet_leaves, plain_ends};
+ghost use Rattle.dns_wire.specs.Left.{octet_leaves};
 ghost use Rattle.std.specs.Prelude.{◌≡◌, ℕ, [], ◌∷◌, None, ⊤};
 ghost use Rattle.dns_wire.specs.Pieces.{whole_presses};
-ghost use Rattle.dns_wire.specs.Reading.{octet, plain_at};
+ghost use Rattle.dns_wire.specs.Reading.{octet};
 
 use dns_wire::{
-    BuildBytes, BuildInMessage, NameCompressor, ParseBytes, ParseError, ParseMessageBytes,
-    SplitBytes, SplitMessageBytes, TruncationError, build_whole, parse_without_compression,
-    split_without_compression,
+    BuildBytes, BuildInMessage, NameCompressor, ParseError, ReadPlainValue, SplitBytes,
+    TruncationError, build_whole,
 };
 
 /// How a zone is digested: one octet on the wire (RFC 8976 section 2.2.3).
@@ -26,44 +25,18 @@ impl ZoneMDHashAlg {
     pub const SHA512: ZoneMDHashAlg = ZoneMDHashAlg { code: 2 };
 }
 
-impl<'a> ParseBytes<'a> for ZoneMDHashAlg {
+impl<'a> ReadPlainValue<'a> for ZoneMDHashAlg {
     ghost Seen = { ℕ };
 
     ghost seen = { λ v. v.code };
 
     ghost reads = { octet };
 
-    ghost reads_at = { plain_at octet };
-
     ghost leaves_rest = { octet_leaves };
 
-    ghost ends_within = { plain_ends octet octet_leaves };
-
-    fn parse_bytes(bytes: &'a [u8]) -> Result<ZoneMDHashAlg, ParseError> {
-        let code = u8::parse_bytes(bytes)?;
-        Ok(ZoneMDHashAlg { code })
-    }
-}
-
-impl<'a> SplitBytes<'a> for ZoneMDHashAlg {
-    fn split_bytes(bytes: &'a [u8]) -> Result<(ZoneMDHashAlg, &'a [u8]), ParseError> {
+    fn read_plain(bytes: &'a [u8]) -> Result<(ZoneMDHashAlg, &'a [u8]), ParseError> {
         let (code, rest) = u8::split_bytes(bytes)?;
         Ok((ZoneMDHashAlg { code }, rest))
-    }
-}
-
-impl<'a> ParseMessageBytes<'a> for ZoneMDHashAlg {
-    fn parse_message_bytes(contents: &'a [u8], start: usize) -> Result<ZoneMDHashAlg, ParseError> {
-        parse_without_compression(contents, start)
-    }
-}
-
-impl<'a> SplitMessageBytes<'a> for ZoneMDHashAlg {
-    fn split_message_bytes(
-        contents: &'a [u8],
-        start: usize,
-    ) -> Result<(ZoneMDHashAlg, usize), ParseError> {
-        split_without_compression(contents, start)
     }
 }
 

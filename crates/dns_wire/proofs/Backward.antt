@@ -7,7 +7,7 @@ use Rattle.std.proofs.lemmas.List.{take_at, drop_at, length-append, append-nil, 
 use Rattle.std.specs.Char.{to_ascii_lowercase}
 use Rattle.std.specs.Str.{str_to_ascii_lowercase}
 use Rattle.dns_wire.specs.Names.{heads, wire, IsLabel, IsName, lowered}
-use Rattle.dns_wire.specs.Reversed.{label_row, row_labels, reversed_wire, reversed_name, reversed_labels_of}
+use Rattle.dns_wire.specs.Reversed.{label_row, row_labels, reversed_wire, reversed_name, reversed_name_labels}
 use Rattle.dns_wire.proofs.Spelled.{chosen, name_octets, labels_of_wire}
 use Rattle.dns_wire.proofs.Lowered.{lower_wire}
 use Rattle.dns_wire.proofs.Walk.{AllByRecursion-append, heads-append, heads_long, wire_long}
@@ -118,16 +118,16 @@ reversed_is (size ∷ row) labels e =
     ]
 
 -- the labels of octets that are read
-pub reversed_labels : (labels : List (List ℕ)) → IsName labels → reversed_labels_of (reversed_wire labels) ≡ labels
+pub reversed_labels : (labels : List (List ℕ)) → IsName labels → reversed_name_labels (reversed_wire labels) ≡ labels
 reversed_labels labels is = ap (λ (read : Option (List (List ℕ))). unwrap_or read []) (reversed_read labels is)
 
 -- behind the root stand the labels from the last to the first
-pub row_behind_root : (bytes : List ℕ) → reversed_name bytes ≡ Some (reversed_labels_of bytes) → (label_row (drop 1 bytes) ≡ Some (row_labels (drop 1 bytes))) × (row_labels (drop 1 bytes) ≡ reverse (reversed_labels_of bytes))
+pub row_behind_root : (bytes : List ℕ) → reversed_name bytes ≡ Some (reversed_name_labels bytes) → (label_row (drop 1 bytes) ≡ Some (row_labels (drop 1 bytes))) × (row_labels (drop 1 bytes) ≡ reverse (reversed_name_labels bytes))
 row_behind_root bytes e =
-    let t = reversed_is bytes (reversed_labels_of bytes) e in
-    let again = row_read (reverse (reversed_labels_of bytes)) (name_reversed (reversed_labels_of bytes) t.0) in
-    let row : drop 1 bytes ≡ heads (reverse (reversed_labels_of bytes)) = ap (drop 1) t.1 in
-    let labels : row_labels (drop 1 bytes) ≡ reverse (reversed_labels_of bytes) = ap row_labels row ∙ again.1 in
+    let t = reversed_is bytes (reversed_name_labels bytes) e in
+    let again = row_read (reverse (reversed_name_labels bytes)) (name_reversed (reversed_name_labels bytes) t.0) in
+    let row : drop 1 bytes ≡ heads (reverse (reversed_name_labels bytes)) = ap (drop 1) t.1 in
+    let labels : row_labels (drop 1 bytes) ≡ reverse (reversed_name_labels bytes) = ap row_labels row ∙ again.1 in
     (ap label_row row ∙ again.0 ∙ ap Some (sym labels), labels)
 
 -- there are as many octets in both layouts

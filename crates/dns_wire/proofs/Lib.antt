@@ -2,6 +2,7 @@
 pub mod AtPlaces
 pub mod Alike
 pub mod Backward
+pub mod Cells
 pub mod Cutting
 pub mod Digits
 pub mod Ended
@@ -20,6 +21,7 @@ pub mod Runs
 pub mod Several
 pub mod Spelled
 pub mod Standing
+pub mod Stored
 pub mod Successive
 pub mod Suffixes
 pub mod Told

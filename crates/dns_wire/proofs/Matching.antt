@@ -13,7 +13,7 @@ use Rattle.dns_wire.specs.Reading.{all_of}
 use Rattle.dns_wire.specs.declared.follow.Head.{Head}
 use Rattle.dns_wire.specs.declared.follow.Head.TheVariants.{Root, Label, Pointer}
 use Rattle.std.specs.List.{AllByRecursion}
-use Rattle.dns_wire.specs.Names.{heads, IsLabel, plain_name, labels_of}
+use Rattle.dns_wire.specs.Names.{heads, IsLabel, plain_name, name_labels}
 use Rattle.dns_wire.specs.Pointers.{head_at, joined, after_head, segment_within, name_at}
 use Rattle.dns_wire.specs.Compression.{reads_as, stands_at}
 use Rattle.dns_wire.specs.Searching.{FirstOf, count_more, count_at}
@@ -23,7 +23,7 @@ use Rattle.dns_wire.proofs.Walk.{wire_long}
 
 -- ---- the first label of a name's octets
 
-pub first_of_name : (name label rest : List ℕ) → all_of (plain_name name) ≡ Some (labels_of name) → 0 < get_or name 0 0 → label ≡ take (get_or name 0 0) (drop 1 name) → rest ≡ drop (get_or name 0 0) (drop 1 name) → FirstOf name label rest
+pub first_of_name : (name label rest : List ℕ) → all_of (plain_name name) ≡ Some (name_labels name) → 0 < get_or name 0 0 → label ≡ take (get_or name 0 0) (drop 1 name) → rest ≡ drop (get_or name 0 0) (drop 1 name) → FirstOf name label rest
 first_of_name name label rest is some label_is rest_is =
     let first : FirstLabel name (get_or name 0 0) = first_label name is some in
     let long : length (take (get_or name 0 0) (drop 1 name)) ≡ get_or name 0 0 = omega (arith, length-take (get_or name 0 0) (drop 1 name), length-drop 1 name, first.room) in
@@ -47,38 +47,38 @@ pred_less (suc n) some = omega arith
 
 -- whether the labels stand at the place is whether the name that is left stands at another
 pub record Matches (contents : List ℕ) (labels : List (List ℕ)) (place : ℕ) (rest : List ℕ) (segment at : ℕ) : Type 0 where
-  pub whole : all_of (plain_name rest) ≡ Some (labels_of rest)
+  pub whole : all_of (plain_name rest) ≡ Some (name_labels rest)
   pub steps : ℕ
   pub room : length rest + segment < steps
-  pub same : stands_at contents labels place ≡ reads_as (labels_of rest) (segment_within steps contents segment at)
+  pub same : stands_at contents labels place ≡ reads_as (name_labels rest) (segment_within steps contents segment at)
 
-pub matches_none : (contents name : List ℕ) (place : ℕ) → all_of (plain_name name) ≡ Some (labels_of name) → Matches contents (labels_of name) place name place place
+pub matches_none : (contents name : List ℕ) (place : ℕ) → all_of (plain_name name) ≡ Some (name_labels name) → Matches contents (name_labels name) place name place place
 unfolding stands_at name_at
 matches_none contents name place is =
-    let t = name_octets name (labels_of name) is in
-    record { whole = is; steps = 256 + place; room = omega (arith, name_short name (labels_of name) is); same = short_reads (labels_of name) (segment_within (256 + place) contents place place) t.0.size }
+    let t = name_octets name (name_labels name) is in
+    record { whole = is; steps = 256 + place; room = omega (arith, name_short name (name_labels name) is); same = short_reads (name_labels name) (segment_within (256 + place) contents place place) t.0.size }
 
 module _ (contents : List ℕ) (labels : List (List ℕ)) (place : ℕ) (rest : List ℕ) (segment at : ℕ) (m : Matches contents labels place rest segment at) where
-  by_head : (head : Option Head) → head_at contents segment at ≡ head → stands_at contents labels place ≡ reads_as (labels_of rest) (after_head (segment_within (pred m.steps) contents) contents segment at head)
-  by_head head is = m.same ∙ ap (reads_as (labels_of rest)) (unrolled m.steps contents segment at (omega (arith, m.room)) ∙ ap (after_head (segment_within (pred m.steps) contents) contents segment at) is)
+  by_head : (head : Option Head) → head_at contents segment at ≡ head → stands_at contents labels place ≡ reads_as (name_labels rest) (after_head (segment_within (pred m.steps) contents) contents segment at head)
+  by_head head is = m.same ∙ ap (reads_as (name_labels rest)) (unrolled m.steps contents segment at (omega (arith, m.room)) ∙ ap (after_head (segment_within (pred m.steps) contents) contents segment at) is)
 
   pub matches_bad : head_at contents segment at ≡ None → false ≡ stands_at contents labels place
   matches_bad is = sym (by_head None is)
 
-  pub matches_root : head_at contents segment at ≡ Some Root → labels_of rest ≡ [] → true ≡ stands_at contents labels place
+  pub matches_root : head_at contents segment at ≡ Some Root → name_labels rest ≡ [] → true ≡ stands_at contents labels place
   matches_root is none = sym (by_head (Some Root) is ∙ ap (λ (l : List (List ℕ)). reads_as l (Some ([], at + 1))) none)
 
   pub matches_short : (label next : List ℕ) → head_at contents segment at ≡ Some Root → FirstOf rest label next → false ≡ stands_at contents labels place
   matches_short label next is first = sym (by_head (Some Root) is ∙ ap (λ (l : List (List ℕ)). reads_as l (Some ([], at + 1))) first.labels)
 
-  pub matches_long : (size : ℕ) → head_at contents segment at ≡ Some (Label size) → labels_of rest ≡ [] → false ≡ stands_at contents labels place
+  pub matches_long : (size : ℕ) → head_at contents segment at ≡ Some (Label size) → name_labels rest ≡ [] → false ≡ stands_at contents labels place
   matches_long size is none = sym (by_head (Some (Label size)) is ∙ ap (λ (l : List (List ℕ)). reads_as l (joined (take size (drop (at + 1) contents) ∷ []) None (segment_within (pred m.steps) contents segment (at + 1 + size)))) none ∙ past (segment_within (pred m.steps) contents segment (at + 1 + size))) where
     past : (read : Found) → reads_as [] (joined (take size (drop (at + 1) contents) ∷ []) None read) ≡ false
     past None = refl
     past (Some found) = refl
 
   -- the same, by whether there is a first label
-  pub matches_ended : {A : Type 0} (label next : A → List ℕ) (first : Option A) (r : Bool) → head_at contents segment at ≡ Some Root → MatchOption first (labels_of rest ≡ []) (λ x. FirstOf rest (label x) (next x)) → is_some first ≡ not r → r ≡ stands_at contents labels place
+  pub matches_ended : {A : Type 0} (label next : A → List ℕ) (first : Option A) (r : Bool) → head_at contents segment at ≡ Some Root → MatchOption first (name_labels rest ≡ []) (λ x. FirstOf rest (label x) (next x)) → is_some first ≡ not r → r ≡ stands_at contents labels place
   matches_ended label next None true is first e = matches_root is first
   matches_ended label next None false is first e = absurd cc
   matches_ended label next (Some x) true is first e = absurd cc
@@ -91,11 +91,11 @@ module _ (contents : List ℕ) (labels : List (List ℕ)) (place : ℕ) (rest : 
     no false = refl
   both label other others (Some found) = refl
 
-  pub matches_label : (size : ℕ) (label next : List ℕ) → head_at contents segment at ≡ Some (Label size) → FirstOf rest label next → stands_at contents labels place ≡ (str_eq_ignore_ascii_case label (take size (drop (at + 1) contents)) && reads_as (labels_of next) (segment_within (pred m.steps) contents segment (at + 1 + size)))
+  pub matches_label : (size : ℕ) (label next : List ℕ) → head_at contents segment at ≡ Some (Label size) → FirstOf rest label next → stands_at contents labels place ≡ (str_eq_ignore_ascii_case label (take size (drop (at + 1) contents)) && reads_as (name_labels next) (segment_within (pred m.steps) contents segment (at + 1 + size)))
   matches_label size label next is first =
       by_head (Some (Label size)) is
       ∙ ap (λ (l : List (List ℕ)). reads_as l (joined (take size (drop (at + 1) contents) ∷ []) None (segment_within (pred m.steps) contents segment (at + 1 + size)))) first.labels
-      ∙ both label (take size (drop (at + 1) contents)) (labels_of next) (segment_within (pred m.steps) contents segment (at + 1 + size))
+      ∙ both label (take size (drop (at + 1) contents)) (name_labels next) (segment_within (pred m.steps) contents segment (at + 1 + size))
 
   pub matches_next : (size : ℕ) (label next : List ℕ) → head_at contents segment at ≡ Some (Label size) → FirstOf rest label next → str_eq_ignore_ascii_case label (take size (drop (at + 1) contents)) ≡ true → Matches contents labels place next segment (at + 1 + size)
   matches_next size label next is first equal =
@@ -103,12 +103,12 @@ module _ (contents : List ℕ) (labels : List (List ℕ)) (place : ℕ) (rest : 
         whole = first.whole;
         steps = pred m.steps;
         room = omega (arith, m.room, ap length first.parts, length-append label next, pred_less m.steps (omega (arith, m.room)));
-        same = (matches_label size label next is first ∙ ap (λ (b : Bool). b && reads_as (labels_of next) (segment_within (pred m.steps) contents segment (at + 1 + size))) equal);
+        same = (matches_label size label next is first ∙ ap (λ (b : Bool). b && reads_as (name_labels next) (segment_within (pred m.steps) contents segment (at + 1 + size))) equal);
       }
 
   pub matches_other : (size : ℕ) (label next : List ℕ) → head_at contents segment at ≡ Some (Label size) → FirstOf rest label next → str_eq_ignore_ascii_case label (take size (drop (at + 1) contents)) ≡ false → false ≡ stands_at contents labels place
   matches_other size label next is first differ =
-      sym (matches_label size label next is first ∙ ap (λ (b : Bool). b && reads_as (labels_of next) (segment_within (pred m.steps) contents segment (at + 1 + size))) differ)
+      sym (matches_label size label next is first ∙ ap (λ (b : Bool). b && reads_as (name_labels next) (segment_within (pred m.steps) contents segment (at + 1 + size))) differ)
 
   pub matches_pointer : (target : ℕ) → head_at contents segment at ≡ Some (Pointer target) → target < segment → Matches contents labels place rest target target
   matches_pointer target is before =
@@ -118,7 +118,7 @@ module _ (contents : List ℕ) (labels : List (List ℕ)) (place : ℕ) (rest : 
         room = omega (arith, m.room, pred_less m.steps (omega (arith, m.room)));
         same = by_head (Some (Pointer target)) is ∙ through (segment_within (pred m.steps) contents target target);
       } where
-        through : (read : Found) → reads_as (labels_of rest) (joined [] (Some (at + 2)) read) ≡ reads_as (labels_of rest) read
+        through : (read : Found) → reads_as (name_labels rest) (joined [] (Some (at + 2)) read) ≡ reads_as (name_labels rest) read
         through None = refl
         through (Some found) = refl
 
@@ -144,8 +144,8 @@ heads_twice [] sizes = omega arith
 heads_twice (label ∷ labels) sizes = omega (arith, heads_twice labels sizes.1, sizes.0.0, length-append label (heads labels))
 
 -- each label takes two octets at least
-pub name_few : (bytes : List ℕ) → all_of (plain_name bytes) ≡ Some (labels_of bytes) → length (labels_of bytes) < 128
-name_few bytes e = let t = name_octets bytes (labels_of bytes) e in omega (arith, heads_twice (labels_of bytes) t.0.sizes, t.0.size, wire_long (labels_of bytes))
+pub name_few : (bytes : List ℕ) → all_of (plain_name bytes) ≡ Some (name_labels bytes) → length (name_labels bytes) < 128
+name_few bytes e = let t = name_octets bytes (name_labels bytes) e in omega (arith, heads_twice (name_labels bytes) t.0.sizes, t.0.size, wire_long (name_labels bytes))
 
 -- as many labels as were seen, and those that are left
 pub record Counting (contents : List ℕ) (place most seen segment at : ℕ) : Type 0 where

@@ -7,7 +7,7 @@ use Rattle.std.proofs.lemmas.Bool.{ltb-false}
 use Rattle.std.proofs.lemmas.List.{take_at, drop_at, take-append-drop, length-append, length-take, append-nil}
 use Rattle.std.proofs.lemmas.Option.{some_pair_parts}
 use Rattle.dns_wire.specs.Reading.{all_of}
-use Rattle.dns_wire.specs.Names.{heads, wire, IsLabel, IsName, after_labels, labels_within, up_to_255, plain_name, labels_of}
+use Rattle.dns_wire.specs.Names.{heads, wire, IsLabel, IsName, after_labels, labels_within, up_to_255, plain_name, name_labels}
 use Rattle.dns_wire.proofs.Walk.{Read, plain_wire, wire_long}
 
 -- the two cases of a choice that gives z
@@ -90,15 +90,15 @@ name_short bytes labels e = let t = name_octets bytes labels e in omega (arith, 
 
 pub record FirstLabel (bytes : List ℕ) (size : ℕ) : Type 0 where
   pub room : size + 1 < length bytes
-  pub labels : labels_of bytes ≡ take size (drop 1 bytes) ∷ labels_of (drop size (drop 1 bytes))
-  pub whole : all_of (plain_name (drop size (drop 1 bytes))) ≡ Some (labels_of (drop size (drop 1 bytes)))
+  pub labels : name_labels bytes ≡ take size (drop 1 bytes) ∷ name_labels (drop size (drop 1 bytes))
+  pub whole : all_of (plain_name (drop size (drop 1 bytes))) ≡ Some (name_labels (drop size (drop 1 bytes)))
 
 pub name_nonempty : (bytes : List ℕ) (labels : List (List ℕ)) → all_of (plain_name bytes) ≡ Some labels → 0 < length bytes
 name_nonempty bytes labels e = let t = name_octets bytes labels e in omega (arith, ap length t.1, wire_long labels)
 
 -- the labels of a name's octets
-pub labels_of_wire : (labels : List (List ℕ)) → IsName labels → (all_of (plain_name (wire labels)) ≡ Some labels) × (labels_of (wire labels) ≡ labels)
-unfolding labels_of
+pub labels_of_wire : (labels : List (List ℕ)) → IsName labels → (all_of (plain_name (wire labels)) ≡ Some labels) × (name_labels (wire labels) ≡ labels)
+unfolding name_labels
 labels_of_wire labels is =
     let read : plain_name (wire labels) ≡ Some (labels, []) = ap plain_name (sym (append-nil (wire labels))) ∙ plain_wire labels [] is.sizes is.size in
     (ap all_of read, ap (λ (o : Option (List (List ℕ))). unwrap_or o []) (ap all_of read))
@@ -117,16 +117,16 @@ first_of (label ∷ labels) size is at_front some =
       whole = rw (behind, again.1) again.0;
     }
 
-pub first_label : (bytes : List ℕ) → all_of (plain_name bytes) ≡ Some (labels_of bytes) → 0 < get_or bytes 0 0 → FirstLabel bytes (get_or bytes 0 0)
+pub first_label : (bytes : List ℕ) → all_of (plain_name bytes) ≡ Some (name_labels bytes) → 0 < get_or bytes 0 0 → FirstLabel bytes (get_or bytes 0 0)
 first_label bytes e some =
-    let t = name_octets bytes (labels_of bytes) e in
-    subst (λ (b : List ℕ). 0 < get_or b 0 0 → FirstLabel b (get_or b 0 0)) (sym t.1) (first_of (labels_of bytes) _ t.0 refl) some
+    let t = name_octets bytes (name_labels bytes) e in
+    subst (λ (b : List ℕ). 0 < get_or b 0 0 → FirstLabel b (get_or b 0 0)) (sym t.1) (first_of (name_labels bytes) _ t.0 refl) some
 
 only_root : (labels : List (List ℕ)) → IsName labels → get_or (wire labels) 0 0 ≡ 0 → labels ≡ []
 only_root [] is e = refl
 only_root (label ∷ labels) is e = absurd (omega (arith, is.sizes.0.0))
 
-pub root_first : (bytes : List ℕ) → all_of (plain_name bytes) ≡ Some (labels_of bytes) → get_or bytes 0 0 ≡ 0 → labels_of bytes ≡ []
+pub root_first : (bytes : List ℕ) → all_of (plain_name bytes) ≡ Some (name_labels bytes) → get_or bytes 0 0 ≡ 0 → name_labels bytes ≡ []
 root_first bytes e at_front =
-    let t = name_octets bytes (labels_of bytes) e in
-    only_root (labels_of bytes) t.0 (subst (λ (b : List ℕ). get_or b 0 0 ≡ 0) t.1 at_front)
+    let t = name_octets bytes (name_labels bytes) e in
+    only_root (name_labels bytes) t.0 (subst (λ (b : List ℕ). get_or b 0 0 ≡ 0) t.1 at_front)

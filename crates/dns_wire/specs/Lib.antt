@@ -14,5 +14,6 @@ pub mod Reading
 pub mod Reversed
 pub mod Searching
 pub mod Steps
+pub mod Storage
 pub mod Texts
 pub mod Told

@@ -55,5 +55,5 @@ unfoldable pub plain_name : List ℕ → Option (List (List ℕ) × List ℕ)
 plain_name bytes = up_to_255 (labels_within (length bytes) bytes)
 
 -- the labels of a name's octets
-unfoldable pub labels_of : List ℕ → List (List ℕ)
-labels_of bytes = unwrap_or (all_of (plain_name bytes)) []
+unfoldable pub name_labels : List ℕ → List (List ℕ)
+name_labels bytes = unwrap_or (all_of (plain_name bytes)) []

@@ -1,6 +1,6 @@
 -- Labels without a root behind them, and names from the root on.
 use Rattle.std.specs.Prelude.{ℕ, List, [], ◌∷◌, ◌++◌, reverse, Option, None, option_map, unwrap_or, ◌==◌, if◌then◌else◌}
-use Rattle.dns_wire.specs.Names.{heads, plain_name, labels_of}
+use Rattle.dns_wire.specs.Names.{heads, plain_name, name_labels}
 use Rattle.dns_wire.specs.Reading.{all_of}
 
 -- ---- labels one after another, each behind its length
@@ -11,7 +11,7 @@ label_row bytes = all_of (plain_name (bytes ++ 0 ∷ []))
 
 -- the labels of such octets
 abbrev pub row_labels : List ℕ → List (List ℕ)
-row_labels bytes = labels_of (bytes ++ 0 ∷ [])
+row_labels bytes = name_labels (bytes ++ 0 ∷ [])
 
 -- ---- names from the root on
 
@@ -27,5 +27,5 @@ reversed_name [] = None
 reversed_name (size ∷ row) = if size == 0 then option_map reverse (label_row row) else None
 
 -- the labels of such octets
-abbrev pub reversed_labels_of : List ℕ → List (List ℕ)
-reversed_labels_of bytes = unwrap_or (reversed_name bytes) []
+abbrev pub reversed_name_labels : List ℕ → List (List ℕ)
+reversed_name_labels bytes = unwrap_or (reversed_name bytes) []

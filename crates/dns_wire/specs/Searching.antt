@@ -1,14 +1,14 @@
 -- The steps by which the longest known suffix of a name is found.
 use Rattle.std.specs.Prelude.{◌≡◌, ℕ, ◌+◌, List, [], ◌∷◌, ◌++◌, length, Bool, true, false, Option, Some, None, nat_le, nat_lt, if◌then◌else◌}
 use Rattle.dns_wire.specs.Compression.{stands_at}
-use Rattle.dns_wire.specs.Names.{plain_name, labels_of}
+use Rattle.dns_wire.specs.Names.{plain_name, name_labels}
 use Rattle.dns_wire.specs.Pointers.{segment_within}
 use Rattle.dns_wire.specs.Reading.{all_of}
 
 -- a name's first label, and the octets of the name behind it
 pub record FirstOf (name label rest : List ℕ) : Type 0 where
-  pub labels : labels_of name ≡ label ∷ labels_of rest
-  pub whole : all_of (plain_name rest) ≡ Some (labels_of rest)
+  pub labels : name_labels name ≡ label ∷ name_labels rest
+  pub whole : all_of (plain_name rest) ≡ Some (name_labels rest)
   pub parts : name ≡ length label ∷ (label ++ rest)
 
 -- how many labels are read, with those seen before, where they are at most so many

@@ -17,7 +17,9 @@ mod lowercase;
 mod memory;
 mod outside;
 mod parse;
+mod read_value;
 mod sizes;
+mod storage;
 mod text;
 
 pub use adapters::{ReadSource, WriteSink};
@@ -41,7 +43,9 @@ pub use parse::{
     ParseBytes, ParseMessageBytes, ParseName, SplitBytes, SplitMessageBytes,
     parse_without_compression, split_octets, split_without_compression, whole, whole_message,
 };
+pub use read_value::{ReadMessageValue, ReadPlainValue, ReadValue};
 pub use sizes::{HEADER_SIZE, LAST_PLACE, MAX_LABEL_SIZE, MAX_PLACES, POINTER_TAG};
+pub use storage::Storage;
 
 #[cfg(test)]
 mod tests;

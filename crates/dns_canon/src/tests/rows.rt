@@ -14,8 +14,16 @@ pub(super) struct Row {
     pub(super) output: &'static str,
 }
 
+/// A resolver's answer to a question for an address: an alias, the address, and OPT behind them.
+pub(super) const ORDINARY_REPLY: &str =
+    "12348180000100020000000103777777076578616d706c65036f72670000010001c00c0005000100000e10000603776562c010c02d0001000100000e100004c000020100002904d0000000000000";
+
+/// Its lines.
+pub(super) const ORDINARY_REPLY_LINES: &str =
+    "03776562076578616d706c65036f7267000001000100000e100004c0000201\n03777777076578616d706c65036f7267000005000100000e10001103776562076578616d706c65036f726700\n";
+
 /// The rows. The canonical octets agree with dnspython and ldns.
-pub(super) const ROWS: [Row; 41] = [
+pub(super) const ROWS: [Row; 43] = [
     Row {
         name: "twelve-zero-octets",
         words: &["canon"],
@@ -265,27 +273,31 @@ pub(super) const ROWS: [Row; 41] = [
         output: "",
     },
     Row {
-        name: "opt-not-built",
+        name: "ordinary-reply",
+        words: &["canon"],
+        input: ORDINARY_REPLY,
+        status: Status::Done,
+        notes: "",
+        output: ORDINARY_REPLY_LINES,
+    },
+    Row {
+        name: "opt-among-answers",
         words: &["canon"],
         input: "12348180000000010000000000002904d0000000000000",
-        status: Status::NotBuilt {
-            message: 0,
-            section: 1,
-            index: 0,
-        },
-        notes: "not built 0 1 0\n",
+        status: Status::Done,
+        notes: "",
         output: "",
     },
     Row {
-        name: "opt-data-past-the-end-not-built",
+        name: "opt-data-past-the-end",
         words: &["canon"],
         input: "12348180000000010000000000002904d0000000000003c00c",
-        status: Status::NotBuilt {
+        status: Status::Item {
             message: 0,
             section: 1,
             index: 0,
         },
-        notes: "not built 0 1 0\n",
+        notes: "item 0 1 0\n",
         output: "",
     },
     Row {
@@ -304,12 +316,20 @@ pub(super) const ROWS: [Row; 41] = [
         name: "opt-behind-a-pointed-owner",
         words: &["canon"],
         input: "12348180000100010000000003636f6d0000020001c00c002904d0000000000000",
-        status: Status::NotBuilt {
+        status: Status::Done,
+        notes: "",
+        output: "",
+    },
+    Row {
+        name: "opt-with-an-option-that-is-cut",
+        words: &["canon"],
+        input: "12348180000000000000000100002904d00000000000050003000200",
+        status: Status::Item {
             message: 0,
-            section: 1,
+            section: 3,
             index: 0,
         },
-        notes: "not built 0 1 0\n",
+        notes: "item 0 3 0\n",
         output: "",
     },
     Row {

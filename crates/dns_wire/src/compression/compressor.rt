@@ -3,8 +3,8 @@
 ghost use Rattle.std.specs.Prelude.{◌≡◌, ◌≤◌, ◌<◌, ℕ, List, Some, [], ◌∷◌, length, take, IfSome, IfNone};
 ghost use Rattle.std.specs.List.{AllByRecursion};
 ghost use Rattle.dns_wire.specs.Reading.{all_of};
-ghost use Rattle.dns_wire.specs.Names.{plain_name, labels_of};
-ghost use Rattle.dns_wire.specs.Reversed.{reversed_name, reversed_labels_of};
+ghost use Rattle.dns_wire.specs.Names.{plain_name, name_labels};
+ghost use Rattle.dns_wire.specs.Reversed.{reversed_name, reversed_name_labels};
 ghost use Rattle.dns_wire.specs.Compression.{longest_kept, KeptSuffix, LongestKept, with_more, noted, Run, ArePlaces, FitsIn, Grows};
 
 use crate::compression::suffix::{count_labels, suffix_before};
@@ -63,10 +63,10 @@ impl NameCompressor {
     /// of the name are before it, and the smallest such place. It is none exactly where no suffix of at
     /// least one label is at a kept place.
     pub fn compress_name(&self, contents: &[u8], name: &[u8]) -> Option<(usize, u16)>
-        requires { all_of (plain_name name.now) ≡ Some (labels_of name.now) }
-        ensures exact { result ≡ longest_kept contents.now self.now 0 (labels_of name.now) }
-        ensures longest { IfSome result (λ k. LongestKept contents.now self.now (labels_of name.now) k.0 k.1) }
-        ensures none { IfNone result ((front place : ℕ) → ¬ KeptSuffix contents.now self.now (labels_of name.now) front place) }
+        requires { all_of (plain_name name.now) ≡ Some (name_labels name.now) }
+        ensures exact { result ≡ longest_kept contents.now self.now 0 (name_labels name.now) }
+        ensures longest { IfSome result (λ k. LongestKept contents.now self.now (name_labels name.now) k.0 k.1) }
+        ensures none { IfNone result ((front place : ℕ) → ¬ KeptSuffix contents.now self.now (name_labels name.now) front place) }
     {
         let count = count_labels(name);
         let mut best = None;
@@ -86,10 +86,10 @@ impl NameCompressor {
     /// As `compress_name` of the name whose octets from the root on these are: the octets before the suffix
     /// are counted from the front of the name.
     pub fn compress_revname(&self, contents: &[u8], name: &[u8]) -> Option<(usize, u16)>
-        requires { reversed_name name.now ≡ Some (reversed_labels_of name.now) }
-        ensures exact { result ≡ longest_kept contents.now self.now 0 (reversed_labels_of name.now) }
-        ensures longest { IfSome result (λ k. LongestKept contents.now self.now (reversed_labels_of name.now) k.0 k.1) }
-        ensures none { IfNone result ((front place : ℕ) → ¬ KeptSuffix contents.now self.now (reversed_labels_of name.now) front place) }
+        requires { reversed_name name.now ≡ Some (reversed_name_labels name.now) }
+        ensures exact { result ≡ longest_kept contents.now self.now 0 (reversed_name_labels name.now) }
+        ensures longest { IfSome result (λ k. LongestKept contents.now self.now (reversed_name_labels name.now) k.0 k.1) }
+        ensures none { IfNone result ((front place : ℕ) → ¬ KeptSuffix contents.now self.now (reversed_name_labels name.now) front place) }
     {
         let mut buffer = [0; 255];
         let forward = &mut buffer[..name.len()];

@@ -4,7 +4,7 @@ ghost use Rattle.std.specs.Prelude.{◌≡◌, ◌≤◌, Some, length, take, �
 ghost use Rattle.dns_wire.specs.Building.{Builds};
 ghost use Rattle.dns_wire.specs.Compression.{FitsIn, cut_at, name_presses};
 ghost use Rattle.dns_wire.specs.InMessage.{BuildsIn};
-ghost use Rattle.dns_wire.specs.Names.{plain_name, labels_of};
+ghost use Rattle.dns_wire.specs.Names.{plain_name, name_labels};
 ghost use Rattle.dns_wire.specs.Reading.{all_of};
 
 use crate::build::put;
@@ -44,10 +44,10 @@ pub fn put_name(
     start: usize,
     compressor: &mut NameCompressor,
 ) -> Result<usize, TruncationError>
-    requires name { all_of (plain_name name.now) ≡ Some (labels_of name.now) }
+    requires name { all_of (plain_name name.now) ≡ Some (name_labels name.now) }
     requires room { start ≤ length contents.old }
     requires known { FitsIn compressor.old (take start contents.old) }
-    ensures { BuildsIn ⊤ (name_presses (labels_of name.now) (take start contents.old) compressor.old)
+    ensures { BuildsIn ⊤ (name_presses (name_labels name.now) (take start contents.old) compressor.old)
         contents.old start compressor.old contents.new compressor.new result }
 {
     let known = compressor.compress_name(&contents[..start], name);

@@ -2,7 +2,7 @@
 
 ghost use Rattle.std.specs.Prelude.{◌≡◌, ◌<◌, ◌≤◌, length, Some, [], MatchOption, IfSome};
 ghost use Rattle.dns_wire.specs.Reading.{all_of};
-ghost use Rattle.dns_wire.specs.Names.{plain_name, labels_of};
+ghost use Rattle.dns_wire.specs.Names.{plain_name, name_labels};
 ghost use Rattle.dns_wire.specs.Compression.{stands_at};
 ghost use Rattle.dns_wire.specs.Searching.{FirstOf, count_at, suffix_at, before_limit};
 
@@ -11,8 +11,8 @@ use crate::follow::{Head, NameCursor};
 /// The first label of a name's octets, and the octets of the name behind it; none where the name is the
 /// root.
 fn first_label(name: &[u8]) -> Option<(&[u8], &[u8])>
-    requires { all_of (plain_name name.now) ≡ Some (labels_of name.now) }
-    ensures { MatchOption result (labels_of name.now ≡ []) (λ x. FirstOf name.now x.0.now x.1.now) }
+    requires { all_of (plain_name name.now) ≡ Some (name_labels name.now) }
+    ensures { MatchOption result (name_labels name.now ≡ []) (λ x. FirstOf name.now x.0.now x.1.now) }
 {
     let size = name[0] as usize;
     if size == 0 {
@@ -25,8 +25,8 @@ fn first_label(name: &[u8]) -> Option<(&[u8], &[u8])>
 
 /// How many labels a name has, without the root's.
 pub(crate) fn count_labels(name: &[u8]) -> usize
-    requires { all_of (plain_name name.now) ≡ Some (labels_of name.now) }
-    ensures exact { result ≡ length (labels_of name.now) }
+    requires { all_of (plain_name name.now) ≡ Some (name_labels name.now) }
+    ensures exact { result ≡ length (name_labels name.now) }
     ensures few { result < 128 }
 {
     let mut count = 0;
@@ -63,8 +63,8 @@ fn count_labels_at(contents: &[u8], place: usize, most: usize) -> Option<usize>
 
 /// Whether the name at the place is this one, ASCII case aside.
 fn is_name_at(contents: &[u8], place: usize, name: &[u8]) -> bool
-    requires { all_of (plain_name name.now) ≡ Some (labels_of name.now) }
-    ensures { result ≡ stands_at contents.now (labels_of name.now) place }
+    requires { all_of (plain_name name.now) ≡ Some (name_labels name.now) }
+    ensures { result ≡ stands_at contents.now (name_labels name.now) place }
 {
     let mut rest = name;
     let mut cursor = NameCursor::new(place);
@@ -97,10 +97,10 @@ pub(crate) fn suffix_before(
     count: usize,
     limit: usize,
 ) -> Option<usize>
-    requires name { all_of (plain_name name.now) ≡ Some (labels_of name.now) }
-    requires count { count ≡ length (labels_of name.now) }
+    requires name { all_of (plain_name name.now) ≡ Some (name_labels name.now) }
+    requires count { count ≡ length (name_labels name.now) }
     requires few { count < 128 }
-    ensures { result ≡ before_limit limit (suffix_at contents.now place 0 (labels_of name.now)) }
+    ensures { result ≡ before_limit limit (suffix_at contents.now place 0 (name_labels name.now)) }
 {
     let size = count_labels_at(contents, place, count)?;
     let mut front = 0;

@@ -2,7 +2,7 @@
 
 ghost use Rattle.std.specs.Prelude.{◌≡◌, ◌+◌, ◌≤◌, ◌++◌, Some, length, take, drop};
 ghost use Rattle.dns_wire.specs.Names.{wire};
-ghost use Rattle.dns_wire.specs.Reversed.{reversed_name, reversed_labels_of};
+ghost use Rattle.dns_wire.specs.Reversed.{reversed_name, reversed_name_labels};
 
 /// Copies the octets to a place.
 fn copy_to(octets: &[u8], bytes: &mut [u8], at: usize)
@@ -15,9 +15,9 @@ fn copy_to(octets: &[u8], bytes: &mut [u8], at: usize)
 /// Copies the octets of a name from the root on to those of the name: its labels from the last to the
 /// first, and the root behind them.
 pub(crate) fn turn_name(name: &[u8], forward: &mut [u8])
-    requires name { reversed_name name.now ≡ Some (reversed_labels_of name.now) }
+    requires name { reversed_name name.now ≡ Some (reversed_name_labels name.now) }
     requires size { length forward.old ≡ length name.now }
-    ensures { forward.new ≡ wire (reversed_labels_of name.now) }
+    ensures { forward.new ≡ wire (reversed_name_labels name.now) }
 {
     let mut at = 1;
     let mut end = name.len() - 1;

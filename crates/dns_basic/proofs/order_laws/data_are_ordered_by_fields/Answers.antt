@@ -1,4 +1,3 @@
-use Rattle.std.proofs.Common.{rules}
 use Rattle.dns_record.proofs.Compared.{then_equal}
 use Rattle.dns_basic.proofs.order_laws.data_are_ordered_by_fields.Goals as goal
 

@@ -1,4 +1,3 @@
-use Rattle.dns_canon.proofs.NoItem.{no_item}
 use Rattle.dns_canon.proofs.Phrased.{fails_stops, stops_fails, whole_read, read_whole}
 use Rattle.dns_canon.proofs.Standing.{question_stands, record_stands}
 use Rattle.dns_canon.proofs.laws.readings_in_words.Goals as goal
@@ -8,9 +7,6 @@ returns-clause-stops c = λ m s i p. (stops_fails m s i p, fails_stops m s i p)
 
 pub returns-clause-whole : goal.returns-clause-whole
 returns-clause-whole c = λ m items end. (read_whole m items end, whole_read m items end)
-
-pub returns-clause-not_built : goal.returns-clause-not_built
-returns-clause-not_built c = no_item
 
 pub returns-clause-asked : goal.returns-clause-asked
 returns-clause-asked c = question_stands

@@ -1,6 +1,6 @@
 use Rattle.std.proofs.Common.{◌≡◌, ◌++◌, take, flat_map}
 use Rattle.std.specs.Io.KnownBytes.{Appends}
-use Rattle.dns_canon.specs.Run.{spaced}
+use Rattle.dns_canon.specs.Statuses.{spaced}
 use Rattle.dns_canon.proofs.transfer.put_line.Given as goal
 
 -- the word and the numbers so far have been written, and nothing has failed

@@ -1,15 +1,15 @@
 use Rattle.std.proofs.Common.{◌≡◌, ◌-◌, length, sym, ap, ◌∙◌, refl}
 use Rattle.std.specs.Prelude.{reverse}
-use Rattle.dns_wire.specs.Names.{heads, IsName, labels_of}
+use Rattle.dns_wire.specs.Names.{heads, IsName, name_labels}
 use Rattle.dns_wire.proofs.Backward.{row_is, reversed_long}
 use Rattle.dns_wire.proofs.Spelled.{name_octets}
 use Rattle.dns_name.proofs.Gathered.{HoldsReversed, holds_turned}
 use Rattle.dns_name.proofs.name.Name.to_revname.Goals as goal
 use Rattle.dns_name.proofs.name.Name.to_revname.Goals.{After-copy_before}
 
-held : (c : After-copy_before) → HoldsReversed c.copy_before.new.buffer (255 - length c.row-labels.result.slice.now - 1) (labels_of c.args.self.now.slice.now)
+held : (c : After-copy_before) → HoldsReversed c.copy_before.new.buffer (255 - length c.row-labels.result.slice.now - 1) (name_labels c.args.self.now.slice.now)
 held c =
-    let labels = labels_of c.args.self.now.slice.now in
+    let labels = name_labels c.args.self.now.slice.now in
     let is : IsName labels = (name_octets _ _ c.args.self.now.is_name).0 in
     let row : c.row-labels.result.slice.now ≡ heads labels = (row_is _ _ c.row-labels.result.are_labels).1 ∙ ap heads c.row-labels.ensures.labels in
     let place : 255 - length c.row-labels.result.slice.now ≡ 255 - length (heads (reverse labels)) = ap (λ n. 255 - n) (ap length row ∙ sym (reversed_long labels)) in

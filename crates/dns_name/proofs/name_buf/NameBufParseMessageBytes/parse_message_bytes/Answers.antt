@@ -1,16 +1,13 @@
-use Rattle.std.proofs.lemmas.Result.{err_from_is_err_and}
-use Rattle.dns_wire.proofs.Following.{name_at_is, name_at_one}
-use Rattle.dns_name.proofs.Followed.{nothing_follows}
+use Rattle.dns_wire.specs.Pointers.{name_at}
+use Rattle.dns_wire.specs.Reading.{Gives, all_at}
+use Rattle.dns_name.proofs.WholeNames.{gives_whole, whole_follows, none_follows}
 use Rattle.dns_name.proofs.name_buf.NameBufParseMessageBytes.parse_message_bytes.Goals as goal
 
-pub returns-in_err-name-clause-refused : goal.returns-in_err-name-clause-refused
-returns-in_err-name-clause-refused c =
-    let p = err_from_is_err_and c.from_residual.result c.from_residual.ensures.1 in
-    rw p.1 (λ labels. nothing_follows _ _ c.in_err-name.ensures.exact labels _)
-
-pub returns-then-end-contents-clause-follows : goal.returns-then-end-contents-clause-follows
-returns-then-end-contents-clause-follows c = rw c.if-end-contents.true at (name_at_is _ _ _ _ c.in_ok-name.ensures.exact)
-
-pub returns-else-end-contents-clause-refused : goal.returns-else-end-contents-clause-refused
-returns-else-end-contents-clause-refused c =
-    λ labels is. c.if-end-contents.false (name_at_one _ _ _ _ _ _ (name_at_is _ _ _ _ c.in_ok-name.ensures.exact) is).1
+pub returns : goal.returns
+returns c =
+    let exact : Gives (λ v. v) c.whole_message.result (all_at c.args.contents.now (name_at c.args.contents.now c.args.start)) = rw c.whole_message.ensures (gives_whole c.args.contents.now c.read_name.result _ c.read_name.ensures.exact) in
+    record {
+      exact = exact;
+      follows = whole_follows c.args.contents.now c.args.start c.whole_message.result exact;
+      refused = none_follows c.args.contents.now c.args.start c.whole_message.result exact;
+    }

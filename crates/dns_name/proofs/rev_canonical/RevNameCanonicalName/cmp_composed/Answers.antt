@@ -3,15 +3,15 @@ use Rattle.std.specs.Prelude.{reverse}
 use Rattle.std.specs.Cmp.Lexicographic.{slice_cmp}
 use Rattle.std.proofs.lemmas.List.{reverse-reverse}
 use Rattle.dns_wire.proofs.Backward.{reversed_size}
-use Rattle.dns_wire.specs.Reversed.{row_labels, reversed_labels_of}
+use Rattle.dns_wire.specs.Reversed.{row_labels, reversed_name_labels}
 use Rattle.dns_name.specs.RowOrder.{head_cmp}
 use Rattle.dns_name.proofs.Aligned.{composed_by_heads}
 use Rattle.dns_name.proofs.rev_canonical.RevNameCanonicalName.cmp_composed.Goals as goal
 
 pub returns-clause-order : goal.returns-clause-order
 returns-clause-order c =
-    let a = reversed_labels_of c.args.self.now.slice.now in
-    let b = reversed_labels_of c.args.other.now.slice.now in
+    let a = reversed_name_labels c.args.self.now.slice.now in
+    let b = reversed_name_labels c.args.other.now.slice.now in
     c.compare_from_last.ensures
     ∙ ap (λ l. slice_cmp head_cmp l (reverse (row_labels c.row-2.result.slice.now))) (ap reverse c.row.ensures.labels ∙ reverse-reverse a)
     ∙ ap (slice_cmp head_cmp a) (ap reverse c.row-2.ensures.labels ∙ reverse-reverse b)

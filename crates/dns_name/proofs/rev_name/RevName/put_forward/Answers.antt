@@ -2,7 +2,7 @@ use Rattle.std.proofs.Common.{arith, ap, ◌≡◌, ◌∙◌, length}
 use Rattle.std.specs.Prelude.{reverse}
 use Rattle.std.proofs.lemmas.List.{reverse-reverse}
 use Rattle.dns_wire.specs.Names.{heads}
-use Rattle.dns_wire.specs.Reversed.{row_labels, reversed_labels_of}
+use Rattle.dns_wire.specs.Reversed.{row_labels, reversed_name_labels}
 use Rattle.dns_wire.proofs.Backward.{ReversedSize, reversed_size}
 use Rattle.dns_wire.proofs.Walk.{wire_long}
 use Rattle.dns_name.proofs.Turned.{forward_stands}
@@ -16,7 +16,7 @@ put_reversed-requires-clause-room c = omega (arith, c.row.ensures.octets)
 
 pub returns : goal.returns
 returns c =
-    let labels = reversed_labels_of c.args.self.now.slice.now in
+    let labels = reversed_name_labels c.args.self.now.slice.now in
     let size : ReversedSize c.args.self.now.slice.now labels = reversed_size _ _ c.args.self.now.is_name in
     let turned : reverse (row_labels c.row.result.slice.now) ≡ labels = ap reverse c.row.ensures.labels ∙ reverse-reverse labels in
     let long : length c.row.result.slice.now ≡ length (heads labels) = omega (arith, c.row.ensures.octets, size.long, wire_long labels) in

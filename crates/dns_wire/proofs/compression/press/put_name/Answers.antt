@@ -1,17 +1,17 @@
 use Rattle.std.proofs.Common.{◌≡◌, ap, ◌∙◌, sym, take, ℕ, List}
 use Rattle.std.proofs.lemmas.Result.{err_from_is_err_and}
 use Rattle.dns_wire.specs.Compression.{cut_at, press}
-use Rattle.dns_wire.specs.Names.{labels_of, wire}
+use Rattle.dns_wire.specs.Names.{name_labels, wire}
 use Rattle.dns_wire.proofs.Cutting.{cut_fits, name_noted_run, name_built, name_refused}
 use Rattle.dns_wire.proofs.Spelled.{name_octets}
 use Rattle.dns_wire.proofs.compression.press.put_name.Goals as goal
 use Rattle.dns_wire.proofs.compression.press.put_name.Goals.{After-compress_name-known}
 
 -- what is written is what the name presses
-octets : (c : After-compress_name-known) → cut_at c.args.name.now c.compress_name-known.result ≡ press (take c.args.start c.args.contents.now) c.args.compressor.now (labels_of c.args.name.now)
+octets : (c : After-compress_name-known) → cut_at c.args.name.now c.compress_name-known.result ≡ press (take c.args.start c.args.contents.now) c.args.compressor.now (name_labels c.args.name.now)
 octets c =
     ap (λ (n : List ℕ). cut_at n c.compress_name-known.result) (name_octets _ _ c.requires.name).1
-    ∙ ap (cut_at (wire (labels_of c.args.name.now))) c.compress_name-known.ensures.exact
+    ∙ ap (cut_at (wire (name_labels c.args.name.now))) c.compress_name-known.ensures.exact
 
 pub put_cut-requires-clause-known : goal.put_cut-requires-clause-known
 put_cut-requires-clause-known c =

@@ -1,10 +1,10 @@
 use Rattle.std.proofs.Common.{length, ◌+◌}
-use Rattle.dns_wire.specs.Names.{labels_of}
+use Rattle.dns_wire.specs.Names.{name_labels}
 use Rattle.dns_wire.proofs.Matching.{Matches}
 use Rattle.dns_wire.proofs.compression.suffix.is_name_at.Given as goal
 
 abbrev pub invariant-loop-size : goal.invariant-loop-size
-invariant-loop-size l = Matches l.contents (labels_of l.name) l.place l.rest l.cursor.start l.cursor.at
+invariant-loop-size l = Matches l.contents (name_labels l.name) l.place l.rest l.cursor.start l.cursor.at
 
 -- a label makes the rest shorter, and a pointer leads back
 abbrev pub decreases-loop-size : goal.decreases-loop-size

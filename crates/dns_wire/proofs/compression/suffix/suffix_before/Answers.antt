@@ -1,6 +1,6 @@
 use Rattle.std.proofs.Common.{◌≡◌, arith, ap, sym, ◌∙◌, refl, length, None, Bool}
 use Rattle.std.proofs.lemmas.List.{length-append}
-use Rattle.dns_wire.specs.Names.{labels_of}
+use Rattle.dns_wire.specs.Names.{name_labels}
 use Rattle.dns_wire.specs.Compression.{stands_at}
 use Rattle.dns_wire.specs.Searching.{else_later, before_limit}
 use Rattle.dns_wire.proofs.Spelled.{name_short}
@@ -26,20 +26,20 @@ loop-left-preserved c = record {
 
 pub returns-then-is_name_at : goal.returns-then-is_name_at
 returns-then-is_name_at c =
-    let long : length (labels_of c.loop-left.rest.now) ≡ c.in_ok-size.size = elim c.loop-left-test.branch [ else-loop-left-test w ↦ omega arith | then-loop-left-test+in_default w ↦ absurd (omega (arith, ap length w.in_default.ensures)) ] in
+    let long : length (name_labels c.loop-left.rest.now) ≡ c.in_ok-size.size = elim c.loop-left-test.branch [ else-loop-left-test w ↦ omega arith | then-loop-left-test+in_default w ↦ absurd (omega (arith, ap length w.in_default.ensures)) ] in
     let found = suffix_only _ _ _ (counts_of _ _ _ _ c.in_ok-size.ensures.exact) c.loop-left.front _ long (omega arith) in
     sym (limit_before c.args.limit c.loop-left.front (omega arith))
     ∙ ap (before_limit c.args.limit) (ap (λ (b : Bool). else_later c.loop-left.front b None) c.if-is_name_at.ensures ∙ sym found ∙ c.loop-left.invariant.same)
 
 pub returns-else-size-gt0 : goal.returns-else-size-gt0
 returns-else-size-gt0 c =
-    let long : length (labels_of c.loop-left.rest.now) ≡ c.in_ok-size.size = elim c.loop-left-test.branch [ else-loop-left-test w ↦ omega arith | then-loop-left-test+in_default w ↦ absurd (omega (arith, ap length w.in_default.ensures)) ] in
+    let long : length (name_labels c.loop-left.rest.now) ≡ c.in_ok-size.size = elim c.loop-left-test.branch [ else-loop-left-test w ↦ omega arith | then-loop-left-test+in_default w ↦ absurd (omega (arith, ap length w.in_default.ensures)) ] in
     let counts = counts_of _ _ _ _ c.in_ok-size.ensures.exact in
     elim c.else-size-gt0.branch [
       | else-size-gt0-via-then-size-gt0+then-front-limit+else-is_name_at w ↦
           ap (before_limit c.args.limit) (ap (λ (b : Bool). else_later c.loop-left.front b None) w.if-is_name_at.ensures ∙ sym (suffix_only _ _ _ counts c.loop-left.front _ long (omega arith)) ∙ c.loop-left.invariant.same)
       | else-size-gt0-via-then-size-gt0+else-front-limit w ↦
-          sym (limit_reached c.args.limit c.loop-left.front (stands_at c.args.contents.now (labels_of c.loop-left.rest.now) c.args.place) (omega arith))
+          sym (limit_reached c.args.limit c.loop-left.front (stands_at c.args.contents.now (name_labels c.loop-left.rest.now) c.args.place) (omega arith))
           ∙ ap (before_limit c.args.limit) (sym (suffix_only _ _ _ counts c.loop-left.front _ long (omega arith)) ∙ c.loop-left.invariant.same)
       | else-size-gt0-via-else-size-gt0 w ↦
           ap (before_limit c.args.limit) (sym (suffix_empty _ _ c.loop-left.front _ _ counts (omega arith)) ∙ c.loop-left.invariant.same)

@@ -1,10 +1,10 @@
 use Rattle.std.proofs.Common.{length, ◌-◌}
-use Rattle.dns_wire.specs.Reversed.{reversed_labels_of}
+use Rattle.dns_wire.specs.Reversed.{reversed_name_labels}
 use Rattle.dns_wire.proofs.Turning.{Turning}
 use Rattle.dns_wire.proofs.compression.turn.turn_name.Given as goal
 
 abbrev pub invariant-loop-at : goal.invariant-loop-at
-invariant-loop-at l = Turning l.name l.forward (reversed_labels_of l.name) l.at l.end
+invariant-loop-at l = Turning l.name l.forward (reversed_name_labels l.name) l.at l.end
 
 abbrev pub decreases-loop-at : goal.decreases-loop-at
 decreases-loop-at l = length l.name - l.at

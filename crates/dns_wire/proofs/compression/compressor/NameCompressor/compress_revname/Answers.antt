@@ -1,7 +1,7 @@
 use Rattle.std.proofs.Common.{◌≡◌, ◌∙◌, sym, ap, refl}
 use Rattle.dns_wire.specs.Compression.{longest_kept}
-use Rattle.dns_wire.specs.Names.{labels_of}
-use Rattle.dns_wire.specs.Reversed.{reversed_labels_of}
+use Rattle.dns_wire.specs.Names.{name_labels}
+use Rattle.dns_wire.specs.Reversed.{reversed_name_labels}
 use Rattle.dns_wire.proofs.Backward.{reversed_size}
 use Rattle.dns_wire.proofs.Spelled.{labels_of_wire}
 use Rattle.dns_wire.proofs.Turning.{front_long}
@@ -18,8 +18,8 @@ pub turn_name-requires-clause-size : goal.turn_name-requires-clause-size
 turn_name-requires-clause-size c = sym (front_long _ _ refl (reversed_size _ _ c.requires).short)
 
 -- the labels of the copy are the name's
-same : (c : After-turn_name) → labels_of c.turn_name.new.forward ≡ reversed_labels_of c.args.name.now
-same c = ap labels_of c.turn_name.ensures ∙ (labels_of_wire _ (reversed_size _ _ c.requires).name).1
+same : (c : After-turn_name) → name_labels c.turn_name.new.forward ≡ reversed_name_labels c.args.name.now
+same c = ap name_labels c.turn_name.ensures ∙ (labels_of_wire _ (reversed_size _ _ c.requires).name).1
 
 pub compress_name-requires : goal.compress_name-requires
 compress_name-requires c =

@@ -1,0 +1,104 @@
+//! The definitions of this crate in other words.
+
+ghost use Rattle.std.specs.Prelude.{◌≡◌, ◌↔◌, ◌<◌, ◌^◌, ◌++◌, ℕ, List, Some, true, length, IsTrue, IsOk};
+ghost use Rattle.dns_record.specs.Options.{is_options, options_of};
+ghost use Rattle.dns_edns.specs.Cookies.{IsWithin, IsTaken, unhashed, response};
+ghost use Rattle.dns_edns.specs.Flags.{flag_bits};
+ghost use Rattle.dns_edns.specs.Suiting.{options_in, seen_option};
+
+use crate::address::Address;
+use crate::client_cookie::ClientCookie;
+use crate::cookie::Cookie;
+use crate::edns_flags::EdnsFlags;
+use crate::edns_option::EdnsOption;
+use crate::error::CookieError;
+use crate::ext_error_code::ExtErrorCode;
+use crate::keyed_hash::KeyedHash;
+use crate::option_code::OptionCode;
+use dns_record::Serial;
+use dns_wire::ParseBytes;
+
+/// The numbers of the options that have a name here (RFC 7873 section 4, RFC 8914 section 2).
+pub fn code_numbers()
+    ensures cookie { OptionCode.COOKIE.code.value ≡ 10 }
+    ensures ext_error { OptionCode.EXT_ERROR.code.value ≡ 15 }
+{}
+
+/// The numbers of the extended errors that have a name here (RFC 8914 section 4, RFC 9250 section 8.4, RFC 9276
+/// section 5.2).
+pub fn ext_error_numbers()
+    ensures other { ExtErrorCode.OTHER.code.value ≡ 0 }
+    ensures bad_dnskey_alg { ExtErrorCode.BAD_DNSKEY_ALG.code.value ≡ 1 }
+    ensures bad_ds_alg { ExtErrorCode.BAD_DS_ALG.code.value ≡ 2 }
+    ensures stale_answer { ExtErrorCode.STALE_ANSWER.code.value ≡ 3 }
+    ensures forged_answer { ExtErrorCode.FORGED_ANSWER.code.value ≡ 4 }
+    ensures dnssec_indeterminate { ExtErrorCode.DNSSEC_INDETERMINATE.code.value ≡ 5 }
+    ensures dnssec_bogus { ExtErrorCode.DNSSEC_BOGUS.code.value ≡ 6 }
+    ensures sig_expired { ExtErrorCode.SIG_EXPIRED.code.value ≡ 7 }
+    ensures sig_future { ExtErrorCode.SIG_FUTURE.code.value ≡ 8 }
+    ensures dnskey_missing { ExtErrorCode.DNSKEY_MISSING.code.value ≡ 9 }
+    ensures rrsigs_missing { ExtErrorCode.RRSIGS_MISSING.code.value ≡ 10 }
+    ensures not_zsk { ExtErrorCode.NOT_ZSK.code.value ≡ 11 }
+    ensures nsec_missing { ExtErrorCode.NSEC_MISSING.code.value ≡ 12 }
+    ensures cached_error { ExtErrorCode.CACHED_ERROR.code.value ≡ 13 }
+    ensures not_ready { ExtErrorCode.NOT_READY.code.value ≡ 14 }
+    ensures blocked { ExtErrorCode.BLOCKED.code.value ≡ 15 }
+    ensures censored { ExtErrorCode.CENSORED.code.value ≡ 16 }
+    ensures filtered { ExtErrorCode.FILTERED.code.value ≡ 17 }
+    ensures prohibited { ExtErrorCode.PROHIBITED.code.value ≡ 18 }
+    ensures stale_nxdomain { ExtErrorCode.STALE_NXDOMAIN.code.value ≡ 19 }
+    ensures not_authoritative { ExtErrorCode.NOT_AUTHORITATIVE.code.value ≡ 20 }
+    ensures not_supported { ExtErrorCode.NOT_SUPPORTED.code.value ≡ 21 }
+    ensures no_reachable_authority { ExtErrorCode.NO_REACHABLE_AUTHORITY.code.value ≡ 22 }
+    ensures network_error { ExtErrorCode.NETWORK_ERROR.code.value ≡ 23 }
+    ensures invalid_data { ExtErrorCode.INVALID_DATA.code.value ≡ 24 }
+    ensures too_early { ExtErrorCode.TOO_EARLY.code.value ≡ 26 }
+    ensures bad_nsec3_iters { ExtErrorCode.BAD_NSEC3_ITERS.code.value ≡ 27 }
+{}
+
+/// The flags by default have no bit (RFC 6891 section 6.1.4).
+pub fn default_flags()
+    ensures { (flags : _) → ⟦<EdnsFlags as Default>⟧.is_default flags → flag_bits flags ≡ 0 }
+{}
+
+/// The options that are gone over are those that all the octets spell (RFC 6891 section 6.1.2).
+pub fn options_of_octets()
+    ensures { (bytes : List ℕ) → is_options bytes ≡ true → options_of bytes ≡ Some (options_in bytes) }
+{}
+
+/// Options are equal where their codes and data are, octet by octet.
+pub fn options_are_equal_by_content()
+    ensures { (a b : _) → IsTrue (⟦<EdnsOption<'static> as PartialEq>⟧.eq a b) ↔ (seen_option a ≡ seen_option b) }
+{}
+
+/// The cookie that a server gives to an address is one that it takes from there, under the same function and
+/// secret, where the moment lies in the time (RFC 9018 section 4.3).
+pub fn given_cookies()
+    ensures { (hash : List ℕ → List ℕ) (client : List ℕ) (time : ℕ) (address : List ℕ) (from until : ℕ) →
+        length client ≡ 8 → time < 2 ^ 32 → length (hash (unhashed client time ++ address)) ≡ 8 → IsWithin from until time →
+        IsTaken hash address from until (response hash client time address) }
+{}
+
+/// What `respond_at` and `respond_into` write for an address, `verify` takes from there under the same function and
+/// secret exactly where the moment lies in the time: this call does both, one after the other (RFC 9018 section 4).
+/// `CookieError` comes exactly where it does not.
+pub fn takes_what_it_gives<H: KeyedHash>(
+    client: ClientCookie,
+    addr: Address,
+    secret: &[u8; 16],
+    now: Serial,
+    from: Serial,
+    until: Serial,
+    hash: &H,
+) -> Result<(), CookieError>
+    ensures { IsOk result ↔ IsWithin from.0.value until.0.value now.0.value }
+{
+    let mut octets = [0; 24];
+    let Ok(_end) = client.respond_at(addr, secret, now, hash, &mut octets, 0) else {
+        return Err(CookieError);
+    };
+    let Ok(cookie) = Cookie::parse_bytes(&octets) else {
+        return Err(CookieError);
+    };
+    cookie.verify(addr, secret, from, until, hash)
+}
