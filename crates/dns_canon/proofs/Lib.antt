@@ -1,12 +1,10 @@
 -- The crate's own lemmas.
 pub mod Decoding
 pub mod Exclusive
-pub mod Folded
 pub mod Going
 pub mod Kept
 pub mod Ordering
 pub mod Phrased
-pub mod PlainData
 pub mod Sections
 pub mod Short
 pub mod Sorting
@@ -14,4 +12,5 @@ pub mod Standing
 pub mod Transfers
 pub mod Trimming
 pub mod Verdicts
+pub mod Whole
 pub mod WordLemmas

@@ -2,6 +2,7 @@
 #![tactic(auto)]
 
 mod canonical;
+mod canonical_data;
 mod command;
 mod error;
 mod item;
@@ -9,7 +10,6 @@ mod laws;
 mod message;
 mod owned;
 mod reading;
-mod record_data;
 mod spelling;
 mod status;
 mod transfer;

@@ -10,8 +10,9 @@ ghost use Rattle.dns_wire.specs.Names.{wire, plain_name, name_labels, lowered};
 ghost use Rattle.dns_wire.specs.Reading.{all_of};
 ghost use Rattle.dns_name.specs.Order.{key_of, key_cmp};
 
-use crate::record_data::RecordData;
+use crate::canonical_data::canonical_octets;
 use dns_name::{CanonicalName, Name, NameBuf};
+use dns_rdata::RecordData;
 use dns_record::Record;
 use std::alloc::{AllocError, Global};
 use std::cmp::Ordering;
@@ -113,20 +114,21 @@ impl OwnedRecord {
     ghost use Rattle.dns_canon.specs.Order.{sort_key};
     ghost use Rattle.std.specs.Prelude.{◌^◌};
     ghost use Rattle.dns_record.specs.Fields.{fields_octets};
-    ghost use Rattle.dns_canon.specs.Seen.{owned_seen, data_seen, is_data_of};
+    ghost use Rattle.dns_canon.specs.Seen.{owned_seen, data_seen};
+    ghost use Rattle.dns_rdata.specs.Data.{IsDataOf};
 
     /// The parts of a record.
-    #[tactic(auto, using(crate::proofs::Folded::folded_size, crate::proofs::Folded::folded_is))]
+    #[tactic(auto, using(crate::proofs::Whole::as_canonical))]
     pub fn of(
         alloc: Global,
-        record: &Record<NameBuf, RecordData<'_>>,
+        record: &Record<NameBuf, RecordData<'_, NameBuf>>,
     ) -> Result<OwnedRecord, AllocError>
         requires short { length (fields_octets (data_seen «record».now.rdata)) < 2 ^ 16 }
-        requires typed { is_data_of «record».now.rdata «record».now.rtype.code.value }
+        requires typed { IsDataOf «record».now.rdata «record».now.rtype.code.value }
         ensures { IfOk result (λ parts. owned_seen parts ≡ sort_key (record_seen (λ labels. labels) data_seen «record».now)) }
     {
         let owner = LoweredName::of(alloc, record.rname.as_name())?;
-        let octets = record.rdata.canonical_octets(alloc)?;
+        let octets = canonical_octets(alloc, &record.rdata)?;
         Ok(OwnedRecord {
             owner,
             class: record.rclass.code.get(),

@@ -1,0 +1,3 @@
+-- What the contracts of record data of any type cite.
+pub mod Data
+pub mod Written

@@ -1,0 +1,577 @@
+//! Record data of any type.
+
+ghost use Rattle.std.specs.Prelude.{◌≡◌, ◌↔◌, ◌≤◌, ◌<◌, ◌^◌, ℕ, List, length, map, IsTrue, IfOk};
+ghost use Rattle.dns_wire.specs.Building.{Builds};
+ghost use Rattle.dns_wire.specs.Reading.{Gives};
+ghost use Rattle.std.specs.Cmp.Lexicographic.{slice_cmp};
+ghost use Rattle.std.specs.Ordering.{nat_cmp};
+ghost use Rattle.dns_record.specs.Canonical.{ranked_cmp};
+ghost use Rattle.dns_record.specs.Data.{data_as, data_in};
+ghost use Rattle.dns_record.specs.Fields.{FieldOf, named_by, canonical_octets};
+ghost use Rattle.dns_rdata.specs.Written.{as_many};
+ghost use Rattle.dns_record.specs.Rows.{has_row};
+ghost use Rattle.dns_rdata.specs.Data.{data_fields, type_number, IsProper, IsDataOf, NamesFit, written_fields};
+
+use crate::unknown::UnknownRecordData;
+use dns_basic::{CName, Mx, Ns, Ptr, Rp, Soa};
+use dns_edns::Opt;
+use dns_name::CanonicalName;
+use dns_nsec::{Nsec, Nsec3, Nsec3Param};
+use dns_plain::{A, Aaaa, DName, HInfo, Srv, Txt};
+use dns_record::{
+    CanonicalRecordData, ParseRecordData, ParseRecordDataBytes, RClass, RType, Record, TTL,
+};
+use dns_sec::{DNSKey, Ds, Rrsig, ZoneMD};
+use dns_wire::{
+    BuildBytes, ParseBytes, ParseError, ParseMessageBytes, ParseName, SplitMessageBytes,
+    TruncationError,
+};
+use std::cmp::Ordering;
+
+/// Whether the type has a row of its own.
+fn has_row(rtype: RType) -> bool
+    ensures { result ≡ has_row rtype.code.value }
+{
+    matches!(
+        rtype,
+        RType::A
+            | RType::NS
+            | RType::CNAME
+            | RType::SOA
+            | RType::PTR
+            | RType::HINFO
+            | RType::MX
+            | RType::TXT
+            | RType::RP
+            | RType::SRV
+            | RType::AAAA
+            | RType::DNAME
+            | RType::OPT
+            | RType::DS
+            | RType::RRSIG
+            | RType::NSEC
+            | RType::DNSKEY
+            | RType::NSEC3
+            | RType::NSEC3PARAM
+            | RType::ZONEMD
+    )
+}
+
+/// Record data, by their type. `N` is the type of the names that in a message may have pointers.
+#[derive(Clone, Debug, PartialEq, Eq, Hash, Drop)]
+pub enum RecordData<'a, N> {
+    /// An address (RFC 1035 section 3.4.1).
+    A(A),
+    /// A name server (RFC 1035 section 3.3.11).
+    Ns(Ns<N>),
+    /// Another name (RFC 1035 section 3.3.1).
+    CName(CName<N>),
+    /// The start of a zone (RFC 1035 section 3.3.13).
+    Soa(Soa<N>),
+    /// A pointer (RFC 1035 section 3.3.12).
+    Ptr(Ptr<N>),
+    /// A host (RFC 1035 section 3.3.2).
+    HInfo(HInfo<'a>),
+    /// A mail exchange (RFC 1035 section 3.3.9).
+    Mx(Mx<N>),
+    /// Strings (RFC 1035 section 3.3.14).
+    Txt(Txt<'a>),
+    /// Who is responsible (RFC 1183 section 2.2).
+    Rp(Rp<N>),
+    /// A service (RFC 2782).
+    Srv(Srv<'a>),
+    /// An address of 16 octets (RFC 3596 section 2.2).
+    Aaaa(Aaaa),
+    /// Another subtree (RFC 6672 section 2.1).
+    DName(DName<'a>),
+    /// Options (RFC 6891 section 6.1.2).
+    Opt(Opt<'a>),
+    /// The digest of a key (RFC 4034 section 5.1).
+    Ds(Ds<'a>),
+    /// A signature (RFC 4034 section 3.1).
+    Rrsig(Rrsig<'a>),
+    /// The next name (RFC 4034 section 4.1).
+    Nsec(Nsec<'a>),
+    /// A key (RFC 4034 section 2.1).
+    DNSKey(DNSKey<'a>),
+    /// The next hashed name (RFC 5155 section 3.2).
+    Nsec3(Nsec3<'a>),
+    /// How names are hashed (RFC 5155 section 4.2).
+    Nsec3Param(Nsec3Param<'a>),
+    /// The digest of a zone (RFC 8976 section 2.2).
+    ZoneMD(ZoneMD<&'a [u8]>),
+    /// Data of a type that has no row of its own (RFC 3597).
+    Unknown(RType, UnknownRecordData<'a>),
+}
+
+impl<'a, N> RecordData<'a, N> {
+    /// The type of the data.
+    pub fn rtype(&self) -> RType
+        ensures { result.code.value ≡ type_number self.now }
+    {
+        match self {
+            RecordData::A(_) => RType::A,
+            RecordData::Ns(_) => RType::NS,
+            RecordData::CName(_) => RType::CNAME,
+            RecordData::Soa(_) => RType::SOA,
+            RecordData::Ptr(_) => RType::PTR,
+            RecordData::HInfo(_) => RType::HINFO,
+            RecordData::Mx(_) => RType::MX,
+            RecordData::Txt(_) => RType::TXT,
+            RecordData::Rp(_) => RType::RP,
+            RecordData::Srv(_) => RType::SRV,
+            RecordData::Aaaa(_) => RType::AAAA,
+            RecordData::DName(_) => RType::DNAME,
+            RecordData::Opt(_) => RType::OPT,
+            RecordData::Ds(_) => RType::DS,
+            RecordData::Rrsig(_) => RType::RRSIG,
+            RecordData::Nsec(_) => RType::NSEC,
+            RecordData::DNSKey(_) => RType::DNSKEY,
+            RecordData::Nsec3(_) => RType::NSEC3,
+            RecordData::Nsec3Param(_) => RType::NSEC3PARAM,
+            RecordData::ZoneMD(_) => RType::ZONEMD,
+            RecordData::Unknown(rtype, _) => *rtype,
+        }
+    }
+
+    /// Whether the data are not unknown octets under the number of a type that has a row.
+    pub fn is_proper(&self) -> bool
+        ensures { IsTrue result ↔ IsProper self.now }
+    {
+        match self {
+            RecordData::Unknown(rtype, _) => !has_row(*rtype),
+            _ => true,
+        }
+    }
+}
+
+impl<'a, N: ParseName<'a>> ParseRecordDataBytes<'a> for RecordData<'a, N> {
+    ghost Seen = { List (FieldOf N.Seen) };
+
+    ghost seen = { λ v. map (named_by N.seen) (data_fields v) };
+
+    ghost reads_as = { data_as N.reads };
+
+    ghost reads_in = { data_in N.reads_at };
+
+    ghost is_of = { IsDataOf };
+
+    #[tactic(auto, unfolding(dns_record::specs::Data::data_as, dns_record::specs::Rows::row))]
+    fn parse_record_data_bytes(
+        bytes: &'a [u8],
+        rtype: RType,
+    ) -> Result<RecordData<'a, N>, ParseError> {
+        match rtype {
+            RType::A => Ok(RecordData::A(A::parse_bytes(bytes)?)),
+            RType::NS => Ok(RecordData::Ns(Ns::parse_bytes(bytes)?)),
+            RType::CNAME => Ok(RecordData::CName(CName::parse_bytes(bytes)?)),
+            RType::SOA => Ok(RecordData::Soa(Soa::parse_bytes(bytes)?)),
+            RType::PTR => Ok(RecordData::Ptr(Ptr::parse_bytes(bytes)?)),
+            RType::HINFO => Ok(RecordData::HInfo(HInfo::parse_bytes(bytes)?)),
+            RType::MX => Ok(RecordData::Mx(Mx::parse_bytes(bytes)?)),
+            RType::TXT => Ok(RecordData::Txt(Txt::parse_bytes(bytes)?)),
+            RType::RP => Ok(RecordData::Rp(Rp::parse_bytes(bytes)?)),
+            RType::SRV => Ok(RecordData::Srv(Srv::parse_bytes(bytes)?)),
+            RType::AAAA => Ok(RecordData::Aaaa(Aaaa::parse_bytes(bytes)?)),
+            RType::DNAME => Ok(RecordData::DName(DName::parse_bytes(bytes)?)),
+            RType::OPT => Ok(RecordData::Opt(Opt::parse_bytes(bytes)?)),
+            RType::DS => Ok(RecordData::Ds(Ds::parse_bytes(bytes)?)),
+            RType::RRSIG => Ok(RecordData::Rrsig(Rrsig::parse_bytes(bytes)?)),
+            RType::NSEC => Ok(RecordData::Nsec(Nsec::parse_bytes(bytes)?)),
+            RType::DNSKEY => Ok(RecordData::DNSKey(DNSKey::parse_bytes(bytes)?)),
+            RType::NSEC3 => Ok(RecordData::Nsec3(Nsec3::parse_bytes(bytes)?)),
+            RType::NSEC3PARAM => Ok(RecordData::Nsec3Param(Nsec3Param::parse_bytes(bytes)?)),
+            RType::ZONEMD => Ok(RecordData::ZoneMD(ZoneMD::parse_bytes(bytes)?)),
+            _ => Ok(RecordData::Unknown(rtype, UnknownRecordData { octets: bytes })),
+        }
+    }
+}
+
+impl<'a, N: ParseName<'a> + SplitMessageBytes<'a>> ParseRecordData<'a> for RecordData<'a, N> {
+    #[tactic(auto, unfolding(dns_record::specs::Data::data_in, dns_record::specs::Rows::row))]
+    fn parse_record_data(
+        contents: &'a [u8],
+        start: usize,
+        rtype: RType,
+    ) -> Result<RecordData<'a, N>, ParseError> {
+        match rtype {
+            RType::A => Ok(RecordData::A(A::parse_message_bytes(contents, start)?)),
+            RType::NS => Ok(RecordData::Ns(Ns::parse_message_bytes(contents, start)?)),
+            RType::CNAME => Ok(RecordData::CName(CName::parse_message_bytes(contents, start)?)),
+            RType::SOA => Ok(RecordData::Soa(Soa::parse_message_bytes(contents, start)?)),
+            RType::PTR => Ok(RecordData::Ptr(Ptr::parse_message_bytes(contents, start)?)),
+            RType::HINFO => Ok(RecordData::HInfo(HInfo::parse_message_bytes(contents, start)?)),
+            RType::MX => Ok(RecordData::Mx(Mx::parse_message_bytes(contents, start)?)),
+            RType::TXT => Ok(RecordData::Txt(Txt::parse_message_bytes(contents, start)?)),
+            RType::RP => Ok(RecordData::Rp(Rp::parse_message_bytes(contents, start)?)),
+            RType::SRV => Ok(RecordData::Srv(Srv::parse_message_bytes(contents, start)?)),
+            RType::AAAA => Ok(RecordData::Aaaa(Aaaa::parse_message_bytes(contents, start)?)),
+            RType::DNAME => Ok(RecordData::DName(DName::parse_message_bytes(contents, start)?)),
+            RType::OPT => Ok(RecordData::Opt(Opt::parse_message_bytes(contents, start)?)),
+            RType::DS => Ok(RecordData::Ds(Ds::parse_message_bytes(contents, start)?)),
+            RType::RRSIG => Ok(RecordData::Rrsig(Rrsig::parse_message_bytes(contents, start)?)),
+            RType::NSEC => Ok(RecordData::Nsec(Nsec::parse_message_bytes(contents, start)?)),
+            RType::DNSKEY => Ok(RecordData::DNSKey(DNSKey::parse_message_bytes(contents, start)?)),
+            RType::NSEC3 => Ok(RecordData::Nsec3(Nsec3::parse_message_bytes(contents, start)?)),
+            RType::NSEC3PARAM => Ok(RecordData::Nsec3Param(Nsec3Param::parse_message_bytes(
+                contents, start,
+            )?)),
+            RType::ZONEMD => Ok(RecordData::ZoneMD(ZoneMD::parse_message_bytes(contents, start)?)),
+            _ => {
+                let octets = ParseMessageBytes::parse_message_bytes(contents, start)?;
+                Ok(RecordData::Unknown(rtype, UnknownRecordData { octets }))
+            }
+        }
+    }
+}
+
+impl<N: BuildBytes> BuildBytes for RecordData<'_, N> {
+    ghost octets = { λ v. written_fields N.octets (data_fields v) };
+
+    ghost fits = { NamesFit N.fits };
+
+    fn build_at(&self, bytes: &mut [u8], start: usize) -> Result<usize, TruncationError> {
+        match self {
+            RecordData::A(v) => v.build_at(bytes, start),
+            RecordData::Ns(v) => v.build_at(bytes, start),
+            RecordData::CName(v) => v.build_at(bytes, start),
+            RecordData::Soa(v) => v.build_at(bytes, start),
+            RecordData::Ptr(v) => v.build_at(bytes, start),
+            RecordData::HInfo(v) => v.build_at(bytes, start),
+            RecordData::Mx(v) => v.build_at(bytes, start),
+            RecordData::Txt(v) => v.build_at(bytes, start),
+            RecordData::Rp(v) => v.build_at(bytes, start),
+            RecordData::Srv(v) => v.build_at(bytes, start),
+            RecordData::Aaaa(v) => v.build_at(bytes, start),
+            RecordData::DName(v) => v.build_at(bytes, start),
+            RecordData::Opt(v) => v.build_at(bytes, start),
+            RecordData::Ds(v) => v.build_at(bytes, start),
+            RecordData::Rrsig(v) => v.build_at(bytes, start),
+            RecordData::Nsec(v) => v.build_at(bytes, start),
+            RecordData::DNSKey(v) => v.build_at(bytes, start),
+            RecordData::Nsec3(v) => v.build_at(bytes, start),
+            RecordData::Nsec3Param(v) => v.build_at(bytes, start),
+            RecordData::ZoneMD(v) => v.build_at(bytes, start),
+            RecordData::Unknown(_, v) => v.build_at(bytes, start),
+        }
+    }
+
+    fn built_bytes_size(&self) -> usize {
+        match self {
+            RecordData::A(v) => v.built_bytes_size(),
+            RecordData::Ns(v) => v.built_bytes_size(),
+            RecordData::CName(v) => v.built_bytes_size(),
+            RecordData::Soa(v) => v.built_bytes_size(),
+            RecordData::Ptr(v) => v.built_bytes_size(),
+            RecordData::HInfo(v) => v.built_bytes_size(),
+            RecordData::Mx(v) => v.built_bytes_size(),
+            RecordData::Txt(v) => v.built_bytes_size(),
+            RecordData::Rp(v) => v.built_bytes_size(),
+            RecordData::Srv(v) => v.built_bytes_size(),
+            RecordData::Aaaa(v) => v.built_bytes_size(),
+            RecordData::DName(v) => v.built_bytes_size(),
+            RecordData::Opt(v) => v.built_bytes_size(),
+            RecordData::Ds(v) => v.built_bytes_size(),
+            RecordData::Rrsig(v) => v.built_bytes_size(),
+            RecordData::Nsec(v) => v.built_bytes_size(),
+            RecordData::DNSKey(v) => v.built_bytes_size(),
+            RecordData::Nsec3(v) => v.built_bytes_size(),
+            RecordData::Nsec3Param(v) => v.built_bytes_size(),
+            RecordData::ZoneMD(v) => v.built_bytes_size(),
+            RecordData::Unknown(_, v) => v.built_bytes_size(),
+        }
+    }
+}
+
+impl<N: CanonicalName> RecordData<'_, N> {
+    /// The order of the canonical octets of data of one type.
+    fn cmp_of_one_type(&self, other: &Self) -> Ordering
+        requires alike { type_number self.now ≡ type_number other.now }
+        requires proper { IsProper self.now × IsProper other.now }
+        ensures { result ≡ slice_cmp nat_cmp (canonical_octets (type_number self.now) (map (named_by N.name) (data_fields self.now)))
+            (canonical_octets (type_number other.now) (map (named_by N.name) (data_fields other.now))) }
+    {
+        match (self, other) {
+            (RecordData::A(v), RecordData::A(w)) => v.cmp_canonical(w),
+            (RecordData::Ns(v), RecordData::Ns(w)) => v.cmp_canonical(w),
+            (RecordData::CName(v), RecordData::CName(w)) => v.cmp_canonical(w),
+            (RecordData::Soa(v), RecordData::Soa(w)) => v.cmp_canonical(w),
+            (RecordData::Ptr(v), RecordData::Ptr(w)) => v.cmp_canonical(w),
+            (RecordData::HInfo(v), RecordData::HInfo(w)) => v.cmp_canonical(w),
+            (RecordData::Mx(v), RecordData::Mx(w)) => v.cmp_canonical(w),
+            (RecordData::Txt(v), RecordData::Txt(w)) => v.cmp_canonical(w),
+            (RecordData::Rp(v), RecordData::Rp(w)) => v.cmp_canonical(w),
+            (RecordData::Srv(v), RecordData::Srv(w)) => v.cmp_canonical(w),
+            (RecordData::Aaaa(v), RecordData::Aaaa(w)) => v.cmp_canonical(w),
+            (RecordData::DName(v), RecordData::DName(w)) => v.cmp_canonical(w),
+            (RecordData::Opt(v), RecordData::Opt(w)) => v.cmp_canonical(w),
+            (RecordData::Ds(v), RecordData::Ds(w)) => v.cmp_canonical(w),
+            (RecordData::Rrsig(v), RecordData::Rrsig(w)) => v.cmp_canonical(w),
+            (RecordData::Nsec(v), RecordData::Nsec(w)) => v.cmp_canonical(w),
+            (RecordData::DNSKey(v), RecordData::DNSKey(w)) => v.cmp_canonical(w),
+            (RecordData::Nsec3(v), RecordData::Nsec3(w)) => v.cmp_canonical(w),
+            (RecordData::Nsec3Param(v), RecordData::Nsec3Param(w)) => v.cmp_canonical(w),
+            (RecordData::ZoneMD(v), RecordData::ZoneMD(w)) => v.cmp_canonical(w),
+            (RecordData::Unknown(_, v), RecordData::Unknown(_, w)) => v.cmp_canonical(w),
+            _ => Ordering::Equal,
+        }
+    }
+}
+
+/// The fields in order, names in small letters where the type is one of the nine.
+impl<N: CanonicalName> CanonicalRecordData for RecordData<'_, N> {
+    ghost canonical = { λ v. canonical_octets (type_number v) (map (named_by N.name) (data_fields v)) };
+
+    ghost rank = { type_number };
+
+    ghost is_proper = { IsProper };
+
+    ghost as_long = { λ v. as_many N.name N.octets N.octets_are v };
+
+    fn build_canonical_at(&self, bytes: &mut [u8], start: usize) -> Result<usize, TruncationError> {
+        match self {
+            RecordData::A(v) => v.build_canonical_at(bytes, start),
+            RecordData::Ns(v) => v.build_canonical_at(bytes, start),
+            RecordData::CName(v) => v.build_canonical_at(bytes, start),
+            RecordData::Soa(v) => v.build_canonical_at(bytes, start),
+            RecordData::Ptr(v) => v.build_canonical_at(bytes, start),
+            RecordData::HInfo(v) => v.build_canonical_at(bytes, start),
+            RecordData::Mx(v) => v.build_canonical_at(bytes, start),
+            RecordData::Txt(v) => v.build_canonical_at(bytes, start),
+            RecordData::Rp(v) => v.build_canonical_at(bytes, start),
+            RecordData::Srv(v) => v.build_canonical_at(bytes, start),
+            RecordData::Aaaa(v) => v.build_canonical_at(bytes, start),
+            RecordData::DName(v) => v.build_canonical_at(bytes, start),
+            RecordData::Opt(v) => v.build_canonical_at(bytes, start),
+            RecordData::Ds(v) => v.build_canonical_at(bytes, start),
+            RecordData::Rrsig(v) => v.build_canonical_at(bytes, start),
+            RecordData::Nsec(v) => v.build_canonical_at(bytes, start),
+            RecordData::DNSKey(v) => v.build_canonical_at(bytes, start),
+            RecordData::Nsec3(v) => v.build_canonical_at(bytes, start),
+            RecordData::Nsec3Param(v) => v.build_canonical_at(bytes, start),
+            RecordData::ZoneMD(v) => v.build_canonical_at(bytes, start),
+            RecordData::Unknown(_, v) => v.build_canonical_at(bytes, start),
+        }
+    }
+
+    fn cmp_canonical(&self, other: &Self) -> Ordering {
+        match self.rtype().cmp(&other.rtype()) {
+            Ordering::Equal => self.cmp_of_one_type(other),
+            decided => decided,
+        }
+    }
+}
+
+impl<'a, N> From<A> for RecordData<'a, N> {
+    ghost use Rattle.dns_rdata.specs.declared.record_data.RecordData.TheVariants.{A as variant};
+
+    ghost from_gives = { λ v w. w ≡ variant v };
+
+    fn from(value: A) -> RecordData<'a, N> {
+        RecordData::A(value)
+    }
+}
+
+impl<'a, N> From<Ns<N>> for RecordData<'a, N> {
+    ghost use Rattle.dns_rdata.specs.declared.record_data.RecordData.TheVariants.{Ns as variant};
+
+    ghost from_gives = { λ v w. w ≡ variant v };
+
+    fn from(value: Ns<N>) -> RecordData<'a, N> {
+        RecordData::Ns(value)
+    }
+}
+
+impl<'a, N> From<CName<N>> for RecordData<'a, N> {
+    ghost use Rattle.dns_rdata.specs.declared.record_data.RecordData.TheVariants.{CName as variant};
+
+    ghost from_gives = { λ v w. w ≡ variant v };
+
+    fn from(value: CName<N>) -> RecordData<'a, N> {
+        RecordData::CName(value)
+    }
+}
+
+impl<'a, N> From<Soa<N>> for RecordData<'a, N> {
+    ghost use Rattle.dns_rdata.specs.declared.record_data.RecordData.TheVariants.{Soa as variant};
+
+    ghost from_gives = { λ v w. w ≡ variant v };
+
+    fn from(value: Soa<N>) -> RecordData<'a, N> {
+        RecordData::Soa(value)
+    }
+}
+
+impl<'a, N> From<Ptr<N>> for RecordData<'a, N> {
+    ghost use Rattle.dns_rdata.specs.declared.record_data.RecordData.TheVariants.{Ptr as variant};
+
+    ghost from_gives = { λ v w. w ≡ variant v };
+
+    fn from(value: Ptr<N>) -> RecordData<'a, N> {
+        RecordData::Ptr(value)
+    }
+}
+
+impl<'a, N> From<HInfo<'a>> for RecordData<'a, N> {
+    ghost use Rattle.dns_rdata.specs.declared.record_data.RecordData.TheVariants.{HInfo as variant};
+
+    ghost from_gives = { λ v w. w ≡ variant v };
+
+    fn from(value: HInfo<'a>) -> RecordData<'a, N> {
+        RecordData::HInfo(value)
+    }
+}
+
+impl<'a, N> From<Mx<N>> for RecordData<'a, N> {
+    ghost use Rattle.dns_rdata.specs.declared.record_data.RecordData.TheVariants.{Mx as variant};
+
+    ghost from_gives = { λ v w. w ≡ variant v };
+
+    fn from(value: Mx<N>) -> RecordData<'a, N> {
+        RecordData::Mx(value)
+    }
+}
+
+impl<'a, N> From<Txt<'a>> for RecordData<'a, N> {
+    ghost use Rattle.dns_rdata.specs.declared.record_data.RecordData.TheVariants.{Txt as variant};
+
+    ghost from_gives = { λ v w. w ≡ variant v };
+
+    fn from(value: Txt<'a>) -> RecordData<'a, N> {
+        RecordData::Txt(value)
+    }
+}
+
+impl<'a, N> From<Rp<N>> for RecordData<'a, N> {
+    ghost use Rattle.dns_rdata.specs.declared.record_data.RecordData.TheVariants.{Rp as variant};
+
+    ghost from_gives = { λ v w. w ≡ variant v };
+
+    fn from(value: Rp<N>) -> RecordData<'a, N> {
+        RecordData::Rp(value)
+    }
+}
+
+impl<'a, N> From<Srv<'a>> for RecordData<'a, N> {
+    ghost use Rattle.dns_rdata.specs.declared.record_data.RecordData.TheVariants.{Srv as variant};
+
+    ghost from_gives = { λ v w. w ≡ variant v };
+
+    fn from(value: Srv<'a>) -> RecordData<'a, N> {
+        RecordData::Srv(value)
+    }
+}
+
+impl<'a, N> From<Aaaa> for RecordData<'a, N> {
+    ghost use Rattle.dns_rdata.specs.declared.record_data.RecordData.TheVariants.{Aaaa as variant};
+
+    ghost from_gives = { λ v w. w ≡ variant v };
+
+    fn from(value: Aaaa) -> RecordData<'a, N> {
+        RecordData::Aaaa(value)
+    }
+}
+
+impl<'a, N> From<DName<'a>> for RecordData<'a, N> {
+    ghost use Rattle.dns_rdata.specs.declared.record_data.RecordData.TheVariants.{DName as variant};
+
+    ghost from_gives = { λ v w. w ≡ variant v };
+
+    fn from(value: DName<'a>) -> RecordData<'a, N> {
+        RecordData::DName(value)
+    }
+}
+
+impl<'a, N> From<Opt<'a>> for RecordData<'a, N> {
+    ghost use Rattle.dns_rdata.specs.declared.record_data.RecordData.TheVariants.{Opt as variant};
+
+    ghost from_gives = { λ v w. w ≡ variant v };
+
+    fn from(value: Opt<'a>) -> RecordData<'a, N> {
+        RecordData::Opt(value)
+    }
+}
+
+impl<'a, N> From<Ds<'a>> for RecordData<'a, N> {
+    ghost use Rattle.dns_rdata.specs.declared.record_data.RecordData.TheVariants.{Ds as variant};
+
+    ghost from_gives = { λ v w. w ≡ variant v };
+
+    fn from(value: Ds<'a>) -> RecordData<'a, N> {
+        RecordData::Ds(value)
+    }
+}
+
+impl<'a, N> From<Rrsig<'a>> for RecordData<'a, N> {
+    ghost use Rattle.dns_rdata.specs.declared.record_data.RecordData.TheVariants.{Rrsig as variant};
+
+    ghost from_gives = { λ v w. w ≡ variant v };
+
+    fn from(value: Rrsig<'a>) -> RecordData<'a, N> {
+        RecordData::Rrsig(value)
+    }
+}
+
+impl<'a, N> From<Nsec<'a>> for RecordData<'a, N> {
+    ghost use Rattle.dns_rdata.specs.declared.record_data.RecordData.TheVariants.{Nsec as variant};
+
+    ghost from_gives = { λ v w. w ≡ variant v };
+
+    fn from(value: Nsec<'a>) -> RecordData<'a, N> {
+        RecordData::Nsec(value)
+    }
+}
+
+impl<'a, N> From<DNSKey<'a>> for RecordData<'a, N> {
+    ghost use Rattle.dns_rdata.specs.declared.record_data.RecordData.TheVariants.{DNSKey as variant};
+
+    ghost from_gives = { λ v w. w ≡ variant v };
+
+    fn from(value: DNSKey<'a>) -> RecordData<'a, N> {
+        RecordData::DNSKey(value)
+    }
+}
+
+impl<'a, N> From<Nsec3<'a>> for RecordData<'a, N> {
+    ghost use Rattle.dns_rdata.specs.declared.record_data.RecordData.TheVariants.{Nsec3 as variant};
+
+    ghost from_gives = { λ v w. w ≡ variant v };
+
+    fn from(value: Nsec3<'a>) -> RecordData<'a, N> {
+        RecordData::Nsec3(value)
+    }
+}
+
+impl<'a, N> From<Nsec3Param<'a>> for RecordData<'a, N> {
+    ghost use Rattle.dns_rdata.specs.declared.record_data.RecordData.TheVariants.{Nsec3Param as variant};
+
+    ghost from_gives = { λ v w. w ≡ variant v };
+
+    fn from(value: Nsec3Param<'a>) -> RecordData<'a, N> {
+        RecordData::Nsec3Param(value)
+    }
+}
+
+impl<'a, N> From<ZoneMD<&'a [u8]>> for RecordData<'a, N> {
+    ghost use Rattle.dns_rdata.specs.declared.record_data.RecordData.TheVariants.{ZoneMD as variant};
+
+    ghost from_gives = { λ v w. w ≡ variant v };
+
+    fn from(value: ZoneMD<&'a [u8]>) -> RecordData<'a, N> {
+        RecordData::ZoneMD(value)
+    }
+}
+
+/// The record of these parts, whose type is that of its data.
+pub fn old_new<'a, N>(
+    rname: N,
+    rclass: RClass,
+    ttl: TTL,
+    rdata: RecordData<'a, N>,
+) -> Record<N, RecordData<'a, N>>
+    ensures typed { result.rtype.code.value ≡ type_number rdata.entry }
+    ensures kept { (result.rname ≡ rname) × (result.rclass ≡ rclass) × (result.ttl ≡ ttl) × (result.rdata ≡ rdata.entry) }
+{
+    let rtype = rdata.rtype();
+    Record::new(rname, rtype, rclass, ttl, rdata)
+}
