@@ -1,0 +1,28 @@
+-- Record data that are kept as their octets under a type.
+use Rattle.std.specs.Prelude.{◌≡◌, ℕ, ◌≤◌, ◌<◌, List, length, Option, None, unwrap_or, [], is_some, Bool}
+use Rattle.dns_wire.specs.Names.{plain_name}
+use Rattle.dns_record.specs.Data.{data_as}
+use Rattle.dns_record.specs.Fields.{Field}
+use Rattle.dns_record.specs.Rows.{has_row}
+use Rattle.dns_rdata.specs.Alike.{Content}
+use Rattle.dns_rdata.specs.declared.box_error.BoxError.{BoxError}
+use Rattle.dns_rdata.specs.declared.box_error.BoxError.TheVariants.{TooLong, Unreadable, Memory}
+
+-- the row of the type reads all the octets
+abbrev pub is_readable : ℕ → List ℕ → Bool
+is_readable rtype octets = is_some (data_as plain_name rtype octets)
+
+-- the fields that the octets spell, where the row reads them
+abbrev pub spelled : ℕ → List ℕ → List Field
+spelled rtype octets = unwrap_or (data_as plain_name rtype octets) []
+
+-- their content, names as their labels
+abbrev pub spelled_content : ℕ → List ℕ → Content (List (List ℕ))
+spelled_content rtype octets = record { rtype = rtype; known = has_row rtype; fields = spelled rtype octets }
+
+-- Why octets are not kept under a type: they are more than a size can say; or they are not, and the row of the type doesn't
+-- read them; or memory, which is taken for none that are too long, ran out.
+abbrev pub IsWhy : BoxError → ℕ → List ℕ → Type 0
+IsWhy TooLong rtype octets = 65535 < length octets
+IsWhy Unreadable rtype octets = (length octets ≤ 65535) × (data_as plain_name rtype octets ≡ None)
+IsWhy Memory rtype octets = length octets ≤ 65535
