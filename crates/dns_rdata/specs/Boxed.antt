@@ -1,5 +1,5 @@
 -- Record data that are kept as their octets under a type.
-use Rattle.std.specs.Prelude.{◌≡◌, ℕ, ◌≤◌, ◌<◌, List, length, Option, None, unwrap_or, [], is_some, Bool}
+use Rattle.std.specs.Prelude.{◌≡◌, ℕ, ◌≤◌, ◌<◌, List, length, None, unwrap_or, [], is_some, Bool}
 use Rattle.dns_wire.specs.Names.{plain_name}
 use Rattle.dns_record.specs.Data.{data_as}
 use Rattle.dns_record.specs.Fields.{Field}

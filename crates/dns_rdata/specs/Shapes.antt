@@ -1,6 +1,6 @@
 -- The fields that a row reads are of its kinds, so that the numbers of two such lists have the same widths.
-use Rattle.std.proofs.Common.{◌≡◌, ℕ, true, List, [], ◌∷◌, ◌++◌, Option, Some, None, refl, sym, ap, subst, ◌∙◌}
-use Rattle.std.specs.Prelude.{map, ⊤}
+use Rattle.std.proofs.Common.{◌≡◌, ℕ, true, List, [], ◌∷◌, ◌++◌, Option, Some, None, refl, sym, subst, ◌∙◌}
+use Rattle.std.specs.Prelude.{map}
 use Rattle.std.proofs.lemmas.Option.{some_pair_parts}
 use Rattle.dns_wire.specs.Names.{plain_name}
 use Rattle.dns_wire.specs.Reading.{octet, octets, number, all_of}

@@ -10,9 +10,7 @@ ghost use Rattle.dns_rdata.specs.Boxed.{is_readable, spelled, IsWhy};
 ghost use Rattle.dns_rdata.specs.Data.{data_fields, type_number, written_fields, IsDataOf, NamesFit};
 
 use crate::box_error::BoxError;
-use crate::laws::{
-    data_of_any_type_are_equal_by_fields, data_of_any_type_are_hashed_by_fields,
-};
+use crate::laws::{data_of_any_type_are_equal_by_fields, data_of_any_type_are_hashed_by_fields};
 use crate::record_data::RecordData;
 use dns_name::Name;
 use dns_record::{CanonicalRecordData, ParseRecordDataBytes, RClass, RType, Record, TTL};

@@ -3,6 +3,8 @@
 ghost use Rattle.std.specs.Prelude.{IfOk};
 ghost use Rattle.dns_rdata.specs.Data.{IsProper};
 
+mod boxed;
+
 use crate::{RecordData, UnknownRecordData, old_new};
 use dns_name::Name;
 use dns_record::{CanonicalRecordData, ParseRecordDataBytes, RClass, RType, TTL};

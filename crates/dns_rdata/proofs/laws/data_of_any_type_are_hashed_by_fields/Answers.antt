@@ -1,4 +1,4 @@
-use Rattle.std.proofs.Common.{◌≡◌, ℕ, List, ◌∷◌, ap}
+use Rattle.std.proofs.Common.{ℕ, List, ◌∷◌, ap}
 use Rattle.std.proofs.lemmas.List.{append-nil}
 use Rattle.dns_rdata.specs.declared.record_data.RecordData.TheVariants.{A, Ns, CName, Soa, Ptr, HInfo, Mx, Txt, Rp, Srv, Aaaa, DName, Opt, Ds, Rrsig, Nsec, DNSKey, Nsec3, Nsec3Param, ZoneMD, Unknown}
 use Rattle.std.specs.Hash.{le_bytes}

@@ -1,4 +1,4 @@
-use Rattle.std.proofs.Common.{◌≡◌, ℕ, List, refl, ap, ◌∙◌}
+use Rattle.std.proofs.Common.{ℕ, List, refl, ap, ◌∙◌}
 use Rattle.std.specs.List.{fold}
 use Rattle.dns_wire.specs.Names.{name_labels}
 use Rattle.dns_name.specs.Hashing.{name_writes}

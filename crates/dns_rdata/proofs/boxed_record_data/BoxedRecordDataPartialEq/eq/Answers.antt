@@ -1,4 +1,4 @@
-use Rattle.std.proofs.Common.{◌≡◌, ℕ, List, refl, ap, ◌∙◌}
+use Rattle.std.proofs.Common.{ℕ, List, refl, ap, ◌∙◌}
 use Rattle.dns_wire.specs.Names.{name_labels}
 use Rattle.dns_name.specs.declared.name.Name.{Name}
 use Rattle.dns_rdata.specs.Alike.{Content, content_of, same_name, same_content}
