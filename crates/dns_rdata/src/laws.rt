@@ -1,12 +1,9 @@
 //! The definitions of this crate in other words.
 
-ghost use Rattle.std.specs.Prelude.{◌≡◌, Some, map};
+ghost use Rattle.std.specs.Prelude.{◌≡◌};
 ghost use Rattle.dns_name.specs.declared.name.Name.{Name};
-ghost use Rattle.dns_wire.specs.Names.{plain_name, name_labels};
-ghost use Rattle.dns_record.specs.Data.{data_as};
-ghost use Rattle.dns_record.specs.Fields.{named_by};
 ghost use Rattle.dns_rdata.specs.Alike.{content_of, same_content, content_writes};
-ghost use Rattle.dns_rdata.specs.Data.{data_fields, type_number};
+ghost use Rattle.dns_rdata.specs.Boxed.{AreReadAs};
 ghost use Rattle.dns_rdata.specs.declared.boxed_record_data.BoxedRecordData.{BoxedRecordData};
 ghost use Rattle.dns_rdata.specs.declared.record_data.RecordData.{RecordData};
 
@@ -28,13 +25,19 @@ pub fn data_of_any_type_are_hashed_by_fields<N: Hash>()
     ensures { (v : _) → ⟦<RecordData<'static, N> as Hash>⟧.hash_input v ≡ content_writes N.hash_input (content_of v) }
 {}
 
-/// The canonical octets and the rank of kept data are those of data that are read from them, as `get` reads them (RFC 4034
-/// sections 6.2 and 6.3). So kept data compare as what `get` gives.
-pub fn kept_data_are_canonical_as_read()
-    ensures canonical { (kept : BoxedRecordData) (read : RecordData Name) →
-        data_as plain_name kept.rtype.code.value kept.octets.items ≡ Some (map (named_by (λ name. name_labels name.slice.now)) (data_fields read)) →
-        kept.rtype.code.value ≡ type_number read →
+/// Kept data are, for each trait, as the data that are read from them, which `get` gives: their canonical octets and their rank,
+/// by which they compare (RFC 4034 sections 6.2 and 6.3), what they are equal to, and what they feed a hasher.
+pub fn kept_data_are_as_read()
+    ensures canonical { (kept : BoxedRecordData) (read : RecordData Name) → AreReadAs kept.rtype.code.value kept.octets.items read →
         ⟦<BoxedRecordData as CanonicalRecordData>⟧.canonical kept ≡ ⟦<RecordData<'static, Name<'static>> as CanonicalRecordData>⟧.canonical read }
-    ensures rank { (kept : BoxedRecordData) (read : RecordData Name) → kept.rtype.code.value ≡ type_number read →
+    ensures rank { (kept : BoxedRecordData) (read : RecordData Name) → AreReadAs kept.rtype.code.value kept.octets.items read →
         ⟦<BoxedRecordData as CanonicalRecordData>⟧.rank kept ≡ ⟦<RecordData<'static, Name<'static>> as CanonicalRecordData>⟧.rank read }
-{}
+    ensures equal { (kept other : BoxedRecordData) (read also : RecordData Name) →
+        AreReadAs kept.rtype.code.value kept.octets.items read → AreReadAs other.rtype.code.value other.octets.items also →
+        ⟦<BoxedRecordData as PartialEq>⟧.eq kept other ≡ ⟦<RecordData<'static, Name<'static>> as PartialEq>⟧.eq read also }
+    ensures fed { (kept : BoxedRecordData) (read : RecordData Name) → AreReadAs kept.rtype.code.value kept.octets.items read →
+        ⟦<BoxedRecordData as Hash>⟧.hash_input kept ≡ ⟦<RecordData<'static, Name<'static>> as Hash>⟧.hash_input read }
+{
+    data_of_any_type_are_equal_by_fields::<Name<'_>>();
+    data_of_any_type_are_hashed_by_fields::<Name<'_>>();
+}

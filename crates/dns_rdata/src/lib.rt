@@ -11,7 +11,7 @@ pub use box_error::BoxError;
 pub use boxed_record_data::{BoxedRecordData, old_new_box};
 pub use laws::{
     data_of_any_type_are_equal_by_fields, data_of_any_type_are_hashed_by_fields,
-    kept_data_are_canonical_as_read,
+    kept_data_are_as_read,
 };
 pub use record_data::{RecordData, old_new};
 pub use unknown::UnknownRecordData;

@@ -2,8 +2,8 @@
 
 use super::{ROWS, Row};
 use crate::{
-    BoxError, BoxedRecordData, RecordData, data_of_any_type_are_equal_by_fields,
-    data_of_any_type_are_hashed_by_fields, kept_data_are_canonical_as_read, old_new_box,
+    BoxError, BoxedRecordData, RecordData, UnknownRecordData, data_of_any_type_are_equal_by_fields,
+    data_of_any_type_are_hashed_by_fields, kept_data_are_as_read, old_new_box,
 };
 use dns_name::{Name, NameBuf};
 use dns_nsec::{Nsec, TypeBitmaps};
@@ -28,6 +28,22 @@ fn fed<T: Hash>(value: &T) -> u64 {
     let mut state = DefaultHasher::new();
     value.hash(&mut state);
     state.finish()
+}
+
+/// Octets of a type, read as no type says.
+fn unknown_data(rtype: RType, octets: &[u8]) -> RecordData<'_, Name<'_>> {
+    RecordData::Unknown(rtype, UnknownRecordData { octets })
+}
+
+#[test]
+fn unknown_octets_are_equal_under_one_type(rt: HostRuntime) -> Result<(), Fail> {
+    let octets = b"\xc0\0\x02\x01";
+    let unknown = unknown_data(RType::A, octets);
+    assert_eq!(rt; unknown, unknown_data(RType::A, octets));
+    assert_eq!(rt; fed(&unknown), fed(&unknown_data(RType::A, octets)));
+    assert_ne!(rt; unknown, unknown_data(RType::from(PRIVATE), octets));
+    assert_ne!(rt; unknown, RecordData::A(A::parse_bytes(octets)?));
+    Ok(())
 }
 
 #[test]
@@ -85,6 +101,11 @@ fn keeps_data(rt: HostRuntime) -> Result<(), Fail> {
     let nothing = Nsec::new(Name::root(), TypeBitmaps::parse_bytes(b"")?);
     let refused = BoxedRecordData::make(alloc, &RecordData::<NameBuf>::Nsec(nothing));
     assert_eq!(rt; refused, Err(BoxError::Unreadable));
+    let unknown = unknown_data(RType::A, b"\xc0\0\x02\x01");
+    let kept = BoxedRecordData::make(alloc, &unknown)?;
+    assert_eq!(rt; kept.get(), address);
+    let short = BoxedRecordData::make(alloc, &unknown_data(RType::A, b"\xc0\0\x02"));
+    assert_eq!(rt; short, Err(BoxError::Unreadable));
     Ok(())
 }
 
@@ -119,6 +140,7 @@ fn writes<D: CanonicalRecordData + Eq>(rt: &impl Abort, value: &D, row: &Row) ->
     let mut buffer = [0; 128];
     let end = value.build_at(&mut buffer, 0)?;
     assert_eq!(rt; &buffer[..end], row.octets, "{}", row.number);
+    assert_eq!(rt; value.built_bytes_size(), row.octets.len());
     let end = value.build_canonical_at(&mut buffer, 0)?;
     assert_eq!(rt; &buffer[..end], row.canonical, "{}", row.number);
     assert_eq!(rt; value.cmp_canonical(value), Ordering::Equal);
@@ -133,7 +155,7 @@ fn writes_what_is_kept(rt: HostRuntime) -> Result<(), Fail> {
     }
     data_of_any_type_are_equal_by_fields::<NameBuf>();
     data_of_any_type_are_hashed_by_fields::<NameBuf>();
-    kept_data_are_canonical_as_read();
+    kept_data_are_as_read();
     Ok(())
 }
 
