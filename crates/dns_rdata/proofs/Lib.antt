@@ -1,4 +1,5 @@
 -- The crate's own lemmas.
 pub mod Alike
 pub mod Canonical
+pub mod Forms
 pub mod Plain

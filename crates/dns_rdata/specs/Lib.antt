@@ -2,6 +2,10 @@
 pub mod Alike
 pub mod Boxed
 pub mod Data
+pub mod Edns
+pub mod EdnsForms
+pub mod EdnsLeft
+pub mod Mapping
 pub mod Sameness
 pub mod Shapes
 pub mod Spelled

@@ -1,14 +1,19 @@
-//! Record data of any type in one value.
+//! Record data of any type in one value, in memory of their own, and EDNS records.
 #![tactic(auto)]
 
 mod box_error;
 mod boxed_record_data;
+mod edns_conversion;
+mod edns_laws;
+mod edns_record;
 mod laws;
 mod record_data;
 mod unknown;
 
 pub use box_error::BoxError;
 pub use boxed_record_data::{BoxedRecordData, old_new_box};
+pub use edns_laws::edns_records_come_back;
+pub use edns_record::EdnsRecord;
 pub use laws::{
     data_of_any_type_are_equal_by_fields, data_of_any_type_are_hashed_by_fields,
     kept_data_are_as_read,

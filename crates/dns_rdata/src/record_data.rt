@@ -10,6 +10,8 @@ ghost use Rattle.dns_record.specs.Data.{data_as, data_in};
 ghost use Rattle.dns_record.specs.Fields.{FieldOf, named_by, canonical_octets};
 ghost use Rattle.dns_rdata.specs.Written.{as_many};
 ghost use Rattle.dns_record.specs.Rows.{has_row};
+ghost use Rattle.std.specs.Fn.{CalledAt, TakesAt};
+ghost use Rattle.dns_rdata.specs.Mapping.{TakesNames, HoldsGiven};
 ghost use Rattle.dns_rdata.specs.Data.{data_fields, type_number, IsProper, IsDataOf, NamesFit, written_fields};
 
 use crate::unknown::UnknownRecordData;
@@ -141,6 +143,66 @@ impl<'a, N> RecordData<'a, N> {
         match self {
             RecordData::Unknown(rtype, _) => !has_row(*rtype),
             _ => true,
+        }
+    }
+
+    /// The data with what the function makes of their names, called on them in the order of the fields.
+    pub fn map_names<R, F: FnMut(N) -> R>(self, f: F) -> RecordData<'a, R>
+        requires { TakesNames F.pre F.step f self }
+        ensures { HoldsGiven F.step f self.entry result }
+    {
+        match self {
+            RecordData::A(v) => RecordData::A(v),
+            RecordData::Ns(v) => RecordData::Ns(v.map_name(f)),
+            RecordData::CName(v) => RecordData::CName(v.map_name(f)),
+            RecordData::Soa(v) => RecordData::Soa(v.map_names(f)),
+            RecordData::Ptr(v) => RecordData::Ptr(v.map_name(f)),
+            RecordData::HInfo(v) => RecordData::HInfo(v),
+            RecordData::Mx(v) => RecordData::Mx(v.map_name(f)),
+            RecordData::Txt(v) => RecordData::Txt(v),
+            RecordData::Rp(v) => RecordData::Rp(v.map_names(f)),
+            RecordData::Srv(v) => RecordData::Srv(v),
+            RecordData::Aaaa(v) => RecordData::Aaaa(v),
+            RecordData::DName(v) => RecordData::DName(v),
+            RecordData::Opt(v) => RecordData::Opt(v),
+            RecordData::Ds(v) => RecordData::Ds(v),
+            RecordData::Rrsig(v) => RecordData::Rrsig(v),
+            RecordData::Nsec(v) => RecordData::Nsec(v),
+            RecordData::DNSKey(v) => RecordData::DNSKey(v),
+            RecordData::Nsec3(v) => RecordData::Nsec3(v),
+            RecordData::Nsec3Param(v) => RecordData::Nsec3Param(v),
+            RecordData::ZoneMD(v) => RecordData::ZoneMD(v),
+            RecordData::Unknown(rtype, v) => RecordData::Unknown(rtype, v),
+        }
+    }
+
+    /// The data with what the function makes of references to their names, called on them in the order of the fields.
+    pub fn map_names_by_ref<'r, R, F: FnMut(&'r N) -> R>(&'r self, f: F) -> RecordData<'r, R>
+        requires { TakesNames (TakesAt F.FnMut) (CalledAt F.FnMut) f self.now }
+        ensures { HoldsGiven (CalledAt F.FnMut) f self.now result }
+    {
+        match self {
+            RecordData::A(v) => RecordData::A(*v),
+            RecordData::Ns(v) => RecordData::Ns(v.map_name_by_ref(f)),
+            RecordData::CName(v) => RecordData::CName(v.map_name_by_ref(f)),
+            RecordData::Soa(v) => RecordData::Soa(v.map_names_by_ref(f)),
+            RecordData::Ptr(v) => RecordData::Ptr(v.map_name_by_ref(f)),
+            RecordData::HInfo(v) => RecordData::HInfo(*v),
+            RecordData::Mx(v) => RecordData::Mx(v.map_name_by_ref(f)),
+            RecordData::Txt(v) => RecordData::Txt(*v),
+            RecordData::Rp(v) => RecordData::Rp(v.map_names_by_ref(f)),
+            RecordData::Srv(v) => RecordData::Srv(*v),
+            RecordData::Aaaa(v) => RecordData::Aaaa(*v),
+            RecordData::DName(v) => RecordData::DName(*v),
+            RecordData::Opt(v) => RecordData::Opt(*v),
+            RecordData::Ds(v) => RecordData::Ds(*v),
+            RecordData::Rrsig(v) => RecordData::Rrsig(*v),
+            RecordData::Nsec(v) => RecordData::Nsec(*v),
+            RecordData::DNSKey(v) => RecordData::DNSKey(*v),
+            RecordData::Nsec3(v) => RecordData::Nsec3(*v),
+            RecordData::Nsec3Param(v) => RecordData::Nsec3Param(*v),
+            RecordData::ZoneMD(v) => RecordData::ZoneMD(*v),
+            RecordData::Unknown(rtype, v) => RecordData::Unknown(*rtype, *v),
         }
     }
 }

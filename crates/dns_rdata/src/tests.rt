@@ -1,5 +1,8 @@
 //! Data of each type in one value.
 
+mod edns;
+mod mapping;
+
 ghost use Rattle.std.specs.Prelude.{IfOk};
 ghost use Rattle.dns_rdata.specs.Data.{IsProper};
 

@@ -1,0 +1,73 @@
+-- EDNS records: the root, the number of OPT, and what stands in place of class and time to live (RFC 6891 section 6.1.2).
+use Rattle.std.specs.Prelude.{◌≡◌, ℕ, ◌+◌, ◌*◌, List, [], ◌∷◌, ◌++◌, length, drop, take, Option, Some, None, Bool, nat_lt, nat_eq, ◌==◌, if◌then◌else◌}
+use Rattle.std.specs.Cmp.Lexicographic.{pointwise}
+use Rattle.std.specs.Fn.{Shared}
+use Rattle.std.specs.Int.{w16, to_be_bytes}
+use denote.Ref.{Bor}
+use Rattle.dns_num.specs.Prefixed.{prefixed, sized}
+use Rattle.dns_wire.specs.Reading.{octet, number}
+use Rattle.dns_wire.specs.Steps.{◌>>=◌}
+use Rattle.dns_edns.specs.Flags.{flag_bits}
+use Rattle.dns_rdata.specs.declared.edns_record.EdnsRecord.{EdnsRecord}
+
+-- ---- what is seen
+
+pub record EdnsOf (D : Type 0) : Type 0 where
+  pub payload : ℕ
+  pub ext_rcode : ℕ
+  pub version : ℕ
+  pub flags : ℕ
+  pub content : D
+
+-- the numbers, and the data as they are seen
+abbrev pub edns_seen : {D S : Type 0} → (D → S) → EdnsRecord D → EdnsOf S
+edns_seen content r = record {
+  payload = r.max_udp_payload.value;
+  ext_rcode = r.ext_rcode;
+  version = r.version;
+  flags = flag_bits r.flags;
+  content = content r.content;
+}
+
+-- ---- on the wire
+
+-- the root, and the number of OPT
+abbrev pub edns_head : List ℕ
+edns_head = 0 ∷ 0 ∷ 41 ∷ []
+
+-- what stands behind this head, where the octets begin with it
+abbrev pub behind_head : List ℕ → Option (List ℕ)
+behind_head bytes = if pointwise nat_eq (take 3 bytes) edns_head then Some (drop 3 bytes) else None
+
+-- the head, a size of payload, a part of the response code, a version, flags, and data behind the number of their octets
+unfoldable pub edns_at : {D : Type 0} → (List ℕ → Option (D × List ℕ)) → List ℕ → Option (EdnsOf D × List ℕ)
+edns_at content bytes = do
+  rest ← behind_head bytes
+  payload ← number w16 rest
+  ext_rcode ← octet payload.1
+  version ← octet ext_rcode.1
+  flags ← number w16 version.1
+  body ← prefixed w16 content flags.1
+  Some (record { payload = payload.0; ext_rcode = ext_rcode.0; version = version.0; flags = flags.0; content = body.0 }, body.1)
+
+-- the octets, where these are those of the data
+abbrev pub edns_octets : {D : Type 0} → EdnsRecord D → List ℕ → List ℕ
+edns_octets r octets =
+    edns_head ++ (to_be_bytes w16 r.max_udp_payload.value ++ ((r.ext_rcode ∷ []) ++ ((r.version ∷ []) ++ (to_be_bytes w16 (flag_bits r.flags) ++ sized w16 octets))))
+
+-- ---- comparison
+
+-- the four fields in front of the data are the same
+abbrev pub SameFront : {D E : Type 0} → EdnsRecord D → EdnsRecord E → Type 0
+SameFront a b = (a.max_udp_payload ≡ b.max_udp_payload) × (a.ext_rcode ≡ b.ext_rcode) × (a.version ≡ b.version) × (a.flags ≡ b.flags)
+
+-- a function may be called at references to these two
+abbrev pub TakesTwo : {F D E : Type 0} → Shared F (Bor D × (Bor E × Unit {0})) Bool → F → D → E → Type 0
+TakesTwo {F} {D} {E} g f x y = (p : Bor D) (q : Bor E) → p.now ≡ x → q.now ≡ y → g.pre f (p, (q, tt))
+
+-- and may answer so
+pub record AnswersTwo {F D E : Type 0} (g : Shared F (Bor D × (Bor E × Unit {0})) Bool) (f : F) (x : D) (y : E) (answer : Bool) : Type 0 where
+  pub first : Bor D
+  pub second : Bor E
+  pub shows : (first.now ≡ x) × (second.now ≡ y)
+  pub met : g.post f (first, (second, tt)) answer

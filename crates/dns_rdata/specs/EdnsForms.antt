@@ -1,0 +1,44 @@
+-- EDNS records in the form of records (RFC 6891 sections 6.1.2 and 6.1.3).
+use Rattle.std.specs.Prelude.{◌≡◌, ℕ, ◌+◌, ◌*◌, ◌/◌, ◌%◌, ◌^◌, List, [], ◌∷◌, Option, Some, None, Bool, true, false, ◌&&◌, ◌==◌, if◌then◌else◌}
+use Rattle.dns_record.specs.Options.{is_option_data}
+use Rattle.dns_record.specs.declared.record.Record.{Record}
+use Rattle.dns_wire.specs.Steps.{◌>>=◌}
+use Rattle.dns_edns.specs.Flags.{flag_bits}
+use Rattle.dns_edns.specs.declared.opt.Opt.{Opt as OptData}
+use Rattle.dns_rdata.specs.Edns.{EdnsOf}
+use Rattle.dns_rdata.specs.declared.edns_record.EdnsRecord.{EdnsRecord}
+use Rattle.dns_rdata.specs.declared.record_data.RecordData.{RecordData}
+use Rattle.dns_rdata.specs.declared.record_data.RecordData.TheVariants.{Opt, Unknown}
+
+-- the part of the response code, the version and the flags, as the four octets of a time to live
+abbrev pub edns_ttl : ℕ → ℕ → ℕ → ℕ
+edns_ttl ext_rcode version flags = ext_rcode * 2 ^ 24 + version * 2 ^ 16 + flags
+
+-- a record with this owner has the fields and the data of an EDNS record
+pub record IsFormOf {O N : Type 0} (root : O) (edns : EdnsRecord OptData) (form : Record O (RecordData N)) : Type 0 where
+  pub owner : form.rname ≡ root
+  pub rtype : form.rtype.code.value ≡ 41
+  pub class : form.rclass.code ≡ edns.max_udp_payload
+  pub ttl : form.ttl.value.value ≡ edns_ttl edns.ext_rcode edns.version (flag_bits edns.flags)
+  pub content : form.rdata ≡ Opt edns.content
+
+-- the octets of the options that data have: OPT data, and unknown data with the number of OPT that are options
+abbrev pub option_octets : {N : Type 0} → RecordData N → Option (List ℕ)
+option_octets (Opt v) = Some v.slice.now
+option_octets (Unknown rtype v) = if (rtype.code.value == 41) && is_option_data v.octets.now then Some v.octets.now else None
+option_octets v = None
+
+-- whether a name is the root
+abbrev pub is_root : List (List ℕ) → Bool
+is_root [] = true
+is_root (label ∷ labels) = false
+
+-- the EDNS record whose fields stand as this class and this time to live
+abbrev pub edns_fields : ℕ → ℕ → List ℕ → EdnsOf (List ℕ)
+edns_fields class ttl octets = record { payload = class; ext_rcode = ttl / 2 ^ 24; version = (ttl / 2 ^ 16) % 2 ^ 8; flags = ttl % 2 ^ 16; content = octets }
+
+-- the EDNS record that a record is: its owner is the root, its type is OPT, and its data have options
+abbrev pub edns_in : {N : Type 0} → Record (List (List ℕ)) (RecordData N) → Option (EdnsOf (List ℕ))
+edns_in form = do
+  octets ← if is_root form.rname && (form.rtype.code.value == 41) then option_octets form.rdata else None
+  Some (edns_fields form.rclass.code.value form.ttl.value.value octets)

@@ -1,0 +1,169 @@
+//! EDNS records.
+
+ghost use Rattle.std.specs.Prelude.{◌≡◌, ◌↔◌, ◌≤◌, ◌<◌, ◌^◌, length, IfOk, IsTrue};
+ghost use Rattle.std.specs.Fn.{FnOnceTakesAt, FnOnceReturnsAt};
+ghost use Rattle.dns_wire.specs.Pieces.{whole_presses};
+ghost use Rattle.dns_wire.specs.Reading.{Gives};
+ghost use Rattle.dns_rdata.specs.Edns.{EdnsOf, edns_seen, behind_head, edns_at, edns_octets, SameFront, TakesTwo, AnswersTwo};
+ghost use Rattle.dns_rdata.specs.EdnsLeft.{edns_leaves};
+
+use dns_edns::EdnsFlags;
+use dns_num::{SizePrefixed, U16};
+use dns_wire::{
+    BuildBytes, BuildInMessage, NameCompressor, ParseBytes, ParseError, ReadPlainValue, SplitBytes,
+    TruncationError, build_whole,
+};
+
+/// The root, and the number of OPT: with these octets each EDNS record begins (RFC 6891 section 6.1.2).
+const HEAD: [u8; 3] = [0, 0, 41];
+
+/// What a message says of its sender, and of the message as a whole: an OPT record, whose owner is the root, and which has
+/// fields of its own where others have a class and a time to live (RFC 6891 section 6.1.2).
+#[derive(Clone, Debug, PartialEq, Eq, Drop)]
+pub struct EdnsRecord<D> {
+    /// How many octets of a UDP payload the sender takes.
+    pub max_udp_payload: U16,
+    /// The upper eight bits of the response code (RFC 6891 section 6.1.3).
+    pub ext_rcode: u8,
+    /// The version of EDNS.
+    pub version: u8,
+    /// The flags.
+    pub flags: EdnsFlags,
+    /// The data, at most 65,535 octets: options, as a rule.
+    pub content: SizePrefixed<U16, D>,
+}
+
+impl<D> EdnsRecord<D> {
+    /// The record with what the function makes of its data.
+    pub fn transform<ND, F: FnOnce(D) -> ND>(self, data_map: F) -> EdnsRecord<ND>
+        requires { F.pre data_map self.content }
+        ensures content { F.post data_map self.content result.content }
+        ensures kept { (result.max_udp_payload ≡ self.max_udp_payload) × (result.ext_rcode ≡ self.ext_rcode) × (result.version ≡ self.version) × (result.flags ≡ self.flags) }
+    {
+        EdnsRecord {
+            max_udp_payload: self.max_udp_payload,
+            ext_rcode: self.ext_rcode,
+            version: self.version,
+            flags: self.flags,
+            content: SizePrefixed::new(data_map(self.content.into_data())),
+        }
+    }
+
+    /// The record with what the function makes of a reference to its data.
+    pub fn transform_ref<'a, ND, F: FnOnce(&'a D) -> ND>(&'a self, data_map: F) -> EdnsRecord<ND>
+        requires { FnOnceTakesAt F.FnOnce data_map self.now.content }
+        ensures content { FnOnceReturnsAt F.FnOnce data_map self.now.content result.content }
+        ensures kept { (result.max_udp_payload ≡ self.now.max_udp_payload) × (result.ext_rcode ≡ self.now.ext_rcode) × (result.version ≡ self.now.version) × (result.flags ≡ self.now.flags) }
+    {
+        EdnsRecord {
+            max_udp_payload: self.max_udp_payload,
+            ext_rcode: self.ext_rcode,
+            version: self.version,
+            flags: self.flags,
+            content: SizePrefixed::new(data_map(self.content.inner())),
+        }
+    }
+}
+
+/// `ParseError` comes exactly where the octets don't begin with the root and the number of OPT, or the fields or the data
+/// behind them are not read.
+impl<'a, D: ParseBytes<'a>> ReadPlainValue<'a> for EdnsRecord<D> {
+    ghost Seen = { EdnsOf D.Seen };
+
+    ghost seen = { edns_seen D.seen };
+
+    ghost reads = { edns_at D.reads };
+
+    ghost leaves_rest = { edns_leaves D.reads };
+
+    #[tactic(auto, unfolding(crate::specs::Edns::edns_at))]
+    fn read_plain(bytes: &'a [u8]) -> Result<(EdnsRecord<D>, &'a [u8]), ParseError> {
+        let rest = split_head(bytes)?;
+        let (max_udp_payload, rest) = U16::split_bytes(rest)?;
+        let (ext_rcode, rest) = u8::split_bytes(rest)?;
+        let (version, rest) = u8::split_bytes(rest)?;
+        let (flags, rest) = EdnsFlags::split_bytes(rest)?;
+        let (content, rest) = match SizePrefixed::split_bytes(rest) {
+            Ok(parts) => parts,
+            Err(error) => return Err(error),
+        };
+        let value = EdnsRecord {
+            max_udp_payload,
+            ext_rcode,
+            version,
+            flags,
+            content,
+        };
+        Ok((value, rest))
+    }
+}
+
+/// The octets behind the head of an EDNS record. `ParseError` comes exactly where they don't begin with it.
+fn split_head(bytes: &[u8]) -> Result<&[u8], ParseError>
+    ensures exact { Gives (λ rest. rest.now) result (behind_head bytes.now) }
+    ensures within { IfOk result (λ rest. length rest.now ≤ length bytes.now) }
+{
+    if bytes.len() < HEAD.len() {
+        return Err(ParseError);
+    }
+    let (head, rest) = bytes.split_at(HEAD.len());
+    if head == HEAD.as_slice() {
+        Ok(rest)
+    } else {
+        Err(ParseError)
+    }
+}
+
+impl<D: BuildBytes> BuildBytes for EdnsRecord<D> {
+    ghost octets = { λ v. edns_octets v (D.octets v.content) };
+
+    ghost fits = { λ v. (length (D.octets v.content) < 2 ^ 16) × D.fits v.content };
+
+    fn build_at(&self, bytes: &mut [u8], start: usize) -> Result<usize, TruncationError> {
+        let behind = (&self.version, (&self.flags, &self.content));
+        (HEAD, (&self.max_udp_payload, (&self.ext_rcode, behind))).build_at(bytes, start)
+    }
+
+    fn built_bytes_size(&self) -> usize {
+        9 + self.content.built_bytes_size()
+    }
+}
+
+/// Whole, with no name in it that is pointed to.
+impl<D: BuildBytes> BuildInMessage for EdnsRecord<D> {
+    ghost presses = { λ v. whole_presses (edns_octets v (D.octets v.content)) };
+
+    ghost fits_in = { λ v _ _. (length (D.octets v.content) < 2 ^ 16) × D.fits v.content };
+
+    ghost told = { λ _. tt };
+
+    fn build_in_message(
+        &self,
+        contents: &mut [u8],
+        start: usize,
+        compressor: &mut NameCompressor,
+    ) -> Result<usize, TruncationError> {
+        build_whole(self, contents, start, compressor)
+    }
+}
+
+impl<D> EdnsRecord<D> {
+    /// Whether the fields of both in front of their data are the same.
+    fn same_front<E>(&self, that: &EdnsRecord<E>) -> bool
+        ensures { IsTrue result ↔ SameFront self.now that.now }
+    {
+        self.max_udp_payload == that.max_udp_payload
+            && self.ext_rcode == that.ext_rcode
+            && self.version == that.version
+            && self.flags == that.flags
+    }
+
+    /// Whether the fields of both are the same, and the function answers so of their data.
+    pub fn eq_record<E, F: Fn(&D, &E) -> bool>(&self, that: &EdnsRecord<E>, same: F) -> bool
+        requires { TakesTwo F.Fn same self.now.content that.now.content }
+        ensures fields { IsTrue result → SameFront self.now that.now }
+        ensures content { SameFront self.now that.now → AnswersTwo F.Fn same self.now.content that.now.content result }
+    {
+        self.same_front(that) && same(self.content.inner(), that.content.inner())
+    }
+}
