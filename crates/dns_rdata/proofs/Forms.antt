@@ -1,10 +1,10 @@
 -- EDNS records in the form of records.
-use Rattle.std.proofs.Common.{◌≡◌, ℕ, ◌+◌, ◌*◌, ◌/◌, ◌%◌, ◌^◌, ◌<◌, List, [], Some, refl, sym, ap, arith}
+use Rattle.std.proofs.Common.{◌≡◌, ℕ, ◌/◌, ◌%◌, ◌^◌, ◌<◌, List, [], Some, refl, arith}
 use Rattle.dns_edns.specs.Flags.{flag_bits}
 use Rattle.dns_edns.specs.declared.opt.Opt.{Opt as OptData}
 use Rattle.dns_record.specs.declared.record.Record.{Record}
-use Rattle.dns_rdata.specs.Edns.{EdnsOf, edns_seen}
-use Rattle.dns_rdata.specs.EdnsForms.{IsFormOf, edns_ttl, edns_fields, edns_in}
+use Rattle.dns_rdata.specs.Edns.{edns_seen}
+use Rattle.dns_rdata.specs.EdnsForms.{IsFormOf, edns_ttl, edns_in}
 use Rattle.dns_rdata.specs.declared.edns_record.EdnsRecord.{EdnsRecord}
 use Rattle.dns_rdata.specs.declared.record_data.RecordData.{RecordData}
 

@@ -1,5 +1,5 @@
 -- EDNS records: the root, the number of OPT, and what stands in place of class and time to live (RFC 6891 section 6.1.2).
-use Rattle.std.specs.Prelude.{◌≡◌, ℕ, ◌+◌, ◌*◌, List, [], ◌∷◌, ◌++◌, length, drop, take, Option, Some, None, Bool, nat_lt, nat_eq, ◌==◌, if◌then◌else◌}
+use Rattle.std.specs.Prelude.{◌≡◌, ℕ, List, [], ◌∷◌, ◌++◌, drop, take, Option, Some, None, Bool, nat_eq, if◌then◌else◌}
 use Rattle.std.specs.Cmp.Lexicographic.{pointwise}
 use Rattle.std.specs.Fn.{Shared}
 use Rattle.std.specs.Int.{w16, to_be_bytes}

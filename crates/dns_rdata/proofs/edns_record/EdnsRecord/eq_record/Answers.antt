@@ -1,4 +1,3 @@
-use Rattle.std.proofs.Common.{rules, refl, sym, ◌∙◌, true, false}
 use Rattle.dns_rdata.proofs.edns_record.EdnsRecord.eq_record.Goals.{then-same_front, else-same_front}
 use Rattle.dns_rdata.proofs.edns_record.EdnsRecord.eq_record.Goals as goal
 

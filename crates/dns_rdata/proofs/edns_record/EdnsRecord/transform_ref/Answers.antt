@@ -1,4 +1,3 @@
-use Rattle.std.proofs.Common.{rules}
 use Rattle.dns_rdata.proofs.edns_record.EdnsRecord.transform_ref.Goals as goal
 
 pub returns-clause-content : goal.returns-clause-content
