@@ -5,6 +5,7 @@ pub mod Data
 pub mod Edns
 pub mod EdnsForms
 pub mod EdnsLeft
+pub mod Kept
 pub mod Mapping
 pub mod Sameness
 pub mod Shapes

@@ -13,7 +13,7 @@ use crate::box_error::BoxError;
 use crate::laws::{data_of_any_type_are_equal_by_fields, data_of_any_type_are_hashed_by_fields};
 use crate::record_data::RecordData;
 use dns_name::Name;
-use dns_record::{CanonicalRecordData, ParseRecordDataBytes, RClass, RType, Record, TTL};
+use dns_record::{CanonicalRecordData, ParseRecordDataBytes, RType};
 use dns_wire::{BuildBytes, TruncationError, put};
 use std::alloc::{AllocError, Global};
 use std::cmp::Ordering;
@@ -50,6 +50,8 @@ pub struct BoxedRecordData {
 }
 
 impl BoxedRecordData {
+    ghost use Rattle.dns_rdata.specs.Kept.{kept_type, kept_octets};
+
     /// Keeps the octets of these data, names whole. `TooLong` comes exactly above 65,535 octets, before memory is taken.
     /// `Unreadable` comes where the row of the type doesn't read the octets, as those of NSEC without a type (RFC 4034 section
     /// 4.1.2), or unknown octets under the number of a type with a row. `Memory` is want of memory.
@@ -59,8 +61,8 @@ impl BoxedRecordData {
     ) -> Result<BoxedRecordData, BoxError>
         requires countable { length (written_fields N.octets (data_fields content.now)) < 2 ^ 64 }
         requires fits { NamesFit N.fits content.now }
-        ensures octets { IfOk result (λ kept. kept.octets.items ≡ written_fields N.octets (data_fields content.now)) }
-        ensures typed { IfOk result (λ kept. kept.rtype.code.value ≡ type_number content.now) }
+        ensures octets { IfOk result (λ kept. kept_octets kept ≡ written_fields N.octets (data_fields content.now)) }
+        ensures typed { IfOk result (λ kept. kept_type kept ≡ type_number content.now) }
         ensures short { IfOk result (λ _. length (written_fields N.octets (data_fields content.now)) ≤ 65535) }
         ensures readable { IfOk result (λ _. is_readable (type_number content.now) (written_fields N.octets (data_fields content.now)) ≡ true) }
         ensures refused { IfErr result (λ why. IsWhy why (type_number content.now) (written_fields N.octets (data_fields content.now))) }
@@ -81,8 +83,8 @@ impl BoxedRecordData {
     /// Keeps these octets under this type. `TooLong` comes exactly above 65,535 octets, before memory is taken. `Unreadable`
     /// comes where the row of the type doesn't read them. `Memory` is want of memory.
     pub fn parse(alloc: Global, bytes: &[u8], rtype: RType) -> Result<BoxedRecordData, BoxError>
-        ensures octets { IfOk result (λ kept. kept.octets.items ≡ bytes.now) }
-        ensures typed { IfOk result (λ kept. kept.rtype ≡ rtype) }
+        ensures octets { IfOk result (λ kept. kept_octets kept ≡ bytes.now) }
+        ensures typed { IfOk result (λ kept. kept_type kept ≡ rtype.code.value) }
         ensures short { IfOk result (λ _. length bytes.now ≤ 65535) }
         ensures readable { IfOk result (λ _. is_readable rtype.code.value bytes.now ≡ true) }
         ensures refused { IfErr result (λ why. IsWhy why rtype.code.value bytes.now) }
@@ -99,8 +101,8 @@ impl BoxedRecordData {
 
     /// The same data in memory of their own, from where theirs is.
     pub fn try_clone(&self) -> Result<BoxedRecordData, AllocError>
-        ensures octets { IfOk result (λ copy. copy.octets.items ≡ self.now.octets.items) }
-        ensures typed { IfOk result (λ copy. copy.rtype ≡ self.now.rtype) }
+        ensures octets { IfOk result (λ copy. kept_octets copy ≡ kept_octets self.now) }
+        ensures typed { IfOk result (λ copy. kept_type copy ≡ kept_type self.now) }
     {
         let octets = self.octets.clone()?;
         Ok(BoxedRecordData {
@@ -111,25 +113,25 @@ impl BoxedRecordData {
 
     /// The type.
     pub fn rtype(&self) -> RType
-        ensures { result ≡ self.now.rtype }
+        ensures { result.code.value ≡ kept_type self.now }
     {
         self.rtype
     }
 
     /// The octets, names whole.
     pub fn bytes(&self) -> &[u8]
-        ensures octets { result.now ≡ self.now.octets.items }
+        ensures octets { result.now ≡ kept_octets self.now }
         ensures short { length result.now < 2 ^ 16 }
-        ensures readable { is_readable self.now.rtype.code.value result.now ≡ true }
+        ensures readable { is_readable (kept_type self.now) result.now ≡ true }
     {
         self.octets.as_slice()
     }
 
     /// The data, as they are read from the octets. What they write are these octets.
     pub fn get(&self) -> RecordData<'_, Name<'_>>
-        ensures read { data_as plain_name self.now.rtype.code.value self.now.octets.items ≡ Some (map (named_by (λ name. name_labels name.slice.now)) (data_fields result)) }
-        ensures typed { IsDataOf result self.now.rtype.code.value }
-        ensures written { written_fields (λ name. wire (name_labels name.slice.now)) (data_fields result) ≡ self.now.octets.items }
+        ensures read { data_as plain_name (kept_type self.now) (kept_octets self.now) ≡ Some (map (named_by (λ name. name_labels name.slice.now)) (data_fields result)) }
+        ensures typed { IsDataOf result (kept_type self.now) }
+        ensures written { written_fields (λ name. wire (name_labels name.slice.now)) (data_fields result) ≡ kept_octets self.now }
     {
         RecordData::parse_record_data_bytes(self.bytes(), self.rtype).unwrap()
     }
@@ -207,18 +209,4 @@ impl Hash for BoxedRecordData {
         data_of_any_type_are_hashed_by_fields::<Name<'_>>();
         self.get().hash(state);
     }
-}
-
-/// The record of these parts, whose type is that of its data.
-pub fn old_new_box<N>(
-    rname: N,
-    rclass: RClass,
-    ttl: TTL,
-    rdata: BoxedRecordData,
-) -> Record<N, BoxedRecordData>
-    ensures typed { result.rtype ≡ rdata.rtype }
-    ensures kept { (result.rname ≡ rname) × (result.rclass ≡ rclass) × (result.ttl ≡ ttl) × (result.rdata ≡ rdata) }
-{
-    let rtype = rdata.rtype();
-    Record::new(rname, rtype, rclass, ttl, rdata)
 }

@@ -4,6 +4,7 @@ ghost use Rattle.std.specs.Prelude.{◌≡◌};
 ghost use Rattle.dns_name.specs.declared.name.Name.{Name};
 ghost use Rattle.dns_rdata.specs.Alike.{content_of, same_content, content_writes};
 ghost use Rattle.dns_rdata.specs.Boxed.{AreReadAs};
+ghost use Rattle.dns_rdata.specs.Kept.{kept_type, kept_octets};
 ghost use Rattle.dns_rdata.specs.declared.boxed_record_data.BoxedRecordData.{BoxedRecordData};
 ghost use Rattle.dns_rdata.specs.declared.record_data.RecordData.{RecordData};
 
@@ -28,14 +29,14 @@ pub fn data_of_any_type_are_hashed_by_fields<N: Hash>()
 /// Kept data are, for each trait, as the data that are read from them, which `get` gives: their canonical octets and their rank,
 /// by which they compare (RFC 4034 sections 6.2 and 6.3), what they are equal to, and what they feed a hasher.
 pub fn kept_data_are_as_read()
-    ensures canonical { (kept : BoxedRecordData) (read : RecordData Name) → AreReadAs kept.rtype.code.value kept.octets.items read →
+    ensures canonical { (kept : BoxedRecordData) (read : RecordData Name) → AreReadAs (kept_type kept) (kept_octets kept) read →
         ⟦<BoxedRecordData as CanonicalRecordData>⟧.canonical kept ≡ ⟦<RecordData<'static, Name<'static>> as CanonicalRecordData>⟧.canonical read }
-    ensures rank { (kept : BoxedRecordData) (read : RecordData Name) → AreReadAs kept.rtype.code.value kept.octets.items read →
+    ensures rank { (kept : BoxedRecordData) (read : RecordData Name) → AreReadAs (kept_type kept) (kept_octets kept) read →
         ⟦<BoxedRecordData as CanonicalRecordData>⟧.rank kept ≡ ⟦<RecordData<'static, Name<'static>> as CanonicalRecordData>⟧.rank read }
     ensures equal { (kept other : BoxedRecordData) (read also : RecordData Name) →
-        AreReadAs kept.rtype.code.value kept.octets.items read → AreReadAs other.rtype.code.value other.octets.items also →
+        AreReadAs (kept_type kept) (kept_octets kept) read → AreReadAs (kept_type other) (kept_octets other) also →
         ⟦<BoxedRecordData as PartialEq>⟧.eq kept other ≡ ⟦<RecordData<'static, Name<'static>> as PartialEq>⟧.eq read also }
-    ensures fed { (kept : BoxedRecordData) (read : RecordData Name) → AreReadAs kept.rtype.code.value kept.octets.items read →
+    ensures fed { (kept : BoxedRecordData) (read : RecordData Name) → AreReadAs (kept_type kept) (kept_octets kept) read →
         ⟦<BoxedRecordData as Hash>⟧.hash_input kept ≡ ⟦<RecordData<'static, Name<'static>> as Hash>⟧.hash_input read }
 {
     data_of_any_type_are_equal_by_fields::<Name<'_>>();

@@ -8,17 +8,19 @@ mod edns_laws;
 mod edns_record;
 mod laws;
 mod record_data;
+mod typed_record;
 mod unknown;
 
 pub use box_error::BoxError;
-pub use boxed_record_data::{BoxedRecordData, old_new_box};
+pub use boxed_record_data::BoxedRecordData;
 pub use edns_laws::edns_records_come_back;
 pub use edns_record::EdnsRecord;
 pub use laws::{
     data_of_any_type_are_equal_by_fields, data_of_any_type_are_hashed_by_fields,
     kept_data_are_as_read,
 };
-pub use record_data::{RecordData, old_new};
+pub use record_data::RecordData;
+pub use typed_record::{old_new, old_new_box};
 pub use unknown::UnknownRecordData;
 
 #[cfg(test)]

@@ -20,9 +20,7 @@ use dns_edns::Opt;
 use dns_name::CanonicalName;
 use dns_nsec::{Nsec, Nsec3, Nsec3Param};
 use dns_plain::{A, Aaaa, DName, HInfo, Srv, Txt};
-use dns_record::{
-    CanonicalRecordData, ParseRecordData, ParseRecordDataBytes, RClass, RType, Record, TTL,
-};
+use dns_record::{CanonicalRecordData, ParseRecordData, ParseRecordDataBytes, RType};
 use dns_sec::{DNSKey, Ds, Rrsig, ZoneMD};
 use dns_wire::{
     BuildBytes, ParseBytes, ParseError, ParseMessageBytes, ParseName, SplitMessageBytes,
@@ -622,18 +620,4 @@ impl<'a, N> From<ZoneMD<&'a [u8]>> for RecordData<'a, N> {
     fn from(value: ZoneMD<&'a [u8]>) -> RecordData<'a, N> {
         RecordData::ZoneMD(value)
     }
-}
-
-/// The record of these parts, whose type is that of its data.
-pub fn old_new<'a, N>(
-    rname: N,
-    rclass: RClass,
-    ttl: TTL,
-    rdata: RecordData<'a, N>,
-) -> Record<N, RecordData<'a, N>>
-    ensures typed { result.rtype.code.value ≡ type_number rdata.entry }
-    ensures kept { (result.rname ≡ rname) × (result.rclass ≡ rclass) × (result.ttl ≡ ttl) × (result.rdata ≡ rdata.entry) }
-{
-    let rtype = rdata.rtype();
-    Record::new(rname, rtype, rclass, ttl, rdata)
 }

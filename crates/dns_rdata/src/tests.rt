@@ -1,12 +1,11 @@
 //! Data of each type in one value.
 
-mod edns;
-mod mapping;
-
 ghost use Rattle.std.specs.Prelude.{IfOk};
 ghost use Rattle.dns_rdata.specs.Data.{IsProper};
 
 mod boxed;
+mod edns;
+mod mapping;
 
 use crate::{RecordData, UnknownRecordData, old_new};
 use dns_name::Name;
