@@ -54,7 +54,7 @@ impl BoxedRecordData {
 
     /// Keeps the octets of these data, names whole. `TooLong` comes exactly above 65,535 octets, before memory is taken.
     /// `Unreadable` comes where the row of the type doesn't read the octets, as those of NSEC without a type (RFC 4034 section
-    /// 4.1.2), or unknown octets under the number of a type with a row. `Memory` is want of memory.
+    /// 4.1.2), or unknown octets under the number of a type that has others. `Memory` is want of memory.
     pub fn make<N: BuildBytes>(
         alloc: Global,
         content: &RecordData<'_, N>,
