@@ -1,42 +1,18 @@
 -- Items one after another.
-use Rattle.std.proofs.Common.{◌≡◌, ℕ, zero, suc, ◌+◌, ◌<◌, ◌≤◌, ◌≢◌, true, false, List, [], ◌∷◌, ◌++◌, length, map, filter, Some, None, refl, sym, ap, ◌∙◌, subst, arith, append_assoc, append-nil, add-zero, add-one}
+use Rattle.std.proofs.Common.{◌≡◌, ℕ, ◌+◌, ◌<◌, ◌≤◌, ◌≢◌, true, false, List, [], ◌∷◌, ◌++◌, length, map, filter, Some, None, refl, sym, ap, ◌∙◌, subst, arith, append_assoc, append-nil}
 use Rattle.std.proofs.lemmas.Bool.Decides.{nat_tests}
 use Rattle.std.proofs.lemmas.List.{map-append}
 use Rattle.std.proofs.lemmas.List.Elements.{filter-append}
-use Rattle.dns_canon.specs.Canonical.{is_kept}
+use Rattle.dns_message.specs.Canonical.{is_kept}
 use Rattle.dns_canon.specs.Refusals.{FailsInSection, RefusedInSection}
-use Rattle.dns_canon.specs.Messages.{Item, Rec, item_at, slots, records_among}
-use Rattle.dns_canon.specs.Messages.Item.{Asked, Told}
-use Rattle.dns_canon.specs.Order.{SortKey, sort_key}
-use Rattle.dns_canon.specs.Worded.{ItemsAt}
+use Rattle.dns_message.specs.Messages.{Item, Rec, item_at, slots, records_among}
+use Rattle.dns_message.specs.Messages.Item.{Told}
+use Rattle.dns_message.specs.Order.{SortKey, sort_key}
+use Rattle.dns_message.specs.Worded.{ItemsAt}
+use Rattle.dns_message.proofs.Slots.{slots_more, items_append, among_append}
+use Rattle.dns_message.proofs.Standing.{item_is}
 use Rattle.dns_canon.specs.declared.error.CanonError.{CanonError}
 use Rattle.dns_canon.specs.declared.error.CanonError.TheVariants.{Short, Item as CanonItem, Memory}
-
--- ---- lists of places and of items
-
--- one more place of a section
-slots_suc : (section index n : ℕ) → slots section index (suc n) ≡ slots section index n ++ (section, index + n) ∷ []
-unfolding slots
-slots_suc section index zero = ap (λ (k : ℕ). (section, k) ∷ []) (sym (add-zero index))
-slots_suc section index (suc n) =
-    ap (λ (l : List (ℕ × ℕ)). (section, index) ∷ l) (slots_suc section (index + 1) n)
-    ∙ ap (λ (k : ℕ). (section, index) ∷ (slots section (index + 1) n ++ (section, k) ∷ [])) (omega arith)
-
-pub slots_more : (section index n : ℕ) → slots section index (n + 1) ≡ slots section index n ++ (section, index + n) ∷ []
-slots_more section index n = rw add-one (slots_suc section index n)
-
-pub items_append : (c : List ℕ) (before after : List (ℕ × ℕ)) (at : ℕ) (items others : List Item) (middle end : ℕ)
-    → ItemsAt c before at items middle → ItemsAt c after middle others end → ItemsAt c (before ++ after) at (items ++ others) end
-items_append c [] after at items others middle end first second =
-    let here : ItemsAt c after at others end = subst (λ (p : ℕ). ItemsAt c after p others end) first.1 second in
-    subst (λ (l : List Item). ItemsAt c after at (l ++ others) end) (sym first.0) here
-items_append c (slot ∷ before) after at items others middle end (item, next, more, here, is, later) second =
-    (item, next, more ++ others, here, ap (λ (l : List Item). l ++ others) is, items_append c before after next more others middle end later second)
-
-pub among_append : (items others : List Item) → records_among (items ++ others) ≡ records_among items ++ records_among others
-among_append [] others = refl
-among_append (Asked q ∷ items) others = among_append items others
-among_append (Told r ∷ items) others = ap (λ (l : List Rec). r ∷ l) (among_append items others)
 
 -- what is kept of items
 abbrev pub kept_of : List Item → List SortKey
@@ -74,7 +50,7 @@ pub section_more : (contents : List ℕ) (start section index at : ℕ) (old mid
 section_more contents start section index at old middle new item end so here within pushed = record {
   items = so.items ++ item ∷ [];
   read = subst (λ (l : List (ℕ × ℕ)). ItemsAt contents l start (so.items ++ item ∷ []) end) (sym (slots_more section 0 index))
-      (items_append contents (slots section 0 index) ((section, 0 + index) ∷ []) start so.items (item ∷ []) at end so.read (item, end, [], here, refl, (refl, refl)));
+      (items_append contents (slots section 0 index) ((section, 0 + index) ∷ []) start so.items (item ∷ []) at end so.read (item, end, [], item_is section contents at item end here, refl, (refl, refl)));
   kept = pushed ∙ ap (λ (l : List SortKey). l ++ kept_of (item ∷ [])) so.kept ∙ append_assoc old (kept_of so.items) (kept_of (item ∷ []))
       ∙ ap (λ (l : List SortKey). old ++ l) (sym (kept_append so.items (item ∷ [])));
   within = within;

@@ -2,22 +2,12 @@
 use Rattle.std.proofs.Common.{◌≡◌, ℕ, List, [], ◌∷◌, ◌++◌, length, take, drop, Some, Result, Ok, Err, refl, sym, ap, ◌∙◌, arith, append-nil}
 use Rattle.std.specs.Prelude.{⊤, IsOk}
 use Rattle.std.proofs.lemmas.List.{drop_all, take_at}
-use Rattle.std.specs.Str.{str_to_ascii_lowercase}
-use Rattle.std.proofs.lemmas.Str.Ascii.{lowercase-lowercase}
 use Rattle.dns_wire.specs.Names.{wire, plain_name, name_labels, lowered}
 use Rattle.dns_wire.specs.Building.{Builds}
 use Rattle.dns_wire.specs.Reading.{all_of}
 use Rattle.dns_wire.proofs.Lowered.{name_lowered, lowered_long}
 use Rattle.dns_wire.proofs.Spelled.{name_octets, labels_of_wire}
-
--- small letters stay
-pub lower_twice : (octets : List ℕ) → str_to_ascii_lowercase (str_to_ascii_lowercase octets) ≡ str_to_ascii_lowercase octets
-lower_twice [] = refl
-lower_twice (b ∷ rest) = rw (lowercase-lowercase b, lower_twice rest) refl
-
-pub lowered_twice : (labels : List (List ℕ)) → lowered (lowered labels) ≡ lowered labels
-lowered_twice [] = refl
-lowered_twice (label ∷ labels) = rw (lower_twice label, lowered_twice labels) refl
+use Rattle.dns_message.proofs.Whole.{lowered_twice}
 
 -- the octets of a name in small letters
 pub record IsLowered (name octets : List ℕ) : Type 0 where

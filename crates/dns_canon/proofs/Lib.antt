@@ -3,12 +3,9 @@ pub mod Decoding
 pub mod Exclusive
 pub mod Going
 pub mod Kept
-pub mod Ordering
-pub mod Phrased
 pub mod Sections
 pub mod Short
 pub mod Sorting
-pub mod Standing
 pub mod Transfers
 pub mod Trimming
 pub mod Verdicts

@@ -1,53 +1,17 @@
 -- Sections one after another.
-use Rattle.std.proofs.Common.{◌≡◌, ℕ, zero, suc, ◌+◌, ◌-◌, ◌*◌, ◌<◌, ◌≤◌, List, [], ◌∷◌, ◌++◌, length, map, get_or, take, drop, refl, sym, ap, ◌∙◌, subst, arith, append_assoc, append-nil, add-one, drop-cons}
+use Rattle.std.proofs.Common.{◌≡◌, ℕ, ◌+◌, ◌-◌, ◌<◌, ◌≤◌, List, [], ◌∷◌, ◌++◌, length, map, get_or, drop, refl, sym, ap, ◌∙◌, subst, arith, append_assoc, append-nil}
 use Rattle.std.specs.Prelude.{filter}
-use Rattle.std.proofs.lemmas.List.{get_or-take}
-use Rattle.dns_canon.specs.Canonical.{is_kept}
+use Rattle.dns_message.specs.Canonical.{is_kept}
 use Rattle.dns_canon.specs.Refusals.{FailsInSection, RefusedInSection, RefusedOrMemory}
-use Rattle.dns_canon.specs.Messages.{Item, Rec, slots, slots_from, counts_of, records_among, Valid, StopsAt, BadAt}
-use Rattle.dns_canon.specs.Order.{SortKey, sort_key}
-use Rattle.dns_canon.specs.Worded.{ItemsAt, FailsAt}
+use Rattle.dns_message.specs.Messages.{Item, Rec, slots, slots_from, counts_of, records_among, Valid, StopsAt, BadAt}
+use Rattle.dns_message.specs.Order.{SortKey, sort_key}
+use Rattle.dns_message.specs.Worded.{ItemsAt, FailsAt}
 use Rattle.dns_canon.specs.declared.error.CanonError.{CanonError}
 use Rattle.dns_canon.specs.declared.error.CanonError.TheVariants.{Short, Item as CanonItem, Memory}
-use Rattle.dns_canon.proofs.Going.{kept_of, kept_append, items_append}
-use Rattle.dns_canon.proofs.Phrased.{fails_stops, whole_read}
-
--- ---- the counts
-
--- the count of a section stands in the header
-pub count_is : (m header : List ℕ) (section count : ℕ) → section < 4 → header ≡ take 12 m
-    → count ≡ get_or header (4 + 2 * section) 0 * 256 + get_or header (4 + 2 * section + 1) 0 → count ≡ get_or (counts_of m) section 0
-count_is m header zero count below is e = e ∙ rw is (rw (get_or-take 12 m 4 0 (omega arith), get_or-take 12 m 5 0 (omega arith)) refl)
-count_is m header (suc zero) count below is e = e ∙ rw is (rw (get_or-take 12 m 6 0 (omega arith), get_or-take 12 m 7 0 (omega arith)) refl)
-count_is m header (suc (suc zero)) count below is e = e ∙ rw is (rw (get_or-take 12 m 8 0 (omega arith), get_or-take 12 m 9 0 (omega arith)) refl)
-count_is m header (suc (suc (suc zero))) count below is e = e ∙ rw is (rw (get_or-take 12 m 10 0 (omega arith), get_or-take 12 m 11 0 (omega arith)) refl)
-count_is m header (suc (suc (suc (suc section)))) count below is e = absurd (omega arith)
-
--- the places of a section, and those behind it
-pub slots_turn : (counts : List ℕ) (section count : ℕ) → section < length counts → count ≡ get_or counts section 0
-    → slots_from section (drop section counts) ≡ slots section 0 count ++ slots_from (section + 1) (drop (section + 1) counts)
-unfolding slots_from
-slots_turn counts section count within is =
-    let there : drop section counts ≡ count ∷ drop (section + 1) counts = rw (add-one, is) (drop-cons counts section 0 within) in
-    ap (slots_from section) there
-
--- the places of a section around one of them
-pub slots_split : (section first count index : ℕ) → index < count → slots section first count ≡ slots section first index ++ (section, first + index) ∷ slots section (first + index + 1) (count - index - 1)
-unfolding slots
-slots_split section first zero index below = absurd (omega arith)
-slots_split section first (suc count) zero below =
-    let same : first + 0 ≡ first = omega arith in
-    let left : suc count - 0 - 1 ≡ count = omega arith in
-    rw (same, left) refl
-slots_split section first (suc count) (suc index) below =
-    let place : first + 1 + index ≡ first + suc index = omega arith in
-    let left : count - index - 1 ≡ suc count - suc index - 1 = omega arith in
-    ap (λ (l : List (ℕ × ℕ)). (section, first) ∷ l) (slots_split section (first + 1) count index (omega arith) ∙ rw (place, left) refl)
-
-pub slots_around : (section count index : ℕ) → index < count → slots section 0 count ≡ slots section 0 index ++ (section, index) ∷ slots section (index + 1) (count - index - 1)
-slots_around section count index below =
-    let place : 0 + index ≡ index = omega arith in
-    subst (λ (k : ℕ). slots section 0 count ≡ slots section 0 index ++ (section, k) ∷ slots section (k + 1) (count - index - 1)) place (slots_split section 0 count index below)
+use Rattle.dns_message.proofs.Phrased.{fails_stops, whole_read}
+use Rattle.dns_message.proofs.Slots.{items_append, slots_turn, slots_around}
+use Rattle.dns_message.proofs.Standing.{none_is}
+use Rattle.dns_canon.proofs.Going.{kept_of, kept_append}
 
 -- ---- the sections so far
 
@@ -97,7 +61,7 @@ message_fails m contents section at count old index place header below is counte
           ∙ sym (append_assoc so.before (slots section 0 index) ((section, index) ∷ later));
       items = so.items ++ fails.items;
       read = items_append (drop 12 m) so.before (slots section 0 index) 0 so.items fails.items at place so.read (subst (λ (c : List ℕ). ItemsAt c (slots section 0 index) at fails.items place) is fails.read);
-      unread = rw (sym is) fails.unread;
+      unread = none_is section (drop 12 m) place (rw (sym is) fails.unread);
     }
 
 -- the refusal of a section is the message's

@@ -1,30 +1,18 @@
--- The order of records, and that a list has one sorted order.
-use Rattle.std.proofs.Common.{◌≡◌, ℕ, suc, ◌+◌, ◌<◌, ◌≤◌, Bool, true, false, cond, List, [], ◌∷◌, length, map, refl, sym, ap, ◌∙◌, arith, get_or, filter}
-use Rattle.std.specs.Prelude.{not, reverse}
-use Rattle.std.specs.declared.cmp.Ordering.{Ordering}
-use Rattle.std.specs.declared.cmp.Ordering.TheVariants.{Less, Equal, Greater}
-use Rattle.std.specs.Ordering.{is_lt, is_gt, nat_cmp, ordering_then, ordering_reverse}
-use Rattle.std.specs.Cmp.{IsTotalOrder}
+-- The order of what is kept of records, and what the sort leaves.
+use Rattle.std.proofs.Common.{◌≡◌, ℕ, List, map, ap, ◌∙◌, sym, get_or, ◌+◌}
+use Rattle.std.specs.Prelude.{reverse}
+use Rattle.std.specs.Ordering.{is_lt, nat_cmp, ordering_then}
 use Rattle.std.specs.Cmp.Lexicographic.{slice_cmp}
-use Rattle.std.specs.FinMap.{nat_cmp-IsAntisymmetric, slice_cmp-IsAntisymmetric}
-use Rattle.std.specs.List.Sorted.{IsSorted, IsSortedBy, IsPermutation}
-use Rattle.std.proofs.lemmas.Cmp.{nat_cmp_total, on_total, then_total, nat_list_cmp_total, tied_itself}
-use Rattle.std.proofs.lemmas.List.{reverse-reverse}
-use Rattle.std.proofs.lemmas.List.Recursion.{is_sum_by}
-use Rattle.std.proofs.lemmas.List.Sorted.{ranks_by, sorted_far, sum_by-IsPermutation}
-use Rattle.dns_wire.specs.Names.{name_labels, lowered}
+use Rattle.std.specs.List.Sorted.{IsSorted, IsSortedBy}
+use Rattle.std.proofs.lemmas.List.Sorted.{ranks_by, sorted_far}
+use Rattle.dns_wire.specs.Names.{name_labels}
 use Rattle.dns_name.specs.Order.{key_of, key_cmp}
-use Rattle.dns_name.proofs.Sameness.{keys_total}
-use Rattle.dns_canon.specs.Canonical.{canon, is_kept, octets_of_parts}
-use Rattle.dns_record.specs.Fields.{fields_octets, canonical_fields}
-use Rattle.dns_canon.specs.Messages.{Rec}
-use Rattle.dns_canon.specs.Order.{SortKey, sort_key, sort_key_cmp, precedes, inserted, in_order, octets_of_key, output}
+use Rattle.dns_message.specs.Order.{sort_key_cmp}
+use Rattle.dns_message.specs.Sorted.{Ascends}
+use Rattle.dns_message.proofs.Sorting.{sort_key_cmp_total, ascends_from_far}
 use Rattle.dns_canon.specs.Seen.{owned_seen}
-use Rattle.dns_canon.specs.Sorted.{times, NoneBelow, Ascends}
 use Rattle.dns_canon.specs.declared.owned.OwnedRecord.{OwnedRecord}
 use Rattle.dns_canon.specs.contracts.owned.OwnedRecordOrd.TheImpl.{cmp-value}
-
--- ---- the order of what is kept
 
 -- the derived order is that of the definitions
 pub cmp_is : (p q : OwnedRecord) → cmp-value.it p q ≡ sort_key_cmp (owned_seen p) (owned_seen q)
@@ -34,170 +22,8 @@ cmp_is p q =
     ∙ ap (λ (k : List (List ℕ)). ordering_then (key_cmp (reverse (name_labels p.owner.octets.items)) k) (ordering_then (nat_cmp p.class q.class) (ordering_then (nat_cmp p.rtype q.rtype)
     (ordering_then (slice_cmp nat_cmp p.octets.items q.octets.items) (nat_cmp p.ttl q.ttl))))) (ap reverse q.owner.is_lowered)
 
-pub sort_key_cmp_total : IsTotalOrder sort_key_cmp
-sort_key_cmp_total = then_total (on_total (λ k. k.owner) keys_total) (then_total (on_total (λ k. k.class) nat_cmp_total)
-    (then_total (on_total (λ k. k.rtype) nat_cmp_total) (then_total (on_total (λ k. k.octets) nat_list_cmp_total) (on_total (λ k. k.ttl) nat_cmp_total))))
-
--- what ties at both parts
-both_tie : (a b : Ordering) → ordering_then a b ≡ Equal → (a ≡ Equal) × (b ≡ Equal)
-both_tie Less b h = cc
-both_tie Equal b h = (refl, h)
-both_tie Greater b h = cc
-
-pub sort_key_cmp_same : (j k : SortKey) → sort_key_cmp j k ≡ Equal → j ≡ k
-sort_key_cmp_same j k h =
-    let one = both_tie _ _ h in
-    let two = both_tie _ _ one.1 in
-    let three = both_tie _ _ two.1 in
-    let four = both_tie _ _ three.1 in
-    let owner = slice_cmp-IsAntisymmetric (slice_cmp-IsAntisymmetric nat_cmp-IsAntisymmetric) j.owner k.owner one.0 in
-    let class = nat_cmp-IsAntisymmetric j.class k.class two.0 in
-    let rtype = nat_cmp-IsAntisymmetric j.rtype k.rtype three.0 in
-    let octets = slice_cmp-IsAntisymmetric nat_cmp-IsAntisymmetric j.octets k.octets four.0 in
-    let ttl = nat_cmp-IsAntisymmetric j.ttl k.ttl four.1 in
-    λ i. record { owner = owner i; class = class i; rtype = rtype i; octets = octets i; ttl = ttl i }
-
--- ---- one sorted order
-
--- the same elements, each as often
-abbrev pub SameSums : {K : Type 0} → List K → List K → Type 0
-SameSums {K} xs ys = (f : K → ℕ) → times f xs ≡ times f ys
-
-zero_head : (b : Bool) (n : ℕ) → cond b 1 0 + n ≡ 0 → b ≡ false
-zero_head true n h = absurd (omega arith)
-zero_head false n h = refl
-
-module _ {K : Type 0} (R : K → K → Ordering) (total : IsTotalOrder R) (same : (x y : K) → R x y ≡ Equal → x ≡ y) where
-  none_sum : (x : K) (zs : List K) → NoneBelow R x zs → times (λ z. cond (is_lt (R z x)) 1 0) zs ≡ 0
-  none_sum x [] h = refl
-  none_sum x (z ∷ zs) h = rw h.0 (omega (arith, none_sum x zs h.1))
-
-  pub itself : (x : K) → is_lt (R x x) ≡ false
-  itself x = ap is_lt (tied_itself total x)
-
-  -- neither is before the other
-  pub tie : (r : Ordering) → is_lt r ≡ false → is_lt (ordering_reverse r) ≡ false → r ≡ Equal
-  tie Less h k = cc
-  tie Equal h k = refl
-  tie Greater h k = cc
-
-  not_below : (x y : K) (xs ys : List K) → NoneBelow R x xs → SameSums (x ∷ xs) (y ∷ ys) → is_lt (R y x) ≡ false
-  not_below x y xs ys none sums =
-      let s = sums (λ z. cond (is_lt (R z x)) 1 0) in
-      let z : times (λ z. cond (is_lt (R z x)) 1 0) (x ∷ xs) ≡ 0 = none_sum x (x ∷ xs) (itself x, none) in
-      zero_head (is_lt (R y x)) (times (λ z. cond (is_lt (R z x)) 1 0) ys) (sym s ∙ z)
-
-  pub sorted_unique : (xs ys : List K) → Ascends R xs → Ascends R ys → SameSums xs ys → xs ≡ ys
-  sorted_unique [] [] up vp sums = refl
-  sorted_unique [] (y ∷ ys) up vp sums = absurd (omega (arith, sums (λ _. 1)))
-  sorted_unique (x ∷ xs) [] up vp sums = absurd (omega (arith, sums (λ _. 1)))
-  sorted_unique (x ∷ xs) (y ∷ ys) up vp sums =
-      let yx = not_below x y xs ys up.0 sums in
-      let xy = not_below y x ys xs vp.0 (λ f. sym (sums f)) in
-      let e : x ≡ y = same x y (tie (R x y) xy (ap is_lt (sym (total.antisymm y x)) ∙ yx)) in
-      let tails : SameSums xs ys = λ f. (let h = sums f in let g = ap f e in omega (arith, h, g)) in
-      ap (λ (z : K). z ∷ xs) e ∙ ap (λ (zs : List K). y ∷ zs) (sorted_unique xs ys up.1 vp.1 tails)
-
--- a permutation has the same sums
-pub sums_permuted : {K : Type 0} (xs ys : List K) → IsPermutation xs ys → SameSums ys xs
-sums_permuted xs ys h f = is_sum_by (times f) f refl (λ _ _. refl) ys ∙ sum_by-IsPermutation f xs ys h ∙ sym (is_sum_by (times f) f refl (λ _ _. refl) xs)
-
--- order by index, between any two places, is order by recursion
-none_from_far : {X K : Type 0} (v : X → K) (R : K → K → Ordering) (x : X) (zs : List X)
-    → ((j : ℕ) (d : X) → j < length zs → is_lt (R (v (get_or zs j d)) (v x)) ≡ false) → NoneBelow R (v x) (map v zs)
-none_from_far v R x [] h = tt
-none_from_far v R x (z ∷ zs) h = (h 0 x (omega arith), none_from_far v R x zs (λ j d lt. h (suc j) d (omega arith)))
-
-ascends_from_far : {X K : Type 0} (v : X → K) (R : K → K → Ordering) (xs : List X)
-    → ((i j : ℕ) (d : X) → i ≤ j → j < length xs → is_lt (R (v (get_or xs j d)) (v (get_or xs i d))) ≡ false) → Ascends R (map v xs)
-ascends_from_far v R [] h = tt
-ascends_from_far v R (x ∷ xs) h = (
-  none_from_far v R x xs (λ j d lt. h 0 (suc j) d (omega arith) (omega arith)),
-  ascends_from_far v R xs (λ i j d le lt. h (suc i) (suc j) d (omega arith) (omega arith)),
-)
-
 -- what the sort leaves ascends
 pub ascends_from_sorted : (xs : List OwnedRecord) → IsSorted cmp-value.it xs → Ascends sort_key_cmp (map owned_seen xs)
 ascends_from_sorted xs h =
     let up : IsSortedBy (λ x y. is_lt (sort_key_cmp (owned_seen x) (owned_seen y))) xs = λ k d a b. ap is_lt (sym (cmp_is (get_or xs (k + 1) d) (get_or xs k d))) ∙ h k d a b in
     ascends_from_far owned_seen sort_key_cmp xs (sorted_far (λ x y. is_lt (sort_key_cmp (owned_seen x) (owned_seen y))) (ranks_by sort_key_cmp_total owned_seen) xs up)
-
--- ---- the order of the definitions
-
--- two answers that are each other's reverse
-turned : (a b : Ordering) → b ≡ ordering_reverse a → not (is_gt a) ≡ true → is_lt b ≡ false
-turned Less b e h = rw e refl
-turned Equal b e h = rw e refl
-turned Greater b e h = cc
-
-over : (a : Ordering) → not (is_gt a) ≡ false → is_lt a ≡ false
-over Less h = cc
-over Equal h = refl
-over Greater h = refl
-
-precedes_is : (r s : Rec) → precedes r s ≡ true → is_lt (sort_key_cmp (sort_key s) (sort_key r)) ≡ false
-precedes_is r s h = turned (sort_key_cmp (sort_key r) (sort_key s)) (sort_key_cmp (sort_key s) (sort_key r)) (sort_key_cmp_total.antisymm (sort_key s) (sort_key r)) h
-
-follows_is : (r s : Rec) → precedes r s ≡ false → is_lt (sort_key_cmp (sort_key r) (sort_key s)) ≡ false
-follows_is r s h = over (sort_key_cmp (sort_key r) (sort_key s)) h
-
-inserted_sums : (f : SortKey → ℕ) (r : Rec) (rs : List Rec) → times f (map sort_key (inserted r rs)) ≡ f (sort_key r) + times f (map sort_key rs)
-unfolding inserted
-inserted_sums f r [] = refl
-inserted_sums f r (s ∷ rs) =
-    elim (precedes r s) as (λ b. times f (map sort_key (cond b (r ∷ s ∷ rs) (s ∷ inserted r rs))) ≡ f (sort_key r) + (f (sort_key s) + times f (map sort_key rs))) [
-      | true ↦ refl
-      | false ↦ omega (arith, inserted_sums f r rs)
-    ]
-
-pub in_order_sums : (rs : List Rec) → SameSums (map sort_key (in_order rs)) (map sort_key rs)
-unfolding in_order
-in_order_sums [] f = refl
-in_order_sums (r ∷ rs) f = inserted_sums f r (in_order rs) ∙ ap (λ (n : ℕ). f (sort_key r) + n) (in_order_sums rs f)
-
--- what is before the whole list
-none_inserted : (x : SortKey) (r : Rec) (rs : List Rec) → is_lt (sort_key_cmp (sort_key r) x) ≡ false → NoneBelow sort_key_cmp x (map sort_key rs)
-    → NoneBelow sort_key_cmp x (map sort_key (inserted r rs))
-unfolding inserted
-none_inserted x r [] h none = (h, tt)
-none_inserted x r (s ∷ rs) h none =
-    elim (precedes r s) as (λ b. NoneBelow sort_key_cmp x (map sort_key (cond b (r ∷ s ∷ rs) (s ∷ inserted r rs)))) [
-      | true ↦ (h, none)
-      | false ↦ (none.0, none_inserted x r rs h none.1)
-    ]
-
--- what comes after y and is not before it
-none_further : (x y : SortKey) (zs : List SortKey) → is_lt (sort_key_cmp y x) ≡ false → NoneBelow sort_key_cmp y zs → NoneBelow sort_key_cmp x zs
-none_further x y [] h none = tt
-none_further x y (z ∷ zs) h none = ((ranks_by sort_key_cmp_total (λ (k : SortKey). k)).chain z y x none.0 h, none_further x y zs h none.1)
-
-ascends_inserted : (r : Rec) (rs : List Rec) → Ascends sort_key_cmp (map sort_key rs) → Ascends sort_key_cmp (map sort_key (inserted r rs))
-unfolding inserted
-ascends_inserted r [] up = (tt, tt)
-ascends_inserted r (s ∷ rs) up =
-    elim (precedes r s) as (λ b. precedes r s ≡ b → Ascends sort_key_cmp (map sort_key (cond b (r ∷ s ∷ rs) (s ∷ inserted r rs)))) [
-      | true ↦ λ h. ((precedes_is r s h, none_further (sort_key r) (sort_key s) (map sort_key rs) (precedes_is r s h) up.0), up)
-      | false ↦ λ h. (none_inserted (sort_key s) r rs (follows_is r s h) up.0, ascends_inserted r rs up.1)
-    ] refl
-
-pub ascends_in_order : (rs : List Rec) → Ascends sort_key_cmp (map sort_key (in_order rs))
-unfolding in_order
-ascends_in_order [] = tt
-ascends_in_order (r ∷ rs) = ascends_inserted r (in_order rs) (ascends_in_order rs)
-
--- ---- the list
-
-pub octets_of_keys : (rs : List Rec) → map octets_of_key (map sort_key rs) ≡ map canon rs
-octets_of_keys [] = refl
-octets_of_keys (r ∷ rs) =
-    ap (λ (small : List (List ℕ)). octets_of_parts small r.rtype r.class r.ttl (fields_octets (canonical_fields r.rtype r.content)) ∷ map octets_of_key (map sort_key rs)) (reverse-reverse (lowered r.owner))
-    ∙ ap (λ (l : List (List ℕ)). canon r ∷ l) (octets_of_keys rs)
-
--- what the sort leaves is what the definition gives
-pub output_sorted : (rs : List Rec) (old new : List SortKey) → old ≡ map sort_key (filter is_kept rs) → IsPermutation old new → Ascends sort_key_cmp new
-    → map octets_of_key new ≡ output rs
-output_sorted rs old new is moved up =
-    let kept = filter is_kept rs in
-    let sums : SameSums new (map sort_key (in_order kept)) = λ f. sums_permuted old new moved f ∙ ap (times f) is ∙ sym (in_order_sums kept f) in
-    ap (map octets_of_key) (sorted_unique sort_key_cmp sort_key_cmp_total sort_key_cmp_same new (map sort_key (in_order kept)) up (ascends_in_order kept) sums)
-    ∙ octets_of_keys (in_order kept)

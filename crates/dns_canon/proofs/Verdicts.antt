@@ -3,7 +3,7 @@ use Rattle.std.proofs.Common.{◌≡◌, ℕ, ◌<◌, ◌≤◌, ◌⊎◌, inl
 use Rattle.std.specs.Prelude.{◌↔◌}
 use Rattle.std.proofs.lemmas.Bool.{cases_lt, le-ltb, lt-ltb}
 use Rattle.dns_wire.specs.Hexadecimal.{Spells, SpellsNothing, spelled, trim}
-use Rattle.dns_canon.specs.Messages.{Rec, Valid, BadAt, message_reading}
+use Rattle.dns_message.specs.Messages.{Rec, Valid, BadAt, message_reading}
 use Rattle.dns_canon.specs.Refusals.{RefusedOrMemory}
 use Rattle.dns_canon.specs.Statuses.{canon_status}
 use Rattle.dns_canon.specs.Verdict.{verdict, first_refusal}
@@ -12,8 +12,8 @@ use Rattle.dns_canon.specs.declared.error.CanonError.TheVariants as canon
 use Rattle.dns_canon.specs.declared.status.Status.{Status}
 use Rattle.dns_canon.specs.declared.status.Status.TheVariants.{Done, Short, Item, BadHex, TooLong, Usage, ReadFault, WriteFault, Memory}
 use Rattle.dns_canon.specs.declared.words.Command.TheVariants.{Canon}
-use Rattle.dns_canon.proofs.Exclusive.{three_kinds}
-use Rattle.dns_canon.proofs.Phrased.{short_reading}
+use Rattle.dns_message.proofs.OneReading.{three_kinds}
+use Rattle.dns_message.proofs.Phrased.{short_reading}
 
 -- ---- from words
 

@@ -1,7 +1,7 @@
 -- Why a message has no canonical list.
 use Rattle.std.specs.Prelude.{◌≡◌, ℕ, ◌<◌, List, length, None}
-use Rattle.dns_canon.specs.Messages.{Item as MessageItem, BadAt, item_at, slots}
-use Rattle.dns_canon.specs.Worded.{ItemsAt}
+use Rattle.dns_message.specs.Messages.{Item as MessageItem, BadAt, item_at, slots}
+use Rattle.dns_message.specs.Worded.{ItemsAt}
 use Rattle.dns_canon.specs.declared.error.CanonError.{CanonError}
 use Rattle.dns_canon.specs.declared.error.CanonError.TheVariants.{Short, Item, Memory}
 

@@ -3,8 +3,8 @@ use Rattle.std.specs.Prelude.{◌≡◌, ◌≢◌, ℕ, ◌≤◌, List, [], le
 use Rattle.std.specs.Io.KnownBytes.{Appends, Consumes}
 use Rattle.dns_wire.specs.Hexadecimal.{Spells, lines}
 use Rattle.dns_wire.specs.Outside.{WritesFront}
-use Rattle.dns_canon.specs.Messages.{Rec, Valid}
-use Rattle.dns_canon.specs.Order.{output}
+use Rattle.dns_message.specs.Messages.{Rec, Valid}
+use Rattle.dns_message.specs.Order.{output}
 use Rattle.dns_canon.specs.declared.status.Status.{Status}
 use Rattle.dns_canon.specs.declared.status.Status.TheVariants.{Done, Short, Item, BadHex, Usage, ReadFault, WriteFault, Memory}
 use Rattle.dns_canon.specs.declared.words.Command.{Command}

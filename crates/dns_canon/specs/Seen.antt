@@ -5,9 +5,9 @@ use Rattle.dns_record.specs.Fields.{Field, named_by, fields_octets}
 use Rattle.dns_record.specs.Seen.{question_seen, record_seen}
 use Rattle.dns_rdata.specs.Data.{data_fields, IsDataOf}
 use Rattle.dns_rdata.specs.declared.record_data.RecordData.{RecordData}
-use Rattle.dns_canon.specs.Messages.{Item}
-use Rattle.dns_canon.specs.Messages.Item.{Asked, Told}
-use Rattle.dns_canon.specs.Order.{SortKey}
+use Rattle.dns_message.specs.Messages.{Item}
+use Rattle.dns_message.specs.Messages.Item.{Asked, Told}
+use Rattle.dns_message.specs.Order.{SortKey}
 use Rattle.dns_canon.specs.declared.item.MessageItem.{MessageItem}
 use Rattle.dns_canon.specs.declared.item.MessageItem.TheVariants as item
 use Rattle.dns_canon.specs.declared.owned.OwnedRecord.{OwnedRecord}

@@ -2,8 +2,8 @@
 use Rattle.std.specs.Prelude.{ℕ, ◌+◌, List, [], ◌∷◌, length, map, Option, Some, None, Bool, true, false, nat_lt, if◌then◌else◌}
 use Rattle.dns_wire.specs.Hexadecimal.{spelled, trim}
 use Rattle.dns_wire.specs.Steps.{◌>>=◌}
-use Rattle.dns_canon.specs.Messages.{Reading, message_reading}
-use Rattle.dns_canon.specs.Messages.Reading.{Short as TooShort, Stopped, Whole}
+use Rattle.dns_message.specs.Messages.{Reading, message_reading}
+use Rattle.dns_message.specs.Messages.Reading.{Short as TooShort, Stopped, Whole}
 use Rattle.dns_canon.specs.declared.status.Status.{Status}
 use Rattle.dns_canon.specs.declared.status.Status.TheVariants.{Done, Short, Item, BadHex, TooLong, Usage}
 use Rattle.dns_canon.specs.declared.words.Command.{Command}

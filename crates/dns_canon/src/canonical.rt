@@ -4,10 +4,10 @@ ghost use Rattle.std.specs.Prelude.{◌≡◌, ◌≤◌, ◌<◌, ◌⊎◌, �
 ghost use Rattle.std.specs.Option.{option_copied};
 ghost use Rattle.std.specs.List.Sorted.{IsPermutation};
 ghost use Rattle.dns_canon.specs.Refusals.{RefusedAs, RefusedOrMemory};
-ghost use Rattle.dns_canon.specs.Messages.{Rec, Valid};
-ghost use Rattle.dns_canon.specs.Order.{output, octets_of_key, sort_key_cmp};
+ghost use Rattle.dns_message.specs.Messages.{Rec, Valid};
+ghost use Rattle.dns_message.specs.Order.{output, octets_of_key, sort_key_cmp};
 ghost use Rattle.dns_canon.specs.Seen.{owned_seen};
-ghost use Rattle.dns_canon.specs.Sorted.{Ascends};
+ghost use Rattle.dns_message.specs.Sorted.{Ascends};
 
 use crate::error::CanonError;
 use crate::message::read_message;

@@ -3,8 +3,8 @@
 ghost use Rattle.std.specs.Prelude.{◌↔◌, true, false, ◌≡◌, ◌≢◌, ◌⊎◌, ◌+◌, ◌≤◌, List, ℕ, length, Some, None, IfOk, IfErr, IfSome, OnOk};
 ghost use Rattle.dns_wire.specs.Outside.{Rose, HasCause, BecomesFlag, WritesFront, Puts};
 ghost use Rattle.std.specs.Io.KnownBytes.{Appends};
-ghost use Rattle.dns_canon.specs.Messages.{Rec, Valid};
-ghost use Rattle.dns_canon.specs.Order.{output};
+ghost use Rattle.dns_message.specs.Messages.{Rec, Valid};
+ghost use Rattle.dns_message.specs.Order.{output};
 ghost use Rattle.dns_canon.specs.Refusals.{RefusedOrMemory};
 ghost use Rattle.dns_canon.specs.Run.{Answers, Prints, WritesText, TakesAtMost, IsEmptied, Empties};
 ghost use Rattle.dns_canon.specs.Statuses.{canon_status, note_of};

@@ -18,10 +18,7 @@ mod words;
 pub use canonical::{CanonList, canonicalise};
 pub use command::run;
 pub use error::CanonError;
-pub use laws::{
-    canonical_lists, order_of_records, readings_in_words, three_kinds_of_messages,
-    verdicts_in_words, words_of_commands,
-};
+pub use laws::{verdicts_in_words, words_of_commands};
 pub use status::Status;
 pub use transfer::PIECE;
 pub use words::{Command, LIMIT, Words};

@@ -1,12 +1,12 @@
 //! Reading all the items of a message.
 
 ghost use Rattle.std.specs.Prelude.{◌≡◌, ◌≤◌, ◌<◌, ◌++◌, [], ◌∷◌, ℕ, List, OnOk, IfOk, IfErr, length, map, filter, slice_index};
-ghost use Rattle.dns_canon.specs.Canonical.{is_kept};
+ghost use Rattle.dns_message.specs.Canonical.{is_kept};
 ghost use Rattle.dns_canon.specs.Refusals.{RefusedInSection, RefusedOrMemory};
-ghost use Rattle.dns_canon.specs.Messages.{Item, Rec, slots, records_among, Valid};
-ghost use Rattle.dns_canon.specs.Order.{sort_key};
+ghost use Rattle.dns_message.specs.Messages.{Item, Rec, slots, records_among, Valid};
+ghost use Rattle.dns_message.specs.Order.{sort_key};
 ghost use Rattle.dns_canon.specs.Seen.{owned_seen, item_seen, HasSoundData};
-ghost use Rattle.dns_canon.specs.Worded.{ItemsAt};
+ghost use Rattle.dns_message.specs.Worded.{ItemsAt};
 
 use crate::error::CanonError;
 use crate::item::MessageItem;

@@ -111,7 +111,7 @@ pub(crate) struct OwnedRecord {
 
 impl OwnedRecord {
     ghost use Rattle.dns_record.specs.Seen.{record_seen};
-    ghost use Rattle.dns_canon.specs.Order.{sort_key};
+    ghost use Rattle.dns_message.specs.Order.{sort_key};
     ghost use Rattle.std.specs.Prelude.{◌^◌};
     ghost use Rattle.dns_record.specs.Fields.{fields_octets};
     ghost use Rattle.dns_canon.specs.Seen.{owned_seen, data_seen};

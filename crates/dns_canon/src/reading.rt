@@ -2,7 +2,7 @@
 
 ghost use Rattle.std.specs.Prelude.{◌≡◌, ◌≤◌, ◌<◌, ◌^◌, length, IfOk};
 ghost use Rattle.dns_wire.specs.Reading.{Gives};
-ghost use Rattle.dns_canon.specs.Messages.{item_at};
+ghost use Rattle.dns_message.specs.Messages.{item_at};
 ghost use Rattle.dns_canon.specs.Seen.{item_seen, HasSoundData};
 
 use crate::item::MessageItem;
@@ -11,7 +11,7 @@ use dns_wire::{ParseError, SplitMessageBytes};
 
 /// Reads the item of a section at a place, and gives the place where it ends. Section 0 has the
 /// questions.
-#[tactic(auto, using(crate::proofs::Short::short_data), unfolding(crate::specs::Messages::item_at))]
+#[tactic(auto, using(crate::proofs::Short::short_data), unfolding(dns_message::specs::Messages::item_at))]
 pub(crate) fn read_item(
     contents: &[u8],
     section: u8,

@@ -1,5 +1,5 @@
 use Rattle.std.proofs.Common.{◌≡◌, map, take}
-use Rattle.dns_canon.specs.Order.{octets_of_key}
+use Rattle.dns_message.specs.Order.{octets_of_key}
 use Rattle.dns_canon.specs.Seen.{owned_seen}
 use Rattle.dns_canon.proofs.canonical.all_octets.Given as goal
 

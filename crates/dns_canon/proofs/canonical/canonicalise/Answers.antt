@@ -1,9 +1,9 @@
 use Rattle.std.proofs.Common.{◌∙◌, ap, map, inl, inr, Err}
 use Rattle.std.proofs.lemmas.Result.{err_from_is_err_and}
-use Rattle.dns_canon.specs.Order.{octets_of_key}
+use Rattle.dns_message.specs.Order.{octets_of_key}
 use Rattle.dns_canon.specs.Seen.{owned_seen}
 use Rattle.dns_canon.proofs.Exclusive.{memory_alone, that_or_memory, refused_not_valid}
-use Rattle.dns_canon.proofs.Sorting.{output_sorted}
+use Rattle.dns_message.proofs.Sorting.{output_sorted}
 use Rattle.dns_canon.proofs.canonical.canonicalise.Goals as goal
 
 pub returns-in_err-records-clause-valid : goal.returns-in_err-records-clause-valid

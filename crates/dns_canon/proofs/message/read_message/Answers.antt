@@ -1,7 +1,8 @@
 use Rattle.std.proofs.Common.{◌≡◌, ℕ, ◌+◌, ◌*◌, get_or, arith, ap, subst, map, ◌∙◌}
 use Rattle.std.proofs.lemmas.Result.{err_from_is_err_and}
 use Rattle.dns_canon.specs.Seen.{owned_seen}
-use Rattle.dns_canon.proofs.Sections.{MessageSoFar, count_is, message_more, message_read, message_refused}
+use Rattle.dns_message.proofs.Slots.{count_is}
+use Rattle.dns_canon.proofs.Sections.{MessageSoFar, message_more, message_read, message_refused}
 use Rattle.dns_canon.proofs.message.read_message.Goals as goal
 
 pub returns-in_err-at-clause-refused : goal.returns-in_err-at-clause-refused

@@ -1,6 +1,6 @@
-use Rattle.dns_canon.proofs.Phrased.{fails_stops, stops_fails, whole_read, read_whole}
-use Rattle.dns_canon.proofs.Standing.{question_stands, record_stands}
-use Rattle.dns_canon.proofs.laws.readings_in_words.Goals as goal
+use Rattle.dns_message.proofs.Phrased.{fails_stops, stops_fails, whole_read, read_whole}
+use Rattle.dns_message.proofs.Standing.{question_stands, record_stands}
+use Rattle.dns_message.proofs.laws.readings_in_words.Goals as goal
 
 pub returns-clause-stops : goal.returns-clause-stops
 returns-clause-stops c = λ m s i p. (stops_fails m s i p, fails_stops m s i p)

@@ -12,15 +12,15 @@ use Rattle.std.proofs.lemmas.List.{reverse-reverse, length-append}
 use Rattle.std.proofs.lemmas.List.Sorted.{IsPermutation-refl, IsPermutation-cons, IsPermutation-middle, IsPermutation-trans, IsPermutation-map}
 use Rattle.dns_wire.specs.Names.{lowered}
 use Rattle.dns_wire.proofs.Lowered.{wire_parts, name_lowered, lowered_long}
-use Rattle.dns_canon.specs.Canonical.{canon, is_kept, octets_of_parts}
+use Rattle.dns_message.specs.Canonical.{canon, is_kept, octets_of_parts}
 use Rattle.dns_record.specs.Types.{is_lowercased}
 use Rattle.dns_record.specs.Fields.{Field, field_octets, fields_octets, folded_field, canonical_fields}
 use Rattle.dns_record.specs.Fields.FieldOf.{Named, Bare, Raw, Sized, Byte, Number}
-use Rattle.dns_canon.specs.Messages.{Rec}
-use Rattle.dns_canon.specs.Order.{SortKey, sort_key, sort_key_cmp, record_cmp, Before, precedes, inserted, in_order, octets_of_key, output}
-use Rattle.dns_canon.specs.Sorted.{times, NoneBelow, Ascends}
-use Rattle.dns_canon.specs.WellFormed.{WellFormed}
-use Rattle.dns_canon.proofs.Sorting.{SameSums, sort_key_cmp_total, sort_key_cmp_same, sorted_unique, sums_permuted, in_order_sums, ascends_in_order, octets_of_keys}
+use Rattle.dns_message.specs.Messages.{Rec}
+use Rattle.dns_message.specs.Order.{SortKey, sort_key, sort_key_cmp, record_cmp, Before, precedes, inserted, in_order, octets_of_key, output}
+use Rattle.dns_message.specs.Sorted.{times, NoneBelow, Ascends}
+use Rattle.dns_message.specs.WellFormed.{WellFormed}
+use Rattle.dns_message.proofs.Sorting.{SameSums, sort_key_cmp_total, sort_key_cmp_same, sorted_unique, sums_permuted, in_order_sums, ascends_in_order, octets_of_keys}
 
 -- ---- the order
 

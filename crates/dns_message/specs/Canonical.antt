@@ -1,9 +1,11 @@
 -- Canonical octets (RFC 4034 section 6.2, RFC 6840 section 5.1).
-use Rattle.std.specs.Prelude.{ℕ, List, ◌++◌, length, Bool, not, ◌==◌}
+use Rattle.std.specs.Prelude.{ℕ, List, ◌++◌, length, Option, Bool, not, ◌==◌}
 use Rattle.std.specs.Int.{w16, w32, to_be_bytes}
-use Rattle.dns_wire.specs.Names.{wire, lowered}
+use Rattle.dns_wire.specs.Names.{wire, lowered, plain_name}
+use Rattle.dns_record.specs.Data.{data_as}
 use Rattle.dns_record.specs.Fields.{fields_octets, canonical_fields}
-use Rattle.dns_canon.specs.Messages.{Rec}
+use Rattle.dns_record.specs.Records.{record_at}
+use Rattle.dns_message.specs.Messages.{Rec}
 
 -- the record with its owner in small letters, and its names where its type is one of the nine
 abbrev pub fold : Rec → Rec
@@ -17,6 +19,10 @@ octets_of_parts owner rtype class ttl octets =
 -- a record's octets, names whole
 abbrev pub record_octets : Rec → List ℕ
 record_octets r = octets_of_parts r.owner r.rtype r.class r.ttl (fields_octets r.content)
+
+-- the record at the front of octets, its names without pointers, and what follows it
+abbrev pub plain_record : List ℕ → Option (Rec × List ℕ)
+plain_record = record_at plain_name (data_as plain_name)
 
 -- the canonical octets: those of the folded record
 abbrev pub canon : Rec → List ℕ

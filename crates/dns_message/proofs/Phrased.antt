@@ -1,9 +1,10 @@
 -- The reading of a message in words, and the words as the reading.
 use Rattle.std.proofs.Common.{◌≡◌, ℕ, ◌<◌, Bool, true, false, cond, ltb, List, [], ◌∷◌, ◌++◌, length, drop, Option, Some, None, refl, sym, ap, subst, ◌∙◌}
 use Rattle.std.proofs.lemmas.Bool.{le-ltb, lt-ltb, ltb-false}
-use Rattle.dns_canon.specs.Messages.{Item, Reading, item_at, with_item, then_read, reading_from, slots_from, counts_of, message_reading, StopsAt}
-use Rattle.dns_canon.specs.Messages.Reading.{Short, Stopped, Whole}
-use Rattle.dns_canon.specs.Worded.{ItemsAt, FailsAt, ReadsWhole}
+use Rattle.dns_message.specs.Messages.{Item, Reading, item_at, with_item, then_read, reading_from, slots_from, counts_of, message_reading, StopsAt}
+use Rattle.dns_message.specs.Messages.Reading.{Short, Stopped, Whole}
+use Rattle.dns_message.specs.Worded.{ItemsAt, NoItemAt, FailsAt, ReadsWhole}
+use Rattle.dns_message.proofs.Standing.{item_is, item_found, none_is, none_found}
 
 -- ---- from words
 
@@ -11,16 +12,16 @@ pub read_worded : (c : List ℕ) (slots : List (ℕ × ℕ)) (at : ℕ) (items :
 unfolding reading_from
 read_worded c [] at items end is = ap (Whole []) (sym is.1) ∙ ap (λ (l : List Item). Whole l end) (sym is.0)
 read_worded c (slot ∷ slots) at items end (item, next, others, here, items-is, more) =
-    rw here (ap (with_item item) (read_worded c slots next others end more) ∙ ap (λ (l : List Item). Whole l end) (sym items-is))
+    rw (item_found slot.0 c at item next here) (ap (with_item item) (read_worded c slots next others end more) ∙ ap (λ (l : List Item). Whole l end) (sym items-is))
 
 pub stopped_worded : (c : List ℕ) (before after : List (ℕ × ℕ)) (section index at : ℕ) (items : List Item) (place : ℕ) → ItemsAt c before at items place
-    → item_at section c place ≡ None → reading_from c (before ++ (section, index) ∷ after) at ≡ Stopped items section index place
+    → NoItemAt section c place → reading_from c (before ++ (section, index) ∷ after) at ≡ Stopped items section index place
 unfolding reading_from
 stopped_worded c [] after section index at items place is e =
-    let none : item_at section c at ≡ None = subst (λ (p : ℕ). item_at section c p ≡ None) is.1 e in
+    let none : item_at section c at ≡ None = subst (λ (p : ℕ). item_at section c p ≡ None) is.1 (none_found section c place e) in
     rw none (ap (Stopped [] section index) (sym is.1) ∙ ap (λ (l : List Item). Stopped l section index place) (sym is.0))
 stopped_worded c (slot ∷ before) after section index at items place (item, next, others, here, items-is, more) e =
-    rw here (ap (with_item item) (stopped_worded c before after section index next others place more e) ∙ ap (λ (l : List Item). Stopped l section index place) (sym items-is))
+    rw (item_found slot.0 c at item next here) (ap (with_item item) (stopped_worded c before after section index next others place more e) ∙ ap (λ (l : List Item). Stopped l section index place) (sym items-is))
 
 pub fails_stops : (m : List ℕ) (section index place : ℕ) → FailsAt m section index place → StopsAt m section index place
 unfolding message_reading
@@ -46,7 +47,7 @@ record Fails (c : List ℕ) (slots : List (ℕ × ℕ)) (at section index place 
   counted : slots ≡ before ++ (section, index) ∷ after
   items : List Item
   read : ItemsAt c before at items place
-  unread : item_at section c place ≡ None
+  unread : NoItemAt section c place
 
 -- a reading with an item in front that stops
 stopped_of : (item : Item) (reading : Reading) (items : List Item) (section index place : ℕ) → with_item item reading ≡ Stopped items section index place
@@ -69,11 +70,11 @@ fails c ((s, i) ∷ slots) at items section index place e = by (item_at s c at) 
       let s-is : s ≡ section = cc in
       let i-is : i ≡ index = cc in
       let p-is : at ≡ place = cc in
-      record { before = []; after = slots; counted = rw (s-is, i-is) refl; items = []; read = (refl, sym p-is); unread = rw (sym s-is, sym p-is) is }
+      record { before = []; after = slots; counted = rw (s-is, i-is) refl; items = []; read = (refl, sym p-is); unread = none_is section c place (rw (sym s-is, sym p-is) is) }
   by (Some (item, next)) is e more =
       let stopped = stopped_of item (reading_from c slots next) items section index place e in
       let f = more next stopped.0 stopped.1 in
-      record { before = (s, i) ∷ f.before; after = f.after; counted = ap (λ (l : List (ℕ × ℕ)). (s, i) ∷ l) f.counted; items = item ∷ f.items; read = (item, next, f.items, is, refl, f.read); unread = f.unread }
+      record { before = (s, i) ∷ f.before; after = f.after; counted = ap (λ (l : List (ℕ × ℕ)). (s, i) ∷ l) f.counted; items = item ∷ f.items; read = (item, next, f.items, item_is s c at item next is, refl, f.read); unread = f.unread }
 
 pub stops_fails : (m : List ℕ) (section index place : ℕ) → StopsAt m section index place → FailsAt m section index place
 unfolding message_reading
@@ -106,7 +107,7 @@ wholes c (slot ∷ slots) at items end e = by (item_at slot.0 c at) refl e (λ n
   by None is e more = absurd cc
   by (Some (item, next)) is e more =
       let whole = whole_of item (reading_from c slots next) items end e in
-      (item, next, whole.0, is, whole.2, more next whole.0 whole.1)
+      (item, next, whole.0, item_is slot.0 c at item next is, whole.2, more next whole.0 whole.1)
 
 pub read_whole : (m : List ℕ) (items : List Item) (end : ℕ) → message_reading m ≡ Whole items end → ReadsWhole m items end
 unfolding message_reading

@@ -7,8 +7,8 @@ use Rattle.std.specs.Ordering.{nat_cmp, on, then_cmp, is_gt}
 use Rattle.std.specs.Cmp.Lexicographic.{slice_cmp}
 use Rattle.dns_name.specs.Order.{key, key_cmp}
 use Rattle.dns_record.specs.Fields.{fields_octets, canonical_fields}
-use Rattle.dns_canon.specs.Messages.{Rec}
-use Rattle.dns_canon.specs.Canonical.{octets_of_parts, canon, is_kept}
+use Rattle.dns_message.specs.Messages.{Rec}
+use Rattle.dns_message.specs.Canonical.{octets_of_parts, canon, is_kept}
 
 -- what records are compared by, in this order: the owner's lowered labels from the root on, the class, the type, the
 -- canonical octets of the data, and the time to live

@@ -1,8 +1,8 @@
 use Rattle.std.proofs.Common.{inl, inr}
 use Rattle.std.proofs.lemmas.Bool.{cases_lt}
 use Rattle.std.proofs.Common.{length}
-use Rattle.dns_canon.proofs.Exclusive.{three_kinds, valid_not_short, stops_not_short}
-use Rattle.dns_canon.proofs.laws.three_kinds_of_messages.Goals as goal
+use Rattle.dns_message.proofs.OneReading.{three_kinds, valid_not_short, stops_not_short}
+use Rattle.dns_message.proofs.laws.three_kinds_of_messages.Goals as goal
 
 pub returns-clause-some : goal.returns-clause-some
 returns-clause-some c = three_kinds

@@ -1,5 +1,0 @@
-use Rattle.dns_canon.proofs.Ordering.{records_total, ties, before}
-use Rattle.dns_canon.proofs.laws.order_of_records.Goals as goal
-
-pub returns : goal.returns
-returns c = record { total = records_total; ties = ties; before = before }

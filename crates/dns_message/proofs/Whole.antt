@@ -1,0 +1,211 @@
+-- Well formed records are read back from their octets, and so are they in canonical form.
+use Rattle.std.proofs.Common.{◌≡◌, ℕ, Bool, true, false, cond, ltb, List, [], ◌∷◌, ◌++◌, length, take_all, Option, Some, None, refl, sym, ap, subst, ◌∙◌, arith}
+use Rattle.std.specs.Prelude.{map, ◌↔◌}
+use Rattle.std.specs.Int.{w16, w32, to_be_bytes}
+use Rattle.std.specs.Str.{str_to_ascii_lowercase}
+use Rattle.std.proofs.lemmas.Bool.{le-ltb}
+use Rattle.std.proofs.lemmas.List.{drop_all}
+use Rattle.std.proofs.lemmas.Str.Ascii.{lowercase-lowercase}
+use Rattle.std.proofs.lemmas.Option.{some_pair_parts}
+use Rattle.dns_wire.specs.Names.{wire, lowered, IsName, plain_name}
+use Rattle.dns_wire.specs.Reading.{AreOctets, octets, all_of}
+use Rattle.dns_wire.proofs.Lowered.{lower_wire, name_lowered}
+use Rattle.dns_wire.proofs.Spelled.{plain_name_again}
+use Rattle.dns_record.specs.Data.{data_as}
+use Rattle.dns_record.specs.Fields.{Field, field_octets, fields_octets, folded_field, canonical_fields}
+use Rattle.dns_record.specs.Fields.FieldOf.{Named, Bare, Raw, Sized, Byte, Number}
+use Rattle.dns_record.specs.Kinds.{Kind, fields_of}
+use Rattle.dns_record.specs.Kinds.Kind.{Pointed, Plain}
+use Rattle.dns_record.specs.Records.{record_at}
+use Rattle.dns_record.specs.Rows.{row}
+use Rattle.dns_record.specs.Types.{is_lowercased}
+use Rattle.dns_record.proofs.Sizes.{canonical_long}
+use Rattle.dns_message.specs.Canonical.{fold, octets_of_parts, record_octets, canon, plain_record}
+use Rattle.dns_message.specs.Messages.{Rec}
+use Rattle.dns_message.specs.WellFormed.{WellFormed}
+use Rattle.dns_message.proofs.Octets.{octets_in_front, octets_behind, octets_of_both, octets_lowered, number_octets_2, number_octets_4}
+use Rattle.dns_message.proofs.Suiting.{Suits, AllSuit, row_is_row, number_back, fields_back, fields_read}
+
+-- ---- data
+
+pub data_back : (rtype : ℕ) (fs : List Field) → AllSuit (row rtype) fs → data_as plain_name rtype (fields_octets fs) ≡ Some fs
+unfolding data_as
+data_back rtype fs is = ap all_of (fields_back (row rtype) fs (row_is_row rtype) is)
+
+all_of_is : (read : Option (List Field × List ℕ)) (fs : List Field) → all_of read ≡ Some fs → read ≡ Some (fs, [])
+all_of_is None fs e = absurd cc
+all_of_is (Some (gs, [])) fs e = let same : gs ≡ fs = cc in ap (λ (l : List Field). Some (l, [])) same
+all_of_is (Some (gs, x ∷ rest)) fs e = absurd cc
+
+data_suits : (rtype : ℕ) (bytes : List ℕ) (fs : List Field) → AreOctets bytes → data_as plain_name rtype bytes ≡ Some fs → AllSuit (row rtype) fs
+unfolding data_as
+data_suits rtype bytes fs are e = (fields_read (row rtype) fs bytes [] (row_is_row rtype) are (all_of_is (fields_of plain_name (row rtype) bytes) fs e)).0
+
+-- ---- octets of a record
+
+-- the octets behind an owner
+pub tail_octets : (rtype class ttl : ℕ) (body : List ℕ) → AreOctets body → AreOctets (to_be_bytes w16 rtype ++ (to_be_bytes w16 class ++ (to_be_bytes w32 ttl ++ (to_be_bytes w16 (length body) ++ body))))
+tail_octets rtype class ttl body are =
+    let five = to_be_bytes w16 (length body) ++ body in
+    let four = to_be_bytes w32 ttl ++ five in
+    let three = to_be_bytes w16 class ++ four in
+    octets_of_both (to_be_bytes w16 rtype) three (number_octets_2 rtype)
+    (octets_of_both (to_be_bytes w16 class) four (number_octets_2 class)
+    (octets_of_both (to_be_bytes w32 ttl) five (number_octets_4 ttl)
+    (octets_of_both (to_be_bytes w16 (length body)) body (number_octets_2 (length body)) are)))
+
+pub parts_octets : (owner : List (List ℕ)) (rtype class ttl : ℕ) (body : List ℕ) → AreOctets (wire owner) → AreOctets body → AreOctets (octets_of_parts owner rtype class ttl body)
+parts_octets owner rtype class ttl body named are = octets_of_both (wire owner) (to_be_bytes w16 rtype ++ (to_be_bytes w16 class ++ (to_be_bytes w32 ttl ++ (to_be_bytes w16 (length body) ++ body)))) named (tail_octets rtype class ttl body are)
+
+pub owner_octets : (r : Rec) → WellFormed r → AreOctets (wire r.owner)
+owner_octets r is =
+    let body = fields_octets r.content in
+    octets_in_front (wire r.owner) (to_be_bytes w16 r.rtype ++ (to_be_bytes w16 r.class ++ (to_be_bytes w32 r.ttl ++ (to_be_bytes w16 (length body) ++ body)))) is.octets
+
+pub body_octets : (r : Rec) → WellFormed r → AreOctets (fields_octets r.content)
+body_octets r is =
+    let body = fields_octets r.content in
+    let five = to_be_bytes w16 (length body) ++ body in
+    let four = to_be_bytes w32 r.ttl ++ five in
+    let three = to_be_bytes w16 r.class ++ four in
+    let two = to_be_bytes w16 r.rtype ++ three in
+    octets_behind (to_be_bytes w16 (length body)) body (octets_behind (to_be_bytes w32 r.ttl) five (octets_behind (to_be_bytes w16 r.class) four
+    (octets_behind (to_be_bytes w16 r.rtype) three (octets_behind (wire r.owner) two is.octets))))
+
+pub content_suits : (r : Rec) → WellFormed r → AllSuit (row r.rtype) r.content
+content_suits r is = data_suits r.rtype (fields_octets r.content) r.content (body_octets r is) is.content
+
+-- ---- in small letters
+
+suits_folded : (kind : Kind) (f : Field) → Suits kind f → Suits kind (folded_field f)
+suits_folded Pointed (Named labels) is = name_lowered labels is
+suits_folded Plain (Bare labels) is = name_lowered labels is
+suits_folded kind (Raw o) is = is
+suits_folded kind (Sized o) is = is
+suits_folded kind (Byte b) is = is
+suits_folded kind (Number w n) is = is
+suits_folded kind f is = absurd is
+
+all_folded : (kinds : List Kind) (fs : List Field) → AllSuit kinds fs → AllSuit kinds (map folded_field fs)
+all_folded [] [] is = tt
+all_folded [] (f ∷ fs) is = absurd is
+all_folded (kind ∷ kinds) [] is = absurd is
+all_folded (kind ∷ kinds) (f ∷ fs) is = (suits_folded kind f is.0, all_folded kinds fs is.1)
+
+pub canonical_suits : (kinds : List Kind) (rtype : ℕ) (fs : List Field) → AllSuit kinds fs → AllSuit kinds (canonical_fields rtype fs)
+canonical_suits kinds rtype fs is = by (is_lowercased rtype) where
+  by : (b : Bool) → AllSuit kinds (cond b (map folded_field fs) fs)
+  by true = all_folded kinds fs is
+  by false = is
+
+pub name_octets_lowered : (labels : List (List ℕ)) → IsName labels → AreOctets (wire labels) → AreOctets (wire (lowered labels))
+name_octets_lowered labels is are = subst AreOctets (lower_wire labels is.sizes) (octets_lowered (wire labels) are)
+
+field_octets_folded : (kind : Kind) (f : Field) → Suits kind f → AreOctets (field_octets f) → AreOctets (field_octets (folded_field f))
+field_octets_folded Pointed (Named labels) is are = name_octets_lowered labels is are
+field_octets_folded Plain (Bare labels) is are = name_octets_lowered labels is are
+field_octets_folded kind (Raw o) is are = are
+field_octets_folded kind (Sized o) is are = are
+field_octets_folded kind (Byte b) is are = are
+field_octets_folded kind (Number w n) is are = are
+field_octets_folded kind f is are = absurd is
+
+octets_folded : (kinds : List Kind) (fs : List Field) → AllSuit kinds fs → AreOctets (fields_octets fs) → AreOctets (fields_octets (map folded_field fs))
+octets_folded [] [] is are = are
+octets_folded [] (f ∷ fs) is are = absurd is
+octets_folded (kind ∷ kinds) [] is are = absurd is
+octets_folded (kind ∷ kinds) (f ∷ fs) is are =
+    octets_of_both (field_octets (folded_field f)) (fields_octets (map folded_field fs))
+    (field_octets_folded kind f is.0 (octets_in_front (field_octets f) (fields_octets fs) are))
+    (octets_folded kinds fs is.1 (octets_behind (field_octets f) (fields_octets fs) are))
+
+octets_canonical : (kinds : List Kind) (rtype : ℕ) (fs : List Field) → AllSuit kinds fs → AreOctets (fields_octets fs) → AreOctets (fields_octets (canonical_fields rtype fs))
+octets_canonical kinds rtype fs is are = by (is_lowercased rtype) where
+  by : (b : Bool) → AreOctets (fields_octets (cond b (map folded_field fs) fs))
+  by true = octets_folded kinds fs is are
+  by false = are
+
+-- the canonical octets are octets
+pub canon_octets : (r : Rec) → WellFormed r → AreOctets (canon r)
+canon_octets r is =
+    parts_octets (lowered r.owner) r.rtype r.class r.ttl (fields_octets (canonical_fields r.rtype r.content)) (name_octets_lowered r.owner is.owner (owner_octets r is))
+    (octets_canonical (row r.rtype) r.rtype r.content (content_suits r is) (body_octets r is))
+
+pub well_formed_folded : (r : Rec) → WellFormed r → WellFormed (fold r)
+well_formed_folded r is = record {
+  owner = name_lowered r.owner is.owner;
+  rtype = is.rtype;
+  class = is.class;
+  ttl = is.ttl;
+  size = omega (arith, is.size, canonical_long r.rtype r.content);
+  content = data_back r.rtype (canonical_fields r.rtype r.content) (canonical_suits (row r.rtype) r.rtype r.content (content_suits r is));
+  octets = canon_octets r is;
+}
+
+-- ---- read back
+
+all_taken : (o : List ℕ) → octets (length o) o ≡ Some (o, [])
+all_taken o =
+    let fits : ltb (length o) (length o) ≡ false = le-ltb _ _ (omega arith) in
+    rw (fits, take_all (length o) o (omega arith), drop_all (length o) o (omega arith)) refl
+
+pub record_back : (r : Rec) → WellFormed r → plain_record (record_octets r) ≡ Some (r, [])
+unfolding record_at
+record_back r is =
+    let body = fields_octets r.content in
+    let five = to_be_bytes w16 (length body) ++ body in
+    let four = to_be_bytes w32 r.ttl ++ five in
+    let three = to_be_bytes w16 r.class ++ four in
+    let two = to_be_bytes w16 r.rtype ++ three in
+    rw (
+      plain_name_again (wire r.owner ++ two) r.owner two is.owner refl,
+      number_back w16 r.rtype three is.rtype,
+      number_back w16 r.class four is.class,
+      number_back w32 r.ttl five is.ttl,
+      number_back w16 (length body) body is.size,
+      all_taken body,
+      is.content,
+    ) refl
+
+pub canon_back : (r : Rec) → WellFormed r → plain_record (canon r) ≡ Some (fold r, [])
+canon_back r is = record_back (fold r) (well_formed_folded r is)
+
+pub canon_same : (r s : Rec) → WellFormed r → WellFormed s → (canon r ≡ canon s) ↔ (fold r ≡ fold s)
+canon_same r s is js = (
+  λ e. (some_pair_parts (fold r) (fold s) [] [] (sym (canon_back r is) ∙ ap plain_record e ∙ canon_back s js)).0,
+  λ e. ap record_octets e,
+)
+
+-- ---- small letters stay
+
+pub lower_twice : (octets : List ℕ) → str_to_ascii_lowercase (str_to_ascii_lowercase octets) ≡ str_to_ascii_lowercase octets
+lower_twice [] = refl
+lower_twice (b ∷ rest) = rw (lowercase-lowercase b, lower_twice rest) refl
+
+pub lowered_twice : (labels : List (List ℕ)) → lowered (lowered labels) ≡ lowered labels
+lowered_twice [] = refl
+lowered_twice (label ∷ labels) = rw (lower_twice label, lowered_twice labels) refl
+
+field_twice : (f : Field) → folded_field (folded_field f) ≡ folded_field f
+field_twice (Named labels) = ap Named (lowered_twice labels)
+field_twice (Bare labels) = ap Bare (lowered_twice labels)
+field_twice (Raw o) = refl
+field_twice (Sized o) = refl
+field_twice (Byte b) = refl
+field_twice (Number w n) = refl
+
+fields_twice : (fs : List Field) → map folded_field (map folded_field fs) ≡ map folded_field fs
+fields_twice [] = refl
+fields_twice (f ∷ fs) = rw (field_twice f, fields_twice fs) refl
+
+pub canonical_twice : (rtype : ℕ) (fs : List Field) → canonical_fields rtype (canonical_fields rtype fs) ≡ canonical_fields rtype fs
+canonical_twice rtype fs = by (is_lowercased rtype) where
+  by : (b : Bool) → cond b (map folded_field (cond b (map folded_field fs) fs)) (cond b (map folded_field fs) fs) ≡ cond b (map folded_field fs) fs
+  by true = fields_twice fs
+  by false = refl
+
+pub fold_twice : (r : Rec) → fold (fold r) ≡ fold r
+fold_twice r = λ i. record { owner = lowered_twice r.owner i; rtype = r.rtype; class = r.class; ttl = r.ttl; content = canonical_twice r.rtype r.content i }
+
+pub canon_twice : (r : Rec) → canon (fold r) ≡ canon r
+canon_twice r = ap record_octets (fold_twice r)

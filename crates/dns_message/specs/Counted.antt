@@ -1,0 +1,25 @@
+-- Which items of a message are counted, and in what order (RFC 1035 section 4.1.1).
+use Rattle.std.specs.Prelude.{◌≡◌, ◌⊎◌, ℕ, ◌+◌, ◌*◌, ◌<◌, ◌≤◌, List, ◌∷◌, ◌++◌}
+use Rattle.std.specs.Int.{w16}
+use Rattle.dns_record.specs.InPlace.{NumberAt}
+use Rattle.dns_message.specs.Messages.{slots_from, counts_of}
+
+-- There are four sections, and the index is below the section's count, which stands in the header as a number of 16 bits: the
+-- first of the four behind four octets.
+pub record IsCounted (m : List ℕ) (section index : ℕ) : Type 0 where
+  pub four : section ≤ 3
+  pub count : ℕ
+  pub stands : NumberAt m (4 + 2 * section) w16 count (4 + 2 * section + 2)
+  pub below : index < count
+
+-- the counted items, each by its section and its index
+abbrev pub counted_slots : List ℕ → List (ℕ × ℕ)
+counted_slots m = slots_from 0 (counts_of m)
+
+-- an item is earlier than another: in a section before, or in the same section at a smaller index
+abbrev pub IsEarlier : ℕ × ℕ → ℕ × ℕ → Type 0
+IsEarlier x y = (x.0 < y.0) ⊎ ((x.0 ≡ y.0) × (x.1 < y.1))
+
+-- x stands in the list somewhere before y
+abbrev pub StandsBefore : {X : Type 0} → X → X → List X → Type 0
+StandsBefore {X} x y xs = (front middle back : List X) × (xs ≡ front ++ x ∷ (middle ++ y ∷ back))

@@ -1,0 +1,120 @@
+//! What follows from the definitions.
+
+ghost use Rattle.std.specs.Prelude.{◌≡◌, ◌≤◌, ◌<◌, ◌⊎◌, ◌↔◌, ℕ, List, [], Some, length, map, filter};
+ghost use Rattle.std.specs.Cmp.{IsTotalOrder};
+ghost use Rattle.std.specs.List.{All, Contains};
+ghost use Rattle.std.specs.List.Sorted.{IsPermutation};
+ghost use Rattle.std.specs.declared.cmp.Ordering.TheVariants.{Equal};
+ghost use Rattle.dns_wire.specs.Hexadecimal.{lines};
+ghost use Rattle.dns_wire.specs.Reading.{AreOctets};
+ghost use Rattle.dns_record.specs.InPlace.{QuestionAt, RecordAt};
+ghost use Rattle.dns_message.specs.Canonical.{canon, fold, is_kept, plain_record};
+ghost use Rattle.dns_message.specs.Counted.{IsCounted, counted_slots, IsEarlier, StandsBefore};
+ghost use Rattle.dns_message.specs.Messages.{Item, Question, Rec, item_at, message_reading, Valid, StopsAt, BadAt};
+ghost use Rattle.dns_message.specs.Messages.Item.{Asked, Told};
+ghost use Rattle.dns_message.specs.Messages.Reading.{Whole};
+ghost use Rattle.dns_message.specs.Order.{record_cmp, Before, in_order, output};
+ghost use Rattle.dns_message.specs.Same.{Same};
+ghost use Rattle.dns_message.specs.Sorted.{Ascends};
+ghost use Rattle.dns_message.specs.WellFormed.{WellFormed};
+ghost use Rattle.dns_message.specs.Worded.{ItemAt, FailsAt, ReadsWhole};
+
+/// Each message is one of three things: shorter than its header; valid, with one list of records; or bad at
+/// one item, the first that is not read.
+pub fn three_kinds_of_messages()
+    ensures some { (m : List ℕ) → (length m < 12) ⊎ (((rs : List Rec) × Valid m rs) ⊎ ((s i : ℕ) × BadAt m s i)) }
+    ensures one_list { (m : List ℕ) (rs ss : List Rec) → Valid m rs → Valid m ss → rs ≡ ss }
+    ensures one_stop { (m : List ℕ) (s i p t j q : ℕ) → StopsAt m s i p → StopsAt m t j q → (s ≡ t) × (i ≡ j) × (p ≡ q) }
+    ensures not_short { (m : List ℕ) (rs : List Rec) → Valid m rs → 12 ≤ length m }
+    ensures stops_not_short { (m : List ℕ) (s i p : ℕ) → StopsAt m s i p → 12 ≤ length m }
+    ensures stops_not_valid { (m : List ℕ) (s i p : ℕ) (rs : List Rec) → StopsAt m s i p → Valid m rs → ⊥ }
+{}
+
+/// The reading of a message in words: it stops at an item exactly where all items that are counted before
+/// stand one after another and none stands at the item's place; it is whole exactly where all counted items
+/// stand one after another. In section 0 a question is read exactly where it stands, and in the others a
+/// record exactly where it stands (RFC 1035 sections 4.1.2 to 4.1.4). At a place one item is read at the
+/// most.
+pub fn readings_in_words()
+    ensures stops { (m : List ℕ) (s i p : ℕ) → StopsAt m s i p ↔ FailsAt m s i p }
+    ensures whole { (m : List ℕ) (items : List Item) (end : ℕ) → (message_reading m ≡ Whole items end) ↔ ReadsWhole m items end }
+    ensures one { (section : ℕ) (contents : List ℕ) (at : ℕ) (item other : Item) (end last : ℕ) →
+        item_at section contents at ≡ Some (item, end) → item_at section contents at ≡ Some (other, last) → (item ≡ other) × (end ≡ last) }
+    ensures asked { (contents : List ℕ) (at : ℕ) (question : Question) (end : ℕ) →
+        (item_at 0 contents at ≡ Some (Asked question, end)) ↔ QuestionAt contents at question end }
+    ensures told { (section : ℕ) (contents : List ℕ) (at : ℕ) (found : Rec) (end : ℕ) → 0 < section →
+        (item_at section contents at ≡ Some (Told found, end)) ↔ RecordAt contents at found end }
+{}
+
+/// An item is read at a place exactly where it stands there: in section 0 a question, and in the others a record (RFC 1035
+/// sections 4.1.2 to 4.1.4). At a place one item stands at the most.
+pub fn items_in_words()
+    ensures read { (section : ℕ) (contents : List ℕ) (at : ℕ) (item : Item) (end : ℕ) →
+        (item_at section contents at ≡ Some (item, end)) ↔ ItemAt section contents at item end }
+    ensures one { (section : ℕ) (contents : List ℕ) (at : ℕ) (item other : Item) (end last : ℕ) →
+        ItemAt section contents at item end → ItemAt section contents at other last → (item ≡ other) × (end ≡ last) }
+{}
+
+/// Which items of a message are counted: those of the four sections whose index is below the section's count in the header
+/// (RFC 1035 section 4.1.1). Of two such items one stands before the other exactly where its section is smaller, or its
+/// section is the same and its index is smaller; and each stands once.
+pub fn counted_items()
+    ensures counted { (m : List ℕ) (section index : ℕ) → 12 ≤ length m →
+        Contains (counted_slots m) (section, index) ↔ IsCounted m section index }
+    ensures order { (m : List ℕ) (section index other place : ℕ) → IsCounted m section index → IsCounted m other place →
+        StandsBefore (section, index) (other, place) (counted_slots m) ↔ IsEarlier (section, index) (other, place) }
+    ensures once { (m : List ℕ) (section index : ℕ) → StandsBefore (section, index) (section, index) (counted_slots m) → ⊥ }
+{}
+
+/// A record that is read in a message is well formed, and so is each record of a valid message (RFC 1035 section 3.2.1).
+pub fn records_that_are_read_are_well_formed()
+    ensures told { (section : ℕ) (contents : List ℕ) (at : ℕ) (found : Rec) (end : ℕ) → AreOctets contents →
+        item_at section contents at ≡ Some (Told found, end) → WellFormed found }
+    ensures valid { (m : List ℕ) (rs : List Rec) → AreOctets m → Valid m rs → All WellFormed rs }
+{}
+
+/// Well formed records have equal canonical octets exactly where they are equal when folded (RFC 4034 section 6.2).
+pub fn equal_canonical_octets()
+    ensures { (r s : Rec) → WellFormed r → WellFormed s → (canon r ≡ canon s) ↔ (fold r ≡ fold s) }
+{}
+
+/// The canonical octets of a well formed record are read back as the folded record, and nothing is left over (RFC 4034
+/// section 6.2). To fold it again changes nothing.
+pub fn canonical_octets_are_read_back()
+    ensures back { (r : Rec) → WellFormed r → plain_record (canon r) ≡ Some (fold r, []) }
+    ensures well_formed { (r : Rec) → WellFormed r → WellFormed (fold r) }
+    ensures octets { (r : Rec) → WellFormed r → AreOctets (canon r) }
+    ensures again { (r : Rec) → canon (fold r) ≡ canon r }
+    ensures twice { (r : Rec) → fold (fold r) ≡ fold r }
+{}
+
+/// The order of records is total, and neither of two well formed records is before the other exactly where
+/// their canonical octets are equal.
+pub fn order_of_records()
+    ensures total { IsTotalOrder record_cmp }
+    ensures ties { (r s : Rec) → WellFormed r → WellFormed s → (record_cmp r s ≡ Equal) ↔ (canon r ≡ canon s) }
+    ensures before { (r s : Rec) → WellFormed r → WellFormed s → (Before r s ⊎ Before s r) ⊎ (canon r ≡ canon s) }
+{}
+
+/// The canonical list has the canonical octets of exactly the records that are no OPT, each as often as it
+/// comes, in order; and it is one, whatever order the records come in.
+pub fn canonical_lists()
+    ensures same { (rs : List Rec) → IsPermutation (map canon (filter is_kept rs)) (output rs) }
+    ensures ascends { (rs : List Rec) → Ascends record_cmp (in_order (filter is_kept rs)) }
+    ensures one { (rs ss : List Rec) → IsPermutation rs ss → output rs ≡ output ss }
+{}
+
+/// Canonical lists are equal exactly where the records are the same (RFC 4034 section 6); so are those of two valid messages.
+pub fn equal_outputs()
+    ensures records { (rs ss : List Rec) → All WellFormed rs → All WellFormed ss → (output rs ≡ output ss) ↔ Same rs ss }
+    ensures messages { (m n : List ℕ) (rs ss : List Rec) → AreOctets m → AreOctets n → Valid m rs → Valid n ss →
+        (output rs ≡ output ss) ↔ Same rs ss }
+{}
+
+/// Canonical lists have one text only where they are one (RFC 4648 section 8). So the texts of two valid messages are equal
+/// exactly where their records are the same.
+pub fn canonical_texts()
+    ensures one { (rs ss : List Rec) → All WellFormed rs → All WellFormed ss → (lines (output rs) ≡ lines (output ss)) ↔ (output rs ≡ output ss) }
+    ensures messages { (m n : List ℕ) (rs ss : List Rec) → AreOctets m → AreOctets n → Valid m rs → Valid n ss →
+        (lines (output rs) ≡ lines (output ss)) ↔ Same rs ss }
+{}
