@@ -1,6 +1,7 @@
 -- The crate's own lemmas.
 pub mod Counting
 pub mod Octets
+pub mod Often
 pub mod OneReading
 pub mod Ordering
 pub mod Phrased

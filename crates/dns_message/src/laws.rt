@@ -14,7 +14,7 @@ ghost use Rattle.dns_message.specs.Messages.{Item, Question, Rec, item_at, messa
 ghost use Rattle.dns_message.specs.Messages.Item.{Asked, Told};
 ghost use Rattle.dns_message.specs.Messages.Reading.{Whole};
 ghost use Rattle.dns_message.specs.Order.{record_cmp, Before, in_order, output};
-ghost use Rattle.dns_message.specs.Same.{Same};
+ghost use Rattle.dns_message.specs.Same.{folded_kept, Same, StandsTimes, EquallyOften};
 ghost use Rattle.dns_message.specs.Sorted.{Ascends};
 ghost use Rattle.dns_message.specs.WellFormed.{WellFormed};
 ghost use Rattle.dns_message.specs.Worded.{ItemAt, FailsAt, ReadsWhole};
@@ -102,6 +102,14 @@ pub fn canonical_lists()
     ensures same { (rs : List Rec) → IsPermutation (map canon (filter is_kept rs)) (output rs) }
     ensures ascends { (rs : List Rec) → Ascends record_cmp (in_order (filter is_kept rs)) }
     ensures one { (rs ss : List Rec) → IsPermutation rs ss → output rs ≡ output ss }
+{}
+
+/// Lists of records are the same exactly where each folded record that is no OPT stands equally often in both; and each
+/// stands a certain number of times.
+pub fn same_records()
+    ensures often { (rs ss : List Rec) → Same rs ss ↔ EquallyOften (folded_kept rs) (folded_kept ss) }
+    ensures some { (r : Rec) (rs : List Rec) → (n : ℕ) × StandsTimes r rs n }
+    ensures one { (r : Rec) (rs : List Rec) (n k : ℕ) → StandsTimes r rs n → StandsTimes r rs k → n ≡ k }
 {}
 
 /// Canonical lists are equal exactly where the records are the same (RFC 4034 section 6); so are those of two valid messages.

@@ -6,5 +6,5 @@ mod laws;
 pub use laws::{
     canonical_lists, canonical_octets_are_read_back, canonical_texts, counted_items,
     equal_canonical_octets, equal_outputs, items_in_words, order_of_records, readings_in_words,
-    records_that_are_read_are_well_formed, three_kinds_of_messages,
+    records_that_are_read_are_well_formed, same_records, three_kinds_of_messages,
 };
