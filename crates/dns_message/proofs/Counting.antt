@@ -5,8 +5,8 @@ use Rattle.std.specs.Int.{w16, from_be_bytes}
 use Rattle.std.specs.List.{Contains}
 use Rattle.std.proofs.lemmas.Bool.{cases_lt}
 use Rattle.std.proofs.lemmas.List.{get_or-take, get_or-drop}
-use Rattle.dns_message.specs.Counted.{IsCounted, counted_slots, IsEarlier, StandsBefore}
-use Rattle.dns_message.specs.Messages.{slots, slots_from, counts_of}
+use Rattle.dns_message.specs.Counted.{IsCounted, IsEarlier, StandsBefore}
+use Rattle.dns_message.specs.Messages.{slots, slots_from, counts_of, counted_slots}
 
 -- ---- members of lists
 

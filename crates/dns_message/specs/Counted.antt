@@ -2,7 +2,6 @@
 use Rattle.std.specs.Prelude.{◌≡◌, ◌⊎◌, ℕ, ◌+◌, ◌*◌, ◌<◌, ◌≤◌, List, ◌∷◌, ◌++◌}
 use Rattle.std.specs.Int.{w16}
 use Rattle.dns_record.specs.InPlace.{NumberAt}
-use Rattle.dns_message.specs.Messages.{slots_from, counts_of}
 
 -- There are four sections, and the index is below the section's count, which stands in the header as a number of 16 bits: the
 -- first of the four behind four octets.
@@ -11,10 +10,6 @@ pub record IsCounted (m : List ℕ) (section index : ℕ) : Type 0 where
   pub count : ℕ
   pub stands : NumberAt m (4 + 2 * section) w16 count (4 + 2 * section + 2)
   pub below : index < count
-
--- the counted items, each by its section and its index
-abbrev pub counted_slots : List ℕ → List (ℕ × ℕ)
-counted_slots m = slots_from 0 (counts_of m)
 
 -- an item is earlier than another: in a section before, or in the same section at a smaller index
 abbrev pub IsEarlier : ℕ × ℕ → ℕ × ℕ → Type 0

@@ -43,6 +43,10 @@ counts_of m =
     (slice_index m 4 * 256 + slice_index m 5) ∷ (slice_index m 6 * 256 + slice_index m 7)
     ∷ (slice_index m 8 * 256 + slice_index m 9) ∷ (slice_index m 10 * 256 + slice_index m 11) ∷ []
 
+-- the counted items of a message, in order
+abbrev pub counted_slots : List ℕ → List (ℕ × ℕ)
+counted_slots m = slots_from 0 (counts_of m)
+
 -- ---- reading a message
 
 -- A message is shorter than its header; or it is read up to an item, by section and index, at whose place none is read;
@@ -70,7 +74,7 @@ reading_from contents (slot ∷ slots) at = then_read slot at (reading_from cont
 
 -- what a message is read as; its contents begin behind its twelve header octets
 unfoldable pub message_reading : List ℕ → Reading
-message_reading m = if nat_lt (length m) 12 then Short else reading_from (drop 12 m) (slots_from 0 (counts_of m)) 0
+message_reading m = if nat_lt (length m) 12 then Short else reading_from (drop 12 m) (counted_slots m) 0
 
 -- the records among some items, in order
 abbrev pub records_among : List Item → List Rec

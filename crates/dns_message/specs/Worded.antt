@@ -1,7 +1,7 @@
 -- The reading of a message in words.
 use Rattle.std.specs.Prelude.{◌≡◌, ℕ, ◌≤◌, ◌<◌, List, [], ◌∷◌, ◌++◌, length, drop}
 use Rattle.dns_record.specs.InPlace.{QuestionAt, RecordAt}
-use Rattle.dns_message.specs.Messages.{Item, slots_from, counts_of}
+use Rattle.dns_message.specs.Messages.{Item, counted_slots}
 use Rattle.dns_message.specs.Messages.Item.{Asked, Told}
 
 -- an item of a section stands from a place up to an end: in section 0 a question, and in the later ones a record
@@ -24,7 +24,7 @@ pub record FailsAt (m : List ℕ) (section index place : ℕ) : Type 0 where
   pub header : 12 ≤ length m
   pub before : List (ℕ × ℕ)
   pub after : List (ℕ × ℕ)
-  pub counted : slots_from 0 (counts_of m) ≡ before ++ (section, index) ∷ after
+  pub counted : counted_slots m ≡ before ++ (section, index) ∷ after
   pub items : List Item
   pub read : ItemsAt (drop 12 m) before 0 items place
   pub unread : NoItemAt section (drop 12 m) place
@@ -32,4 +32,4 @@ pub record FailsAt (m : List ℕ) (section index place : ℕ) : Type 0 where
 -- all counted items stand one after another, and end at a place
 pub record ReadsWhole (m : List ℕ) (items : List Item) (end : ℕ) : Type 0 where
   pub header : 12 ≤ length m
-  pub read : ItemsAt (drop 12 m) (slots_from 0 (counts_of m)) 0 items end
+  pub read : ItemsAt (drop 12 m) (counted_slots m) 0 items end
