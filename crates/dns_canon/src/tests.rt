@@ -8,8 +8,8 @@ mod types;
 mod zones;
 
 use crate::{
-    CanonError, Command, LIMIT, Status, Words, canonical_lists, canonicalise, order_of_records,
-    readings_in_words, run, three_kinds_of_messages, verdicts_in_words, words_of_commands,
+    CanonError, Command, LIMIT, Status, Words, canonicalise, run, verdicts_in_words,
+    words_of_commands,
 };
 use dns_wire::{NullSink, PlainSource, ReadSource, TextSink, TextSource, WriteSink};
 use messages::MESSAGES;
@@ -366,10 +366,6 @@ fn lists_canonical_octets(rt: HostRuntime) -> Result<(), Fail> {
     assert_eq!(rt; list.get(1), None);
 
     assert!(rt; matches!(canonicalise(alloc, b""), Err(CanonError::Short)));
-    three_kinds_of_messages();
-    readings_in_words();
-    order_of_records();
-    canonical_lists();
     verdicts_in_words();
     words_of_commands();
     Ok(())

@@ -8,3 +8,6 @@ pub use laws::{
     equal_canonical_octets, equal_outputs, items_in_words, order_of_records, readings_in_words,
     records_that_are_read_are_well_formed, same_records, three_kinds_of_messages,
 };
+
+#[cfg(test)]
+mod tests;
