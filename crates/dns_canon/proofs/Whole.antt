@@ -6,7 +6,7 @@ use Rattle.dns_record.proofs.Sizes.{canonical_long}
 use Rattle.dns_rdata.specs.Data.{data_fields, type_number, written_fields}
 use Rattle.dns_rdata.specs.Written.{fields_written}
 use Rattle.dns_rdata.specs.declared.record_data.RecordData.{RecordData}
-use Rattle.dns_canon.specs.Seen.{data_seen}
+use Rattle.dns_message.specs.Seen.{data_seen}
 
 -- they are written as their fields are
 pub as_whole : (v : RecordData (List (List ℕ))) → length (written_fields wire (data_fields v)) ≡ length (fields_octets (data_seen v))

@@ -3,7 +3,7 @@
 ghost use Rattle.std.specs.Prelude.{◌≡◌, ◌<◌, ◌^◌, length, IfOk};
 ghost use Rattle.dns_record.specs.Fields.{fields_octets, canonical_octets};
 ghost use Rattle.dns_rdata.specs.Data.{type_number};
-ghost use Rattle.dns_canon.specs.Seen.{data_seen};
+ghost use Rattle.dns_message.specs.Seen.{data_seen};
 
 use dns_name::NameBuf;
 use dns_rdata::RecordData;

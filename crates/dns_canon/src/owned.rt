@@ -114,7 +114,8 @@ impl OwnedRecord {
     ghost use Rattle.dns_message.specs.Order.{sort_key};
     ghost use Rattle.std.specs.Prelude.{◌^◌};
     ghost use Rattle.dns_record.specs.Fields.{fields_octets};
-    ghost use Rattle.dns_canon.specs.Seen.{owned_seen, data_seen};
+    ghost use Rattle.dns_canon.specs.Seen.{owned_seen};
+    ghost use Rattle.dns_message.specs.Seen.{data_seen};
     ghost use Rattle.dns_rdata.specs.Data.{IsDataOf};
 
     /// The parts of a record.

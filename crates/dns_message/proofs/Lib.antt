@@ -1,12 +1,16 @@
 -- The crate's own lemmas.
 pub mod Counting
+pub mod Headed
 pub mod Octets
 pub mod Often
 pub mod OneReading
 pub mod Ordering
+pub mod Parsed
 pub mod Phrased
+pub mod Placed
 pub mod Sameness
 pub mod Slots
+pub mod Sound
 pub mod Sorting
 pub mod Standing
 pub mod Suiting

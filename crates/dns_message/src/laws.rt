@@ -1,6 +1,6 @@
 //! What follows from the definitions.
 
-ghost use Rattle.std.specs.Prelude.{◌≡◌, ◌≤◌, ◌<◌, ◌⊎◌, ◌↔◌, ℕ, List, [], Some, length, map, filter};
+ghost use Rattle.std.specs.Prelude.{◌≡◌, ◌≤◌, ◌<◌, ◌⊎◌, ◌↔◌, ℕ, List, [], false, Some, None, Ok, Err, length, map, filter};
 ghost use Rattle.std.specs.Cmp.{IsTotalOrder};
 ghost use Rattle.std.specs.List.{All, Contains};
 ghost use Rattle.std.specs.List.Sorted.{IsPermutation};
@@ -10,10 +10,15 @@ ghost use Rattle.dns_wire.specs.Reading.{AreOctets};
 ghost use Rattle.dns_record.specs.InPlace.{QuestionAt, RecordAt};
 ghost use Rattle.dns_message.specs.Canonical.{canon, fold, is_kept, plain_record};
 ghost use Rattle.dns_message.specs.Counted.{IsCounted, IsEarlier, StandsBefore};
-ghost use Rattle.dns_message.specs.Messages.{Item, Question, Rec, item_at, counted_slots, message_reading, Valid, StopsAt, BadAt};
+ghost use Rattle.dns_message.specs.Messages.{Item, Question, Rec, item_at, counted_slots, with_item, message_reading, Valid, StopsAt, BadAt};
 ghost use Rattle.dns_message.specs.Messages.Item.{Asked, Told};
-ghost use Rattle.dns_message.specs.Messages.Reading.{Whole};
+ghost use Rattle.dns_message.specs.Messages.Reading.{Stopped, Whole};
 ghost use Rattle.dns_message.specs.Order.{record_cmp, Before, in_order, output};
+ghost use Rattle.dns_message.specs.Parsing.{parsed_message, given_count, next_start, has_ended, ahead, Parsed, GivesNext};
+ghost use Rattle.dns_message.specs.Seen.{item_seen};
+ghost use Rattle.dns_message.specs.declared.parser.MessageParser.{MessageParser};
+ghost use Rattle.dns_message.specs.declared.parser.Place.{Place};
+ghost use Rattle.dns_wire.specs.declared.error.ParseError.{ParseError};
 ghost use Rattle.dns_message.specs.Same.{folded_kept, Same, StandsTimes, EquallyOften};
 ghost use Rattle.dns_message.specs.Sorted.{Ascends};
 ghost use Rattle.dns_message.specs.WellFormed.{WellFormed};
@@ -125,4 +130,17 @@ pub fn canonical_texts()
     ensures one { (rs ss : List Rec) → All WellFormed rs → All WellFormed ss → (lines (output rs) ≡ lines (output ss)) ↔ (output rs ≡ output ss) }
     ensures messages { (m n : List ℕ) (rs ss : List Rec) → AreOctets m → AreOctets n → Valid m rs → Valid n ss →
         (lines (output rs) ≡ lines (output ss)) ↔ Same rs ss }
+{}
+
+/// The items that a parser gives are those of its message, in order: one that was just made has the whole message ahead; an item
+/// that it gives was the next of those ahead; where it refuses one, it is at this one that the message stops; and where it gives
+/// none, nothing was ahead (RFC 1035 section 4.1).
+pub fn parsers_read_messages()
+    ensures start { (p : MessageParser) → 12 ≤ length (parsed_message p) → given_count p ≡ 0 → next_start p ≡ 0 → has_ended p ≡ false →
+        ahead p ≡ message_reading (parsed_message p) }
+    ensures more { (old new : MessageParser) (place : Place) (item : Parsed) → parsed_message new ≡ parsed_message old →
+        GivesNext {E = ParseError} old (Some (place, Ok item)) new → ahead old ≡ with_item (item_seen item) (ahead new) }
+    ensures refused { (old new : MessageParser) (place : Place) (error : ParseError) →
+        GivesNext old (Some (place, Err error)) new → ahead old ≡ Stopped [] place.section place.index (next_start old) }
+    ensures over { (old new : MessageParser) → GivesNext {E = ParseError} old None new → ahead old ≡ Whole [] (next_start old) }
 {}

@@ -1,6 +1,6 @@
 use Rattle.dns_record.specs.Fields.{canonical_octets}
 use Rattle.dns_rdata.specs.Data.{type_number}
-use Rattle.dns_canon.specs.Seen.{data_seen}
+use Rattle.dns_message.specs.Seen.{data_seen}
 use Rattle.dns_canon.proofs.Kept.{is_written}
 use Rattle.dns_canon.proofs.canonical_data.write_canonical.Goals as goal
 

@@ -1,28 +1,26 @@
-use Rattle.std.proofs.Common.{◌≡◌, ℕ, ◌+◌, ◌*◌, get_or, arith, ap, subst, map, ◌∙◌}
-use Rattle.std.proofs.lemmas.Result.{err_from_is_err_and}
+use Rattle.std.proofs.Common.{ap, arith, length, map, ◌∙◌}
+use Rattle.dns_message.specs.Parsing.{slots_ahead}
 use Rattle.dns_canon.specs.Seen.{owned_seen}
-use Rattle.dns_message.proofs.Slots.{count_is}
-use Rattle.dns_canon.proofs.Sections.{MessageSoFar, message_more, message_read, message_refused}
+use Rattle.dns_canon.proofs.Chained.{read_none, read_more, read_fails, read_over}
 use Rattle.dns_canon.proofs.message.read_message.Goals as goal
 
-pub returns-in_err-at-clause-refused : goal.returns-in_err-at-clause-refused
-returns-in_err-at-clause-refused c =
-    let k = c.in-Some.ensures.cases in
-    let count = c.from_be_bytes-count.ensures ∙ ap (λ (s : ℕ). get_or c.in-Some.header.now (4 + 2 * s) 0 * 256 + get_or c.in-Some.header.now (4 + 2 * s + 1) 0) c.from.ensures in
-    let p = err_from_is_err_and c.from_residual.result c.from_residual.ensures.1 in
-    rw (p.1, p.2) (message_refused c.args.message.now c.in-Some.contents.now c.loop-section.section c.loop-section.at c.from_be_bytes-count.result _ _
-    (omega (arith, k.2)) c.loop-section-test.true k.1 (count_is c.args.message.now c.in-Some.header.now c.loop-section.section _ c.loop-section-test.true k.0 count) c.loop-section.invariant c.in_err-at.ensures.refused)
+pub loop-place-init : goal.loop-place-init
+loop-place-init c =
+    read_none c.args.message.now c.in-Ok.parser (map owned_seen c.new-records.result.items) c.in-Ok.ensures.message c.in-Ok.ensures.start (ap (map owned_seen) c.new-records.ensures.items)
 
-pub loop-section-preserved : goal.loop-section-preserved
-loop-section-preserved c =
-    let k = c.in-Some.ensures.cases in
-    let count = c.from_be_bytes-count.ensures ∙ ap (λ (s : ℕ). get_or c.in-Some.header.now (4 + 2 * s) 0 * 256 + get_or c.in-Some.header.now (4 + 2 * s + 1) 0) c.from.ensures in
-    message_more c.args.message.now c.in-Some.contents.now c.loop-section.section c.loop-section.at c.from_be_bytes-count.result _ _ c.in_ok-at.at
-    c.loop-section-test.true k.1 (count_is c.args.message.now c.in-Some.header.now c.loop-section.section _ c.loop-section-test.true k.0 count) c.loop-section.invariant c.in_ok-at.ensures.read
+pub returns-in_default-item-clause-refused : goal.returns-in_default-item-clause-refused
+returns-in_default-item-clause-refused c =
+    read_fails c.args.message.now c.loop-place.parser c.next_item.new.self c.in-Some.place c.in_default-item.field-0 _ c.loop-place.invariant (rw c.in_default-item.is at c.in-Some.ensures.gives)
+
+pub loop-place-smaller : goal.loop-place-smaller
+loop-place-smaller c =
+    let given = rw c.in-Ok-item.is at c.in-Some.ensures.gives in
+    omega (arith, ap length given.0)
+
+pub loop-place-preserved : goal.loop-place-preserved
+loop-place-preserved c =
+    read_more c.args.message.now c.loop-place.parser c.next_item.new.self c.in-Some.place c.in-Ok-item.item _ _ c.loop-place.invariant c.in-Some.ensures.kept (rw c.in-Ok-item.is at c.in-Some.ensures.gives) c.in_ok-keep.ensures
 
 pub returns-clause-read : goal.returns-clause-read
 returns-clause-read c =
-    let k = c.in-Some.ensures.cases in
-    let four : c.loop-section.section ≡ 4 = omega arith in
-    message_read c.args.message.now c.loop-section.at (map owned_seen c.loop-section.records.items) (omega (arith, k.2))
-    (subst (λ (s : ℕ). MessageSoFar c.args.message.now s c.loop-section.at (map owned_seen c.loop-section.records.items)) four c.loop-section.invariant)
+    read_over c.args.message.now c.loop-place.parser c.next_item.new.self (map owned_seen c.loop-place.records.items) c.next_item.result c.loop-place.invariant c.next_item.ensures.gives c.in_default-next_item.not-Some

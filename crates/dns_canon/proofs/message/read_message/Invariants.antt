@@ -1,7 +1,11 @@
-use Rattle.std.proofs.Common.{map}
+use Rattle.std.proofs.Common.{length, map}
+use Rattle.dns_message.specs.Parsing.{slots_ahead}
 use Rattle.dns_canon.specs.Seen.{owned_seen}
-use Rattle.dns_canon.proofs.Sections.{MessageSoFar}
+use Rattle.dns_canon.proofs.Chained.{ReadSoFar}
 use Rattle.dns_canon.proofs.message.read_message.Given as goal
 
-abbrev pub invariant-loop-section : goal.invariant-loop-section
-invariant-loop-section l = MessageSoFar l.message l.section l.at (map owned_seen l.records.items)
+abbrev pub invariant-loop-place : goal.invariant-loop-place
+invariant-loop-place l = ReadSoFar l.message l.parser (map owned_seen l.records.items)
+
+abbrev pub decreases-loop-place : goal.decreases-loop-place
+decreases-loop-place l = length (slots_ahead l.parser)

@@ -1,0 +1,5 @@
+use Rattle.dns_message.proofs.Placed.{PlacedSoFar}
+use Rattle.dns_message.proofs.parser.MessageParser.place.Given as goal
+
+abbrev pub invariant-loop-section : goal.invariant-loop-section
+invariant-loop-section l = PlacedSoFar l.self.message.slice.now l.self.given l.section l.index

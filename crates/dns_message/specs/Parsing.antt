@@ -1,0 +1,57 @@
+-- Going over a message item by item. What is seen of a parser is its message, how many items it gave, where in the contents the
+-- next one begins, and whether it has ended.
+use Rattle.std.specs.Prelude.{◌≡◌, ℕ, suc, List, [], ◌∷◌, drop, Bool, true, Option, Some, None, Result, Ok, Err, if◌then◌else◌}
+use Rattle.dns_edns.specs.declared.opt.Opt.{Opt}
+use Rattle.dns_rdata.specs.declared.record_data.RecordData.{RecordData}
+use Rattle.dns_message.specs.Messages.{Reading, item_at, counted_slots, reading_from}
+use Rattle.dns_message.specs.Seen.{item_seen}
+use Rattle.dns_message.specs.declared.item.MessageItem.{MessageItem}
+use Rattle.dns_message.specs.declared.parser.MessageParser.{MessageParser}
+use Rattle.dns_message.specs.declared.parser.Place.{Place}
+
+-- the octets of its message
+abbrev pub parsed_message : MessageParser → List ℕ
+parsed_message p = p.message.slice.now
+
+-- how many items it gave
+abbrev pub given_count : MessageParser → ℕ
+given_count p = p.given
+
+-- where in the contents the next item begins
+abbrev pub next_start : MessageParser → ℕ
+next_start p = p.offset
+
+-- whether it has ended
+abbrev pub has_ended : MessageParser → Bool
+has_ended p = p.ended
+
+-- the counted items that are still to come, each by its section and its index
+abbrev pub slots_ahead : MessageParser → List (ℕ × ℕ)
+slots_ahead p = if has_ended p then [] else drop (given_count p) (counted_slots (parsed_message p))
+
+-- what is still read: the items to come, from where the next one begins
+abbrev pub ahead : MessageParser → Reading
+ahead p = reading_from (drop 12 (parsed_message p)) (slots_ahead p) (next_start p)
+
+-- an item with names of its own
+abbrev pub Parsed : Type 0
+Parsed = MessageItem (List (List ℕ)) (RecordData (List (List ℕ))) Opt
+
+-- What a call gives, and what it leaves. An item is that which is read at the next place; then one more was given, and the
+-- next begins where it ends. An item that is not read is refused once, by its place, and then the parser has ended for good. It
+-- gives none where none is to come.
+abbrev pub GivesNext : {E : Type 0} → MessageParser → Option (Place × Result Parsed E) → MessageParser → Type 0
+GivesNext old None new = (slots_ahead old ≡ []) × (slots_ahead new ≡ []) × (next_start new ≡ next_start old) × (given_count new ≡ given_count old)
+GivesNext old (Some (place, Ok item)) new =
+    (slots_ahead old ≡ (place.section, place.index) ∷ slots_ahead new)
+    × (item_at place.section (drop 12 (parsed_message old)) (next_start old) ≡ Some (item_seen item, next_start new))
+    × (given_count new ≡ suc (given_count old))
+GivesNext old (Some (place, Err error)) new =
+    (later : List (ℕ × ℕ)) × (slots_ahead old ≡ (place.section, place.index) ∷ later)
+    × (item_at place.section (drop 12 (parsed_message old)) (next_start old) ≡ None)
+    × (slots_ahead new ≡ []) × (has_ended new ≡ true) × (next_start new ≡ next_start old) × (given_count new ≡ given_count old)
+
+-- the same without the place
+abbrev pub GivesItem : {E : Type 0} → MessageParser → Option (Result Parsed E) → MessageParser → Type 0
+GivesItem {E = E} old None new = GivesNext {E = E} old None new
+GivesItem old (Some item) new = (place : Place) × GivesNext old (Some (place, item)) new

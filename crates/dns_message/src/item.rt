@@ -1,0 +1,91 @@
+//! Items of messages.
+
+ghost use Rattle.std.specs.Prelude.{◌≡◌, ◌↔◌, ◌≤◌, length, drop, IfOk, IsTrue};
+ghost use Rattle.dns_wire.specs.Reading.{Gives};
+ghost use Rattle.dns_message.specs.Messages.{item_at};
+ghost use Rattle.dns_message.specs.Seen.{BeginsEdns, item_seen, HasSoundData, IsOfSection};
+
+use dns_edns::Opt;
+use dns_name::NameBuf;
+use dns_rdata::{EdnsRecord, RecordData};
+use dns_record::{Question, Record};
+use dns_wire::{ParseError, SplitMessageBytes};
+
+/// A counted item of a message, by its section (RFC 1035 section 4.1). `N` is the type of names, `D` that of record data, and
+/// `E` that of the data of EDNS records.
+#[derive(Debug, Drop)]
+pub enum MessageItem<N, D, E> {
+    /// What is asked.
+    Question(Question<N>),
+    /// A record that answers.
+    Answer(Record<N, D>),
+    /// A record on who has authority.
+    Authority(Record<N, D>),
+    /// A record that may help.
+    Additional(Record<N, D>),
+    /// An additional OPT record, whose owner is written as the root (RFC 6891 section 6.1.1).
+    Edns(EdnsRecord<E>),
+}
+
+/// An item that was read, with names of its own: its data are lent by the message.
+pub type ParsedMessageItem<'a> = MessageItem<NameBuf, RecordData<'a, NameBuf>, Opt<'a>>;
+
+/// Whether the octets begin as an EDNS record does: with the root, and the number of OPT.
+fn begins_edns(octets: &[u8]) -> bool
+    ensures { IsTrue result ↔ BeginsEdns octets.now }
+{
+    octets.starts_with(&[0, 0, 41])
+}
+
+/// Reads the additional item at a place, and gives the place where it ends.
+#[tactic(auto, using(crate::proofs::Sound::short_data), unfolding(crate::specs::Messages::item_at))]
+fn read_additional(
+    contents: &[u8],
+    start: usize,
+) -> Result<(ParsedMessageItem<'_>, usize), ParseError>
+    ensures exact { Gives (λ x. (item_seen x.0, x.1)) result (item_at 3 contents.now start) }
+    ensures within { IfOk result (λ x. (start ≤ x.1) × (x.1 ≤ length contents.now)) }
+    ensures sound { IfOk result (λ x. HasSoundData x.0) }
+    ensures kind { IfOk result (λ x. IsOfSection 3 (drop start contents.now) x.0) }
+{
+    let (form, end) = Record::<NameBuf, RecordData<'_, NameBuf>>::split_message_bytes(
+        contents, start,
+    )?;
+    if begins_edns(&contents[start..]) {
+        let edns = EdnsRecord::try_from(form)?;
+        Ok((MessageItem::Edns(edns), end))
+    } else {
+        Ok((MessageItem::Additional(form), end))
+    }
+}
+
+/// Reads the item of a section at a place, and gives the place where it ends. Section 0 has the questions, and the later ones
+/// have records. `ParseError` comes exactly where no such item stands there.
+#[tactic(auto, using(crate::proofs::Sound::short_data), unfolding(crate::specs::Messages::item_at))]
+pub(crate) fn read_item(
+    contents: &[u8],
+    section: usize,
+    start: usize,
+) -> Result<(ParsedMessageItem<'_>, usize), ParseError>
+    requires { section ≤ 3 }
+    ensures exact { Gives (λ x. (item_seen x.0, x.1)) result (item_at section contents.now start) }
+    ensures within { IfOk result (λ x. (start ≤ x.1) × (x.1 ≤ length contents.now)) }
+    ensures sound { IfOk result (λ x. HasSoundData x.0) }
+    ensures kind { IfOk result (λ x. IsOfSection section (drop start contents.now) x.0) }
+{
+    match section {
+        0 => {
+            let (question, end) = Question::split_message_bytes(contents, start)?;
+            Ok((MessageItem::Question(question), end))
+        }
+        1 => {
+            let (answer, end) = Record::split_message_bytes(contents, start)?;
+            Ok((MessageItem::Answer(answer), end))
+        }
+        2 => {
+            let (authority, end) = Record::split_message_bytes(contents, start)?;
+            Ok((MessageItem::Authority(authority), end))
+        }
+        _ => read_additional(contents, start),
+    }
+}
