@@ -24,6 +24,11 @@ ghost use Rattle.dns_message.specs.Sorted.{Ascends};
 ghost use Rattle.dns_message.specs.WellFormed.{WellFormed};
 ghost use Rattle.dns_message.specs.Worded.{ItemAt, FailsAt, ReadsWhole};
 
+use dns_name::Name;
+use dns_rdata::RecordData;
+use dns_record::Record;
+use dns_wire::ParseBytes;
+
 /// Each message is one of three things: shorter than its header; valid, with one list of records; or bad at
 /// one item, the first that is not read.
 pub fn three_kinds_of_messages()
@@ -91,6 +96,13 @@ pub fn canonical_octets_are_read_back()
     ensures octets { (r : Rec) → WellFormed r → AreOctets (canon r) }
     ensures again { (r : Rec) → canon (fold r) ≡ canon r }
     ensures twice { (r : Rec) → fold (fold r) ≡ fold r }
+{}
+
+/// So `Record::split_bytes`, for names and data without pointers, gives the folded record of the canonical octets of a well formed
+/// one, and nothing is left over.
+pub fn canonical_records_are_split_back()
+    ensures { (r : Rec) → WellFormed r →
+        ⟦<Record<Name<'static>, RecordData<'static, Name<'static>>> as ParseBytes<'static>>⟧.reads (canon r) ≡ Some (fold r, []) }
 {}
 
 /// The order of records is total, and neither of two well formed records is before the other exactly where

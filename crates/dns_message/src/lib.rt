@@ -10,10 +10,10 @@ mod parser;
 pub use header::{Header, HeaderFlags, SectionCounts};
 pub use item::{MessageItem, ParsedMessageItem};
 pub use laws::{
-    canonical_lists, canonical_octets_are_read_back, canonical_texts, counted_items,
-    equal_canonical_octets, equal_outputs, items_in_words, order_of_records, parsers_read_messages,
-    readings_in_words, records_that_are_read_are_well_formed, same_records,
-    three_kinds_of_messages,
+    canonical_lists, canonical_octets_are_read_back, canonical_records_are_split_back,
+    canonical_texts, counted_items, equal_canonical_octets, equal_outputs, items_in_words,
+    order_of_records, parsers_read_messages, readings_in_words,
+    records_that_are_read_are_well_formed, same_records, three_kinds_of_messages,
 };
 pub use message::Message;
 pub use parser::{MessageParser, Place};

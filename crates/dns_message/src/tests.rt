@@ -1,10 +1,18 @@
 //! Each law is called once.
 
+mod parser;
+
 use crate::{
-    canonical_lists, canonical_octets_are_read_back, canonical_texts, counted_items,
-    equal_canonical_octets, equal_outputs, items_in_words, order_of_records, readings_in_words,
+    canonical_lists, canonical_octets_are_read_back, canonical_records_are_split_back,
+    canonical_texts, counted_items, equal_canonical_octets, equal_outputs, items_in_words,
+    order_of_records, parsers_read_messages, readings_in_words,
     records_that_are_read_are_well_formed, same_records, three_kinds_of_messages,
 };
+use dns_basic::CName;
+use dns_name::Name;
+use dns_rdata::RecordData;
+use dns_record::{RType, Record, TTL};
+use dns_wire::{ParseBytes, SplitBytes};
 use std::test::Fail;
 
 #[test]
@@ -16,10 +24,26 @@ fn laws_are_called(_rt: HostRuntime) -> Result<(), Fail> {
     records_that_are_read_are_well_formed();
     equal_canonical_octets();
     canonical_octets_are_read_back();
+    canonical_records_are_split_back();
     order_of_records();
     canonical_lists();
     same_records();
     equal_outputs();
     canonical_texts();
+    parsers_read_messages();
+    Ok(())
+}
+
+/// The canonical octets of an alias, as dnspython 2.3.0 writes them, behind them an octet.
+#[test]
+fn canonical_octets_are_a_record(rt: HostRuntime) -> Result<(), Fail> {
+    let octets =
+        b"\x05alias\x07example\x03org\0\0\x05\0\x01\0\0\x01\x2c\0\x14\x06single\x07example\x03org\0.";
+    let (found, rest) = Record::<Name<'_>, RecordData<'_, Name<'_>>>::split_bytes(octets)?;
+    assert_eq!(rt; (found.rtype, found.ttl), (RType::CNAME, TTL::from(300)));
+    assert_eq!(rt; found.rname.as_bytes(), &octets[..19]);
+    let target = Name::parse_bytes(b"\x06single\x07example\x03org\0")?;
+    assert_eq!(rt; found.rdata, RecordData::CName(CName { name: target }));
+    assert_eq!(rt; rest, b".".as_slice());
     Ok(())
 }
