@@ -3,6 +3,9 @@ pub mod Chained
 pub mod Decoding
 pub mod Exclusive
 pub mod Kept
+pub mod Pairs
+pub mod Parting
+pub mod Sameness
 pub mod Sorting
 pub mod Transfers
 pub mod Trimming

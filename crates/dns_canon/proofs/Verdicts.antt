@@ -11,6 +11,7 @@ use Rattle.dns_canon.specs.declared.error.CanonError.{CanonError}
 use Rattle.dns_canon.specs.declared.error.CanonError.TheVariants as canon
 use Rattle.dns_canon.specs.declared.status.Status.{Status}
 use Rattle.dns_canon.specs.declared.status.Status.TheVariants.{Done, Short, Item, BadHex, TooLong, Usage, ReadFault, WriteFault, Memory}
+use Rattle.dns_canon.specs.declared.words.Command.{Command}
 use Rattle.dns_canon.specs.declared.words.Command.TheVariants.{Canon}
 use Rattle.dns_message.proofs.OneReading.{three_kinds}
 use Rattle.dns_message.proofs.Phrased.{short_reading}
@@ -115,14 +116,14 @@ long_words t = (λ e. from (called t) e, too_long t) where
 -- ---- a refused message
 
 -- what a command answers to a text that it does not print for
-abbrev pub Refuses : List ℕ → Status → Type 0
-Refuses t status = ((status ≡ verdict (Some Canon) t) ⊎ (status ≡ Memory)) × ((status ≢ Done) × ((status ≢ ReadFault) × ((status ≢ WriteFault) × (status ≢ Usage))))
+abbrev pub Refuses : Command → List ℕ → Status → Type 0
+Refuses command t status = ((status ≡ verdict (Some command) t) ⊎ (status ≡ Memory)) × ((status ≢ Done) × ((status ≢ ReadFault) × ((status ≢ WriteFault) × (status ≢ Usage))))
 
-refuses : (t m : List ℕ) (error : CanonError) → length t ≤ 131072 → Spells t m → RefusedOrMemory m error → Refuses t (canon_status 0 error)
+refuses : (t m : List ℕ) (error : CanonError) → length t ≤ 131072 → Spells t m → RefusedOrMemory m error → Refuses Canon t (canon_status 0 error)
 refuses t m canon.Short within spells refused = (inl (sym (short t m within spells refused)), (λ e. cc, (λ e. cc, (λ e. cc, λ e. cc))))
 refuses t m (canon.Item s i) within spells refused = (inl (sym (bad_item t m s i within spells refused)), (λ e. cc, (λ e. cc, (λ e. cc, λ e. cc))))
 refuses t m canon.Memory within spells refused = (inr refl, (λ e. cc, (λ e. cc, (λ e. cc, λ e. cc))))
 
 -- a refusal of the message that the text spells is the verdict, or memory ran out
-pub message_refused : (t m : List ℕ) (error : CanonError) (status : Status) → length t ≤ 131072 → Spells t m → RefusedOrMemory m error → status ≡ canon_status 0 error → Refuses t status
-message_refused t m error status within spells refused is = subst (Refuses t) (sym is) (refuses t m error within spells refused)
+pub message_refused : (t m : List ℕ) (error : CanonError) (status : Status) → length t ≤ 131072 → Spells t m → RefusedOrMemory m error → status ≡ canon_status 0 error → Refuses Canon t status
+message_refused t m error status within spells refused is = subst (Refuses Canon t) (sym is) (refuses t m error within spells refused)

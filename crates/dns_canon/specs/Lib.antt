@@ -1,5 +1,6 @@
 -- What the contracts of the canonical list and of the top call cite.
 pub mod Errors
+pub mod Parts
 pub mod Refusals
 pub mod Run
 pub mod Seen

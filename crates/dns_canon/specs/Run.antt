@@ -1,14 +1,16 @@
 -- What a run answers, writes and leaves.
-use Rattle.std.specs.Prelude.{◌≡◌, ◌≢◌, ℕ, ◌≤◌, List, [], length, Option, Some, IfSome}
+use Rattle.std.specs.Prelude.{◌≡◌, ◌≢◌, ◌⊎◌, ℕ, ◌≤◌, List, [], ◌∷◌, ◌++◌, codes, length, Option, Some, IfSome}
 use Rattle.std.specs.Io.KnownBytes.{Appends, Consumes}
 use Rattle.dns_wire.specs.Hexadecimal.{Spells, lines}
 use Rattle.dns_wire.specs.Outside.{WritesFront}
 use Rattle.dns_message.specs.Messages.{Rec, Valid}
 use Rattle.dns_message.specs.Order.{output}
+use Rattle.dns_message.specs.Same.{Same as AreSame}
+use Rattle.dns_canon.specs.Parts.{first_text, second_text}
 use Rattle.dns_canon.specs.declared.status.Status.{Status}
 use Rattle.dns_canon.specs.declared.status.Status.TheVariants.{Done, Short, Item, BadHex, Usage, ReadFault, WriteFault, Memory}
 use Rattle.dns_canon.specs.declared.words.Command.{Command}
-use Rattle.dns_canon.specs.declared.words.Command.TheVariants.{Canon}
+use Rattle.dns_canon.specs.declared.words.Command.TheVariants.{Canon, Same}
 
 -- ---- the answer
 
@@ -22,9 +24,15 @@ Answers verdict answer = answer ≡ verdict
 
 -- ---- what is written
 
+-- the line on the records of two messages: `same` where they are the same, and else `different`
+abbrev pub TellsSameness : List Rec → List Rec → List ℕ → Type 0
+TellsSameness rs ss printed = (AreSame rs ss × (printed ≡ codes "same" ++ 10 ∷ [])) ⊎ (¬ AreSame rs ss × (printed ≡ codes "different" ++ 10 ∷ []))
+
 -- the text that a command prints for the text that it reads
 abbrev pub Prints : Command → List ℕ → List ℕ → Type 0
 Prints Canon text printed = (m : List ℕ) × (rs : List Rec) × Spells text m × Valid m rs × (printed ≡ lines (output rs))
+Prints Same text printed =
+    (m n : List ℕ) × (rs ss : List Rec) × Spells (first_text text) m × Spells (second_text text) n × Valid m rs × Valid n ss × TellsSameness rs ss printed
 
 -- all of it is written at `Done`, and some front of it at `WriteFault`
 abbrev pub WritesText : Command → List ℕ → Option (List ℕ) → Option (List ℕ) → Status → Type 0

@@ -1,20 +1,21 @@
 -- What a command calls for, by the text that it reads.
-use Rattle.std.specs.Prelude.{ℕ, ◌+◌, List, [], ◌∷◌, length, map, Option, Some, None, Bool, true, false, nat_lt, if◌then◌else◌}
-use Rattle.dns_wire.specs.Hexadecimal.{spelled, trim}
+use Rattle.std.specs.Prelude.{ℕ, ◌+◌, ◌≤◌, List, [], ◌∷◌, length, map, Option, Some, None, Bool, true, false, nat_lt, if◌then◌else◌}
+use Rattle.dns_wire.specs.Hexadecimal.{Spells, spelled, trim}
 use Rattle.dns_wire.specs.Steps.{◌>>=◌}
 use Rattle.dns_message.specs.Messages.{Reading, message_reading}
 use Rattle.dns_message.specs.Messages.Reading.{Short as TooShort, Stopped, Whole}
+use Rattle.dns_canon.specs.Parts.{first_text, second_text}
 use Rattle.dns_canon.specs.declared.status.Status.{Status}
 use Rattle.dns_canon.specs.declared.status.Status.TheVariants.{Done, Short, Item, BadHex, TooLong, Usage}
 use Rattle.dns_canon.specs.declared.words.Command.{Command}
-use Rattle.dns_canon.specs.declared.words.Command.TheVariants.{Canon}
+use Rattle.dns_canon.specs.declared.words.Command.TheVariants.{Canon, Same}
 
 -- ---- what a command reads
 
 -- whether a command reads a text; words that are no command read nothing
 abbrev pub reads : Option Command → Bool
 reads None = false
-reads (Some Canon) = true
+reads (Some command) = true
 
 -- the text that is read, as far as the source tells what it has left
 abbrev pub text_read : Option Command → Option (List ℕ) → Option (List ℕ)
@@ -23,10 +24,12 @@ text_read command left = if reads command then left else Some []
 -- the most octets of the text
 abbrev pub limit_of : Command → ℕ
 limit_of Canon = 131072
+limit_of Same = 262144
 
 -- the texts of the messages in it
 abbrev pub texts_in : Command → List ℕ → List (List ℕ)
 texts_in Canon text = text ∷ []
+texts_in Same text = first_text text ∷ second_text text ∷ []
 
 -- ---- the verdict
 
@@ -54,3 +57,9 @@ on_messages (Some messages) = first_refusal 0 (map message_reading messages)
 abbrev pub verdict : Option Command → List ℕ → Status
 verdict None text = Usage
 verdict (Some command) text = if nat_lt (limit_of command) (length text) then TooLong else on_messages (all_spelled (texts_in command text))
+
+-- ---- two messages
+
+-- the text has at most 262,144 octets, and its parts spell these messages
+abbrev pub SpellsBoth : List ℕ → List ℕ → List ℕ → Type 0
+SpellsBoth text m n = (length text ≤ 262144) × Spells (first_text text) m × Spells (second_text text) n

@@ -1,6 +1,6 @@
 //! From words and a text to an answer.
 
-ghost use Rattle.std.specs.Prelude.{◌↔◌, true, false, ◌≡◌, ◌≢◌, ◌⊎◌, ◌+◌, ◌≤◌, List, ℕ, length, Some, None, IfOk, IfErr, IfSome, OnOk};
+ghost use Rattle.std.specs.Prelude.{◌↔◌, true, false, ◌≡◌, ◌≢◌, ◌⊎◌, ◌+◌, ◌≤◌, List, [], ◌∷◌, ◌++◌, ℕ, codes, length, Some, None, IfOk, IfErr, IfSome, OnOk};
 ghost use Rattle.dns_wire.specs.Outside.{Rose, HasCause, BecomesFlag, WritesFront, Puts};
 ghost use Rattle.std.specs.Io.KnownBytes.{Appends};
 ghost use Rattle.dns_message.specs.Messages.{Rec, Valid};
@@ -13,10 +13,10 @@ ghost use Rattle.dns_canon.specs.Words.{command_of};
 ghost use Rattle.dns_canon.specs.declared.error.CanonError.{CanonError};
 
 use crate::canonical::{CanonList, canonicalise};
-use crate::spelling::{octets_of, text_of};
+use crate::spelling::{octets_of, parted, text_of};
 use crate::status::Status;
 use crate::transfer::{PIECE, put_line, put_text, read_text};
-use crate::words::{Command, LIMIT, Words};
+use crate::words::{Command, LIMIT, LIMIT_OF_TWO, Words};
 use dns_wire::{Failed, Sink, Source};
 use std::alloc::Global;
 
@@ -28,6 +28,18 @@ fn list_of(alloc: Global, octets: &[u8], message: u8) -> Result<CanonList, Statu
     match canonicalise(alloc, octets) {
         Ok(list) => Ok(list),
         Err(error) => Err(Status::of_message(message, error)),
+    }
+}
+
+/// The word for two canonical lists, and LF.
+fn sameness(list: &CanonList, others: &CanonList) -> &'static [u8]
+    ensures same { (list.now ≡ others.now) → result.now ≡ codes "same" ++ 10 ∷ [] }
+    ensures different { ¬ (list.now ≡ others.now) → result.now ≡ codes "different" ++ 10 ∷ [] }
+{
+    if list == others {
+        b"same\n"
+    } else {
+        b"different\n"
     }
 }
 
@@ -43,6 +55,21 @@ fn canon_text(alloc: Global, text: &[u8]) -> Result<Vec<u8>, Status>
     Ok(text_of(alloc, &list)?)
 }
 
+/// The line for the text of two messages: `same` where they carry the same records, and else `different`.
+fn same_text(alloc: Global, text: &[u8]) -> Result<Vec<u8>, Status>
+    requires within { length text.now ≤ LIMIT_OF_TWO }
+    ensures ok { IfOk result (λ printed. (verdict (Some Command.Same) text.now ≡ Status.Done) × Prints Command.Same text.now printed.items) }
+    ensures err { IfErr result (λ status. ((status ≡ verdict (Some Command.Same) text.now) ⊎ (status ≡ Status.Memory))
+        × ((status ≢ Status.Done) × ((status ≢ Status.ReadFault) × ((status ≢ Status.WriteFault) × (status ≢ Status.Usage))))) }
+{
+    let (first, second) = parted(text);
+    let message = octets_of(alloc, first)?;
+    let other = octets_of(alloc, second)?;
+    let list = list_of(alloc, &message, 0)?;
+    let others = list_of(alloc, &other, 1)?;
+    Ok(Vec::from_slice(alloc, sameness(&list, &others))?)
+}
+
 /// The text that a command prints.
 fn printed<S: Source>(alloc: Global, command: Command, source: &mut S) -> Result<Vec<u8>, Status>
     ensures ok { IfOk result (λ printed. IfSome (text_read (Some command) (S.left source.old)) (λ t.
@@ -56,11 +83,10 @@ fn printed<S: Source>(alloc: Global, command: Command, source: &mut S) -> Result
     ensures emptied_err { reads (Some command) ≡ true → IfErr result (λ status. Empties status (S.left source.old) (S.left source.new)) }
     ensures taken { TakesAtMost (S.left source.old) (S.left source.new) (limit_of command + PIECE) }
 {
+    let text = read_text(alloc, source, command.limit())?;
     match command {
-        Command::Canon => {
-            let text = read_text(alloc, source, command.limit())?;
-            canon_text(alloc, &text)
-        }
+        Command::Canon => canon_text(alloc, &text),
+        Command::Same => same_text(alloc, &text),
     }
 }
 

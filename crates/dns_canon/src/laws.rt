@@ -1,9 +1,10 @@
 //! What follows from the definitions.
 
-ghost use Rattle.std.specs.Prelude.{◌≡◌, ◌≤◌, ◌<◌, ◌↔◌, ℕ, List, [], ◌∷◌, Some, None, codes, length};
+ghost use Rattle.std.specs.Prelude.{◌≡◌, ◌≤◌, ◌<◌, ◌⊎◌, ◌↔◌, ℕ, List, [], ◌∷◌, Some, None, codes, length};
 ghost use Rattle.dns_wire.specs.Hexadecimal.{Spells, SpellsNothing};
 ghost use Rattle.dns_message.specs.Messages.{Rec, Valid, BadAt};
-ghost use Rattle.dns_canon.specs.Verdict.{verdict};
+ghost use Rattle.dns_canon.specs.Parts.{before_lf, behind_lf, first_text, second_text, HasParts};
+ghost use Rattle.dns_canon.specs.Verdict.{verdict, SpellsBoth};
 ghost use Rattle.dns_canon.specs.Words.{command_of};
 
 use crate::status::Status;
@@ -11,10 +12,17 @@ use crate::words::Command;
 
 /// The words of a command are these and no others.
 pub fn words_of_commands()
-    ensures { (words : List (List ℕ)) → (command_of words ≡ Some Command.Canon) ↔ (words ≡ codes "canon" ∷ []) }
+    ensures canon { (words : List (List ℕ)) → (command_of words ≡ Some Command.Canon) ↔ (words ≡ codes "canon" ∷ []) }
+    ensures same { (words : List (List ℕ)) → (command_of words ≡ Some Command.Same) ↔ (words ≡ codes "same" ∷ []) }
 {}
 
-/// The verdict on a text in words, for each status that one calls for.
+/// A text is parted at its first LF; where there is none, the first part is the text, and the second is empty.
+pub fn parted_texts()
+    ensures { (text first second : List ℕ) → HasParts text first second ↔ ((before_lf text ≡ first) × (behind_lf text ≡ second)) }
+{}
+
+/// The verdict on a text in words, for each status that one calls for: first on the text of one message, and then on that of
+/// two. A refusal of the second comes only where the first is valid.
 pub fn verdicts_in_words()
     ensures done { (t : List ℕ) → (verdict (Some Command.Canon) t ≡ Status.Done)
         ↔ ((length t ≤ 131072) × (m : List ℕ) × (rs : List Rec) × Spells t m × Valid m rs) }
@@ -24,5 +32,16 @@ pub fn verdicts_in_words()
         ↔ ((message ≡ 0) × (length t ≤ 131072) × (m : List ℕ) × Spells t m × BadAt m section index) }
     ensures bad_hex { (t : List ℕ) → (verdict (Some Command.Canon) t ≡ Status.BadHex) ↔ ((length t ≤ 131072) × SpellsNothing t) }
     ensures too_long { (t : List ℕ) → (verdict (Some Command.Canon) t ≡ Status.TooLong) ↔ (131072 < length t) }
+    ensures same_done { (t : List ℕ) → (verdict (Some Command.Same) t ≡ Status.Done)
+        ↔ ((m n : List ℕ) × (rs ss : List Rec) × SpellsBoth t m n × Valid m rs × Valid n ss) }
+    ensures same_short { (t : List ℕ) (message : ℕ) → (verdict (Some Command.Same) t ≡ Status.Short message)
+        ↔ ((m n : List ℕ) × SpellsBoth t m n
+        × (((message ≡ 0) × (length m < 12)) ⊎ ((message ≡ 1) × (rs : List Rec) × Valid m rs × (length n < 12)))) }
+    ensures same_item { (t : List ℕ) (message section index : ℕ) → (verdict (Some Command.Same) t ≡ Status.Item message section index)
+        ↔ ((m n : List ℕ) × SpellsBoth t m n
+        × (((message ≡ 0) × BadAt m section index) ⊎ ((message ≡ 1) × (rs : List Rec) × Valid m rs × BadAt n section index))) }
+    ensures same_bad_hex { (t : List ℕ) → (verdict (Some Command.Same) t ≡ Status.BadHex)
+        ↔ ((length t ≤ 262144) × (SpellsNothing (first_text t) ⊎ SpellsNothing (second_text t))) }
+    ensures same_too_long { (t : List ℕ) → (verdict (Some Command.Same) t ≡ Status.TooLong) ↔ (262144 < length t) }
     ensures usage { (t : List ℕ) → verdict None t ≡ Status.Usage }
 {}

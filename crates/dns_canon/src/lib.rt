@@ -16,10 +16,10 @@ mod words;
 pub use canonical::{CanonList, canonicalise};
 pub use command::run;
 pub use error::CanonError;
-pub use laws::{verdicts_in_words, words_of_commands};
+pub use laws::{parted_texts, verdicts_in_words, words_of_commands};
 pub use status::Status;
 pub use transfer::PIECE;
-pub use words::{Command, LIMIT, Words};
+pub use words::{Command, LIMIT, LIMIT_OF_TWO, Words};
 
 #[cfg(test)]
 mod tests;

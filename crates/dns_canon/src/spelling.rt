@@ -2,6 +2,7 @@
 
 ghost use Rattle.std.specs.Prelude.{◌≡◌, IfOk, IsErrOf, map};
 ghost use Rattle.dns_wire.specs.Hexadecimal.{Spells, SpellsNothing, trim, is_blank, lines};
+ghost use Rattle.dns_canon.specs.Parts.{first_text, second_text};
 
 use crate::canonical::CanonList;
 use crate::error::SpellingError;
@@ -23,6 +24,24 @@ fn trimmed(text: &[u8]) -> &[u8]
         end -= 1;
     }
     &text[..end]
+}
+
+/// The texts of two messages in a text, which stand before and behind its first LF; blanks at its end do
+/// not count. Where there is no LF, the second is empty.
+pub(crate) fn parted(text: &[u8]) -> (&[u8], &[u8])
+    ensures first { result.0.now ≡ first_text text.now }
+    ensures second { result.1.now ≡ second_text text.now }
+{
+    let solid = trimmed(text);
+    let mut end = 0;
+    while end < solid.len() && solid[end] != b'\n' {
+        end += 1;
+    }
+    if end < solid.len() {
+        (&solid[..end], &solid[end + 1..])
+    } else {
+        (solid, &[])
+    }
 }
 
 /// The octets that the text spells, blanks at its end aside.
