@@ -1,5 +1,5 @@
 -- What equal canonical lists tell of two messages.
-use Rattle.std.proofs.Common.{◌≡◌, ℕ, ◌+◌, ◌*◌, ◌-◌, ◌<◌, ◌≤◌, ◌&&◌, inl, inr, Bool, true, false, cond, List, [], ◌∷◌, ◌++◌, Option, Some, None, codes, refl, sym, ap, ◌∙◌, subst, arith}
+use Rattle.std.proofs.Common.{◌≡◌, ℕ, ◌+◌, ◌*◌, ◌-◌, ◌<◌, ◌≤◌, ◌&&◌, ◌⊎◌, inl, inr, Bool, true, false, cond, List, [], ◌∷◌, ◌++◌, Option, Some, None, codes, refl, sym, ap, ◌∙◌, subst, arith}
 use Rattle.std.specs.Prelude.{◌↔◌, nat_le, nat_eq}
 use Rattle.std.specs.Cmp.Lexicographic.{pointwise, pointwise_decides, bytes_decides}
 use Rattle.std.proofs.lemmas.Bool.Decides.{nat_tests}
@@ -10,7 +10,10 @@ use Rattle.dns_message.specs.Order.{output}
 use Rattle.dns_message.specs.Same.{Same}
 use Rattle.dns_message.proofs.Octets.{no_octets, one_more}
 use Rattle.dns_message.proofs.Sameness.{message_outputs}
-use Rattle.dns_canon.specs.Run.{TellsSameness}
+use Rattle.dns_message.proofs.OneReading.{valid_one}
+use Rattle.dns_canon.specs.Parts.{first_text, second_text}
+use Rattle.dns_canon.specs.Run.{Prints, TellsSameness}
+use Rattle.dns_canon.specs.declared.words.Command.TheVariants as command
 
 -- ---- what is spelled is octets
 
@@ -51,3 +54,40 @@ told t u m n rs ss printed first second valid also same different = by (pointwis
       by false e are =
           let other : ¬ (output rs ≡ output ss) = λ equal. (let yes = (pointwise_decides bytes_decides (output rs) (output ss)).1 equal in let clash : false ≡ true = sym e ∙ yes in absurd cc) in
           inr (λ s. other (are.1 s), different other)
+
+-- ---- in words
+
+-- what is printed is the line on the records of the messages that the parts spell
+tells : (t m n : List ℕ) (rs ss : List Rec) (printed : List ℕ) → Spells (first_text t) m → Spells (second_text t) n → Valid m rs → Valid n ss → Prints command.Same t printed
+    → TellsSameness rs ss printed
+tells t m n rs ss printed first second valid also (m', n', rs', ss', first', second', valid', also', line) =
+    let m-is : m' ≡ m = let e = sym first' ∙ first in cc in
+    let n-is : n' ≡ n = let e = sym second' ∙ second in cc in
+    let rs-is : rs' ≡ rs = valid_one m rs' rs (subst (λ (l : List ℕ). Valid l rs') m-is valid') valid in
+    let ss-is : ss' ≡ ss = valid_one n ss' ss (subst (λ (l : List ℕ). Valid l ss') n-is also') also in
+    subst (λ (l : List Rec). TellsSameness l ss printed) rs-is (subst (λ (l : List Rec). TellsSameness rs' l printed) ss-is line)
+
+pub prints_same : (t m n : List ℕ) (rs ss : List Rec) → Spells (first_text t) m → Spells (second_text t) n → Valid m rs → Valid n ss → Prints command.Same t (codes "same" ++ 10 ∷ []) ↔ Same rs ss
+prints_same t m n rs ss first second valid also = (
+  λ prints. from (tells t m n rs ss (codes "same" ++ 10 ∷ []) first second valid also prints),
+  λ same. (m, n, rs, ss, first, second, valid, also, inl (same, refl)),
+) where
+  from : TellsSameness rs ss (codes "same" ++ 10 ∷ []) → Same rs ss
+  from (inl (same, e)) = same
+  from (inr (other, e)) = absurd cc
+
+pub prints_different : (t m n : List ℕ) (rs ss : List Rec) → Spells (first_text t) m → Spells (second_text t) n → Valid m rs → Valid n ss
+    → Prints command.Same t (codes "different" ++ 10 ∷ []) ↔ (¬ Same rs ss)
+prints_different t m n rs ss first second valid also = (
+  λ prints. from (tells t m n rs ss (codes "different" ++ 10 ∷ []) first second valid also prints),
+  λ other. (m, n, rs, ss, first, second, valid, also, inr (other, refl)),
+) where
+  from : TellsSameness rs ss (codes "different" ++ 10 ∷ []) → ¬ Same rs ss
+  from (inl (same, e)) = absurd cc
+  from (inr (other, e)) = other
+
+pub prints_a_word : (t printed : List ℕ) → Prints command.Same t printed → (printed ≡ codes "same" ++ 10 ∷ []) ⊎ (printed ≡ codes "different" ++ 10 ∷ [])
+prints_a_word t printed (m, n, rs, ss, first, second, valid, also, line) = from line where
+  from : TellsSameness rs ss printed → (printed ≡ codes "same" ++ 10 ∷ []) ⊎ (printed ≡ codes "different" ++ 10 ∷ [])
+  from (inl (same, e)) = inl e
+  from (inr (other, e)) = inr e

@@ -1,8 +1,10 @@
 //! What follows from the definitions.
 
-ghost use Rattle.std.specs.Prelude.{◌≡◌, ◌≤◌, ◌<◌, ◌⊎◌, ◌↔◌, ℕ, List, [], ◌∷◌, Some, None, codes, length};
+ghost use Rattle.std.specs.Prelude.{◌≡◌, ◌≤◌, ◌<◌, ◌⊎◌, ◌↔◌, ℕ, List, [], ◌∷◌, ◌++◌, Some, None, codes, length};
 ghost use Rattle.dns_wire.specs.Hexadecimal.{Spells, SpellsNothing};
 ghost use Rattle.dns_message.specs.Messages.{Rec, Valid, BadAt};
+ghost use Rattle.dns_message.specs.Same.{Same};
+ghost use Rattle.dns_canon.specs.Run.{Prints};
 ghost use Rattle.dns_canon.specs.Parts.{before_lf, behind_lf, first_text, second_text, HasParts};
 ghost use Rattle.dns_canon.specs.Verdict.{verdict, SpellsBoth};
 ghost use Rattle.dns_canon.specs.Words.{command_of};
@@ -14,6 +16,17 @@ use crate::words::Command;
 pub fn words_of_commands()
     ensures canon { (words : List (List ℕ)) → (command_of words ≡ Some Command.Canon) ↔ (words ≡ codes "canon" ∷ []) }
     ensures same { (words : List (List ℕ)) → (command_of words ≡ Some Command.Same) ↔ (words ≡ codes "same" ∷ []) }
+{}
+
+/// What `same` prints for a text whose parts spell two valid messages: `same` and LF exactly where they have the same records,
+/// and else `different` and LF.
+pub fn answers_on_sameness()
+    ensures same { (t m n : List ℕ) (rs ss : List Rec) → Spells (first_text t) m → Spells (second_text t) n → Valid m rs → Valid n ss →
+        Prints Command.Same t (codes "same" ++ 10 ∷ []) ↔ Same rs ss }
+    ensures different { (t m n : List ℕ) (rs ss : List Rec) → Spells (first_text t) m → Spells (second_text t) n → Valid m rs → Valid n ss →
+        Prints Command.Same t (codes "different" ++ 10 ∷ []) ↔ (¬ Same rs ss) }
+    ensures no_others { (t printed : List ℕ) → Prints Command.Same t printed →
+        (printed ≡ codes "same" ++ 10 ∷ []) ⊎ (printed ≡ codes "different" ++ 10 ∷ []) }
 {}
 
 /// A text is parted at its first LF; where there is none, the first part is the text, and the second is empty.

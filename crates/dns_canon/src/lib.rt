@@ -16,7 +16,7 @@ mod words;
 pub use canonical::{CanonList, canonicalise};
 pub use command::run;
 pub use error::CanonError;
-pub use laws::{parted_texts, verdicts_in_words, words_of_commands};
+pub use laws::{answers_on_sameness, parted_texts, verdicts_in_words, words_of_commands};
 pub use status::Status;
 pub use transfer::PIECE;
 pub use words::{Command, LIMIT, LIMIT_OF_TWO, Words};
