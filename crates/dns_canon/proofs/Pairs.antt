@@ -125,5 +125,10 @@ second_refused t m n rs error status both valid refused is = subst (Refuses Same
   by canon.Memory none = for_memory t
 
 -- what a text spells, by other words for the text and for the octets
-pub spelled_there : (text other m octets : List ℕ) → other ≡ text → octets ≡ m → Spells other m → Spells text octets
+spelled_there : (text other m octets : List ℕ) → other ≡ text → octets ≡ m → Spells other m → Spells text octets
 spelled_there text other m octets is octets-is spells = ap spelled (ap trim (sym is)) ∙ spells ∙ ap Some (sym octets-is)
+
+pub both_spelled : (t first second m n octets others : List ℕ) → length t ≤ 262144 → first ≡ first_text t → second ≡ second_text t → m ≡ octets → n ≡ others
+    → Spells first octets → Spells second others → SpellsBoth t m n
+both_spelled t first second m n octets others within first-is second-is m-is n-is spells also =
+    (within, spelled_there (first_text t) first octets m first-is m-is spells, spelled_there (second_text t) second others n second-is n-is also)

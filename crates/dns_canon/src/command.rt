@@ -63,11 +63,11 @@ fn same_text(alloc: Global, text: &[u8]) -> Result<Vec<u8>, Status>
         × ((status ≢ Status.Done) × ((status ≢ Status.ReadFault) × ((status ≢ Status.WriteFault) × (status ≢ Status.Usage))))) }
 {
     let (first, second) = parted(text);
-    let message = octets_of(alloc, first)?;
-    let other = octets_of(alloc, second)?;
-    let list = list_of(alloc, &message, 0)?;
-    let others = list_of(alloc, &other, 1)?;
-    Ok(Vec::from_slice(alloc, sameness(&list, &others))?)
+    let first_message = octets_of(alloc, first)?;
+    let second_message = octets_of(alloc, second)?;
+    let first_list = list_of(alloc, &first_message, 0)?;
+    let second_list = list_of(alloc, &second_message, 1)?;
+    Ok(Vec::from_slice(alloc, sameness(&first_list, &second_list))?)
 }
 
 /// The text that a command prints.
