@@ -9,7 +9,7 @@ use Rattle.dns_message.proofs.OneReading.{three_kinds}
 use Rattle.dns_message.proofs.Phrased.{short_reading}
 use Rattle.dns_canon.specs.Parts.{first_text, second_text}
 use Rattle.dns_canon.specs.Refusals.{RefusedOrMemory}
-use Rattle.dns_canon.specs.Statuses.{canon_status, spelling_status}
+use Rattle.dns_canon.specs.Statuses.{canon_status}
 use Rattle.dns_canon.specs.Verdict.{verdict, first_refusal, all_spelled, on_messages, SpellsBoth}
 use Rattle.dns_canon.specs.declared.error.CanonError.{CanonError}
 use Rattle.dns_canon.specs.declared.error.CanonError.TheVariants as canon

@@ -1,4 +1,4 @@
-//! The program `dnscanon`: writes the canonical lines of the message that standard input spells.
+//! The program `dnscanon`: answers the words of the command line over the standard streams.
 #![tactic(auto)]
 
 use dns_canon::{Status, Words, run};

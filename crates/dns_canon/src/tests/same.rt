@@ -55,13 +55,12 @@ fn answers_each_pair_either_way_round(rt: HostRuntime) -> Result<(), Fail> {
     Ok(())
 }
 
-/// Two headers of zeros, and so many digits that the text has this many octets.
+/// A header of zeros, and behind CR and LF so many zeros more that the text has this many octets.
 fn zeros(alloc: Global, count: usize) -> Result<Vec<u8>, Fail> {
     let mut text = vec![in alloc; b'0'; 24]?;
     text.extend_from_slice(b"\r\n")?;
-    while text.len() < count {
-        text.push(b'0')?;
-    }
+    let others = vec![in alloc; b'0'; count.saturating_sub(26)]?;
+    text.extend_from_slice(&others)?;
     Ok(text)
 }
 

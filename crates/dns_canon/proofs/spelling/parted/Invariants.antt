@@ -1,4 +1,4 @@
-use Rattle.std.proofs.Common.{◌≡◌, ◌≤◌, ◌-◌, length}
+use Rattle.std.proofs.Common.{◌≤◌, ◌-◌, length}
 use Rattle.dns_canon.proofs.Parting.{NoneBefore}
 use Rattle.dns_canon.proofs.spelling.parted.Given as goal
 
