@@ -30,7 +30,6 @@ impl Model for CanonList {
 
 /// The same octets in the same order.
 impl PartialEq for CanonList {
-    ghost use Rattle.std.specs.Cmp.{partial_equiv_from_equiv};
     ghost use Rattle.std.specs.Cmp.Lexicographic.{pointwise};
     ghost use Rattle.std.specs.Cmp.Rules.{comparing};
     ghost use Rattle.std.specs.Prelude.{nat_eq};
