@@ -373,7 +373,9 @@ fn lists_canonical_octets(rt: HostRuntime) -> Result<(), Fail> {
     assert_eq!(rt; list.get(0), Some(octets.as_slice()));
     assert_eq!(rt; list.get(1), None);
 
-    assert!(rt; matches!(canonicalise(alloc, b""), Err(CanonError::Short)));
+    let eleven = canonicalise(alloc, &[0; 11]);
+    assert!(rt; matches!(eleven, Err(CanonError::Short)));
+    assert!(rt; canonicalise(alloc, &[0; 12])?.is_empty());
     verdicts_in_words();
     words_of_commands();
     Ok(())
