@@ -1,7 +1,7 @@
 //! Names in a message, as RFC 1035 section 4.1.4 shows them and as dnspython 2.3.0 writes them.
 
-use crate::{Name, NameBuf};
-use dns_wire::{BuildInMessage, NameCompressor, ParseBytes, SplitMessageBytes};
+use crate::{Name, NameBuf, RevNameBuf};
+use dns_wire::{BuildInMessage, NameCompressor, ParseBytes, SplitMessageBytes, TruncationError};
 use std::process::Abort;
 use std::test::Fail;
 
@@ -127,6 +127,67 @@ fn keeps_places_in_reach(rt: HostRuntime) -> Result<(), Fail> {
     let end = one.build_in_message(contents, end, &mut compressor)?;
     assert_eq!(rt; end, 16376);
     assert_eq!(rt; &contents[16371..16376], b"\x01Y\0\xff\xff".as_slice());
+    Ok(())
+}
+
+/// Names from the root on are written as those with their first label in front are.
+#[test]
+fn shares_names_from_the_root_on(rt: HostRuntime) -> Result<(), Fail> {
+    let mut contents = [0; 107];
+    let mut compressor = NameCompressor::new();
+    let mut start = 0;
+    for (octets, end) in NAMES {
+        let name = RevNameBuf::parse_bytes(octets)?;
+        start = name
+            .as_revname()
+            .build_in_message(&mut contents, start, &mut compressor)?;
+        assert_eq!(rt; start, end);
+    }
+    assert_eq!(rt; contents, CONTENTS);
+    assert_eq!(rt; compressor.places(), PLACES.as_slice());
+    Ok(())
+}
+
+#[test]
+fn one_name_twice(rt: HostRuntime) -> Result<(), Fail> {
+    let mut contents = [0; 7];
+    let mut compressor = NameCompressor::new();
+    let name = RevNameBuf::parse_bytes(b"\x01a\x01b\0")?;
+    let end = name.build_in_message(&mut contents, 0, &mut compressor)?;
+    assert_eq!(rt; end, 5);
+    assert_eq!(rt; compressor.places(), [0, 2].as_slice());
+    let refused = name.build_in_message(&mut contents[..6], end, &mut compressor);
+    assert_eq!(rt; refused, Err(TruncationError));
+    let end = name.build_in_message(&mut contents, end, &mut compressor)?;
+    assert_eq!(rt; end, 7);
+    assert_eq!(rt; contents, *b"\x01a\x01b\0\xc0\x0c");
+    assert_eq!(rt; compressor.places(), [0, 2].as_slice());
+    Ok(())
+}
+
+/// A name of 127 labels, and one of a single label: then all 128 places are taken, and a further name is
+/// written whole twice.
+#[test]
+fn keeps_128_places(rt: HostRuntime) -> Result<(), Fail> {
+    let mut octets = [0; 255];
+    for label in 0..127 {
+        octets[2 * label] = 1;
+        octets[2 * label + 1] = b'a';
+    }
+    let long = Name::parse_bytes(&octets)?;
+    let b = Name::parse_bytes(b"\x01b\0")?;
+    let c = Name::parse_bytes(b"\x01c\0")?;
+    let mut contents = [0; 266];
+    let mut compressor = NameCompressor::new();
+    let end = long.build_in_message(&mut contents, 0, &mut compressor)?;
+    let end = [b, c, c, b].build_in_message(&mut contents, end, &mut compressor)?;
+    assert_eq!(rt; end, 266);
+    assert_eq!(rt;
+        &contents[255..],
+        b"\x01b\0\x01c\0\x01c\0\xc1\x0b".as_slice()
+    );
+    assert_eq!(rt; compressor.places().len(), 128);
+    assert_eq!(rt; compressor.places()[127], 255);
     Ok(())
 }
 
