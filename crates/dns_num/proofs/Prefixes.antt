@@ -30,8 +30,11 @@ length-bytes_high_first : (k n : ℕ) → length (bytes_high_first k n) ≡ k
 length-bytes_high_first zero n = refl
 length-bytes_high_first (suc k) n = ap suc (length-bytes_high_first k n)
 
+pub number_long : (w : Width) (n : ℕ) → length (to_be_bytes w n) ≡ byte_len w
+number_long w n = length-bytes_high_first (byte_len w) n
+
 pub length-sized : (w : Width) (content : List ℕ) → length (sized w content) ≡ byte_len w + length content
-length-sized w content = omega (arith, length-append (to_be_bytes w (length content)) content, length-bytes_high_first (byte_len w) (length content))
+length-sized w content = omega (arith, length-append (to_be_bytes w (length content)) content, number_long w (length content))
 
 -- data that are refused behind the room for their number
 pub refused_inside : {E D F : Type 0} {content first third : List ℕ} {start body : ℕ} {e : E} {d : D} → (w : Width) → body ≡ start + byte_len w → Builds F content first body third (Err e) → Builds ((length content < 256 ^ byte_len w) × F) (sized w content) first start third (Err d)

@@ -2,6 +2,7 @@
 #![tactic(auto)]
 
 mod bits;
+mod in_message;
 mod laws;
 mod number16;
 mod number32;

@@ -1,5 +1,6 @@
 //! The edges of the numbers, and each public call once.
 
+mod in_message;
 mod prefixed;
 
 use crate::{U16, U32, U64, wire_numbers};
