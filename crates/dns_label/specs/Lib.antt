@@ -4,3 +4,4 @@ pub mod Labels
 pub mod Left
 pub mod Lends
 pub mod Order
+pub mod Text

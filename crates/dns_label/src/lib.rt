@@ -7,11 +7,16 @@ mod label;
 mod label_buf;
 mod laws;
 mod order;
+mod text;
+mod text_error;
+mod text_laws;
 
 pub use iter::LabelIter;
 pub use label::Label;
 pub use label_buf::{LabelBuf, label_of};
 pub use laws::{labels_fill, one_label, order_of_labels};
+pub use text_error::{LabelParseError, LabelSplitError};
+pub use text_laws::{label_texts, plain_texts_are_printed, printed_labels_are_read};
 
 #[cfg(test)]
 mod tests;

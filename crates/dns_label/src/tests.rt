@@ -1,5 +1,7 @@
 //! Each public call once, the sizes at which calls refuse, and the order of labels that RFC 4034 shows.
 
+mod text;
+
 use crate::{Label, LabelBuf, LabelIter, label_of, labels_fill, one_label, order_of_labels};
 use dns_wire::{
     AsBytes, BuildBytes, BuildInMessage, NameCompressor, ParseBytes, ParseMessageBytes, SplitBytes,

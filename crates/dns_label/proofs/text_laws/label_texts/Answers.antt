@@ -1,0 +1,11 @@
+use Rattle.dns_label.proofs.Scanned.{parsed_takes, parsed_again, split_takes, split_again}
+use Rattle.dns_label.proofs.text_laws.label_texts.Goals as goal
+
+pub returns-clause-parsed : goal.returns-clause-parsed
+returns-clause-parsed c = λ text contents. (parsed_takes text contents, λ h. parsed_again text contents h.0 h.1)
+
+pub returns-clause-split : goal.returns-clause-split
+returns-clause-split c = split_takes
+
+pub returns-clause-front : goal.returns-clause-front
+returns-clause-front c = split_again
