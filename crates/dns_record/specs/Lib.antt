@@ -4,6 +4,7 @@ pub mod CharStrHashing
 pub mod CharStrLends
 pub mod CharStrTexts
 pub mod CharStrs
+pub mod CodeTexts
 pub mod Data
 pub mod FieldOrder
 pub mod Fields

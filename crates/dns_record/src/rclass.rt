@@ -1,16 +1,18 @@
 //! Classes of records.
 
 ghost use Rattle.dns_wire.specs.Left.{number_leaves};
-ghost use Rattle.std.specs.Prelude.{◌≡◌, ℕ, [], None, ⊤, length};
+ghost use Rattle.std.specs.Prelude.{◌≡◌, ℕ, [], None, Some, ⊤, length};
 ghost use Rattle.std.specs.Int.{w16, to_be_bytes};
 ghost use Rattle.dns_wire.specs.Pieces.{whole_presses};
 ghost use Rattle.dns_wire.specs.Reading.{number};
+ghost use Rattle.dns_record.specs.CodeTexts.{class_text};
 
 use dns_num::U16;
 use dns_wire::{
     BuildBytes, BuildInMessage, NameCompressor, ParseError, ReadPlainValue, SplitBytes,
     TruncationError, build_whole,
 };
+use std::fmt;
 
 /// The class of a record: two octets on the wire (RFC 1035 section 3.2.4).
 #[derive(Clone, Copy, Debug, PartialEq, Eq, PartialOrd, Ord, Hash)]
@@ -92,5 +94,19 @@ impl BuildInMessage for RClass {
         compressor: &mut NameCompressor,
     ) -> Result<usize, TruncationError> {
         build_whole(self, contents, start, compressor)
+    }
+}
+
+impl fmt::Display for RClass {
+    ghost output = { λ v. Some (class_text v.code.value) };
+
+    /// `IN`, `CH`, or `CLASS` and the number in decimal (RFC 3597 section 5).
+    #[tactic(auto, unfolding(crate::specs::CodeTexts::class_text))]
+    fn fmt<W: fmt::Write>(&self, f: &mut fmt::Formatter<W>) -> fmt::Result {
+        match *self {
+            RClass::IN => f.write_str("IN"),
+            RClass::CH => f.write_str("CH"),
+            RClass { code } => write!(f, "CLASS{code}"),
+        }
     }
 }

@@ -1,10 +1,11 @@
 //! Types of records.
 
 ghost use Rattle.dns_wire.specs.Left.{number_leaves};
-ghost use Rattle.std.specs.Prelude.{◌≡◌, ℕ, [], None, ⊤, length};
+ghost use Rattle.std.specs.Prelude.{◌≡◌, ℕ, [], None, Some, ⊤, length};
 ghost use Rattle.std.specs.Int.{w16, to_be_bytes};
 ghost use Rattle.dns_wire.specs.Pieces.{whole_presses};
 ghost use Rattle.dns_wire.specs.Reading.{number};
+ghost use Rattle.dns_record.specs.CodeTexts.{type_text};
 ghost use Rattle.dns_record.specs.Types.{is_lowercased};
 
 use dns_num::U16;
@@ -12,6 +13,7 @@ use dns_wire::{
     BuildBytes, BuildInMessage, NameCompressor, ParseError, ReadPlainValue, SplitBytes,
     TruncationError, build_whole,
 };
+use std::fmt;
 
 /// The type of a record: two octets on the wire (RFC 1035 section 3.2.2).
 #[derive(Clone, Copy, Debug, PartialEq, Eq, PartialOrd, Ord, Hash)]
@@ -206,5 +208,40 @@ impl BuildInMessage for RType {
         compressor: &mut NameCompressor,
     ) -> Result<usize, TruncationError> {
         build_whole(self, contents, start, compressor)
+    }
+}
+
+impl fmt::Display for RType {
+    ghost output = { λ v. Some (type_text v.code.value) };
+
+    /// The type's name in capitals, or `TYPE` and the number in decimal (RFC 3597 section 5).
+    #[tactic(auto, unfolding(crate::specs::CodeTexts::type_text))]
+    fn fmt<W: fmt::Write>(&self, f: &mut fmt::Formatter<W>) -> fmt::Result {
+        match *self {
+            RType::A => f.write_str("A"),
+            RType::NS => f.write_str("NS"),
+            RType::CNAME => f.write_str("CNAME"),
+            RType::SOA => f.write_str("SOA"),
+            RType::PTR => f.write_str("PTR"),
+            RType::HINFO => f.write_str("HINFO"),
+            RType::MX => f.write_str("MX"),
+            RType::TXT => f.write_str("TXT"),
+            RType::RP => f.write_str("RP"),
+            RType::AAAA => f.write_str("AAAA"),
+            RType::SRV => f.write_str("SRV"),
+            RType::DNAME => f.write_str("DNAME"),
+            RType::OPT => f.write_str("OPT"),
+            RType::DS => f.write_str("DS"),
+            RType::RRSIG => f.write_str("RRSIG"),
+            RType::NSEC => f.write_str("NSEC"),
+            RType::DNSKEY => f.write_str("DNSKEY"),
+            RType::NSEC3 => f.write_str("NSEC3"),
+            RType::NSEC3PARAM => f.write_str("NSEC3PARAM"),
+            RType::CDS => f.write_str("CDS"),
+            RType::CDNSKEY => f.write_str("CDNSKEY"),
+            RType::ZONEMD => f.write_str("ZONEMD"),
+            RType::TSIG => f.write_str("TSIG"),
+            RType { code } => write!(f, "TYPE{code}"),
+        }
     }
 }
