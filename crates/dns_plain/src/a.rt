@@ -2,6 +2,7 @@
 
 ghost use Rattle.std.specs.Prelude.{◌≡◌, ◌≤◌, ◌<◌, ◌^◌, ℕ, List, [], ◌∷◌, length, map, take, Option, Some, IfOk, ⊤};
 ghost use Rattle.std.proofs.Common.{◌∙◌, ap};
+ghost use Rattle.std.specs.Net.Grammar.{Parses};
 ghost use Rattle.std.proofs.lemmas.List.{append-nil};
 ghost use Rattle.dns_wire.specs.Building.{Builds};
 ghost use Rattle.dns_wire.specs.Compression.{FitsIn};
@@ -16,20 +17,42 @@ ghost use Rattle.dns_record.specs.Kinds.{fields_of, no_name};
 ghost use Rattle.dns_record.specs.Left.{bare_leave};
 ghost use Rattle.dns_record.specs.Rows.{row};
 ghost use Rattle.dns_record.proofs.Sizes.{canonical_long};
+ghost use Rattle.dns_plain.specs.AddressTexts.{SpellsIpv4, ipv4_text};
 ghost use Rattle.dns_plain.specs.Types.{a_fields};
 
+use crate::addr_error::AddrParseError;
 use dns_record::{CanonicalRecordData, DataOfType, RType};
 use dns_wire::{
     AsBytes, BuildBytes, BuildInMessage, NameCompressor, ParseError, ReadPlainValue, SplitBytes,
     TruncationError, build_whole, put,
 };
 use std::cmp::Ordering;
+use std::fmt;
+use std::net::Ipv4Addr;
+use std::str::FromStr;
 
 /// An address of IPv4 (RFC 1035 section 3.4.1).
 #[derive(Clone, Copy, Debug, PartialEq, Eq, PartialOrd, Ord, Hash)]
 pub struct A {
     /// The four octets of the address, as they are written.
     pub octets: [u8; 4],
+}
+
+impl FromStr for A {
+    type Err = AddrParseError;
+
+    ghost from_str_gives = { Parses SpellsIpv4 };
+
+    /// Reads four numbers from 0 to 255 in decimal with dots between them, without leading zeros.
+    /// `AddrParseError` comes exactly where the text is anything else.
+    fn from_str(s: &str) -> Result<A, AddrParseError> {
+        match Ipv4Addr::from_str(s) {
+            Ok(address) => Ok(A {
+                octets: address.octets(),
+            }),
+            Err(_) => Err(AddrParseError),
+        }
+    }
 }
 
 impl AsBytes for A {
@@ -106,5 +129,14 @@ impl CanonicalRecordData for A {
 
     fn cmp_canonical(&self, other: &Self) -> Ordering {
         self.octets.as_slice().cmp(&other.octets.as_slice())
+    }
+}
+
+impl fmt::Display for A {
+    ghost output = { λ v. Some (ipv4_text v) };
+
+    /// The four octets in decimal, with dots between them.
+    fn fmt<W: fmt::Write>(&self, f: &mut fmt::Formatter<W>) -> fmt::Result {
+        fmt::Display::fmt(&Ipv4Addr::from(self.octets), f)
     }
 }

@@ -2,6 +2,7 @@
 
 ghost use Rattle.std.specs.Prelude.{◌≡◌, ◌≤◌, ◌<◌, ◌^◌, ℕ, List, [], ◌∷◌, length, map, take, Option, Some, IfOk, ⊤};
 ghost use Rattle.std.proofs.Common.{◌∙◌, ap};
+ghost use Rattle.std.specs.Net.Grammar.{Parses};
 ghost use Rattle.std.proofs.lemmas.List.{append-nil};
 ghost use Rattle.dns_wire.specs.Building.{Builds};
 ghost use Rattle.dns_wire.specs.Compression.{FitsIn};
@@ -16,20 +17,46 @@ ghost use Rattle.dns_record.specs.Kinds.{fields_of, no_name};
 ghost use Rattle.dns_record.specs.Left.{bare_leave};
 ghost use Rattle.dns_record.specs.Rows.{row};
 ghost use Rattle.dns_record.proofs.Sizes.{canonical_long};
+ghost use Rattle.dns_plain.specs.AddressTexts.{SpellsIpv6, ipv6_text};
 ghost use Rattle.dns_plain.specs.Types.{aaaa_fields};
 
+use crate::addr_error::AddrParseError;
 use dns_record::{CanonicalRecordData, DataOfType, RType};
 use dns_wire::{
     AsBytes, BuildBytes, BuildInMessage, NameCompressor, ParseError, ReadPlainValue, SplitBytes,
     TruncationError, build_whole, put,
 };
 use std::cmp::Ordering;
+use std::fmt;
+use std::net::Ipv6Addr;
+use std::str::FromStr;
 
 /// An address of IPv6 (RFC 3596 section 2.2).
 #[derive(Clone, Copy, Debug, PartialEq, Eq, PartialOrd, Ord, Hash)]
 pub struct Aaaa {
     /// The sixteen octets of the address, as they are written.
     pub octets: [u8; 16],
+}
+
+impl FromStr for Aaaa {
+    type Err = AddrParseError;
+
+    ghost from_str_gives = { Parses SpellsIpv6 };
+
+    /// Reads eight groups of one to four hexadecimal digits with colons between them, or at most seven with one
+    /// `::` for those that are missing (RFC 4291 section 2.2). `AddrParseError` comes exactly where the text is
+    /// anything else, as where an address of IPv4 with its dots ends it.
+    fn from_str(s: &str) -> Result<Aaaa, AddrParseError> {
+        if s.as_bytes().contains(&b'.') {
+            return Err(AddrParseError);
+        }
+        match Ipv6Addr::from_str(s) {
+            Ok(address) => Ok(Aaaa {
+                octets: address.octets(),
+            }),
+            Err(_) => Err(AddrParseError),
+        }
+    }
 }
 
 impl AsBytes for Aaaa {
@@ -106,5 +133,15 @@ impl CanonicalRecordData for Aaaa {
 
     fn cmp_canonical(&self, other: &Self) -> Ordering {
         self.octets.as_slice().cmp(&other.octets.as_slice())
+    }
+}
+
+impl fmt::Display for Aaaa {
+    ghost output = { λ v. Some (ipv6_text v) };
+
+    /// Groups of hexadecimal digits in small letters without leading zeros, the first of the longest runs of at
+    /// least two groups of zero as `::` (RFC 5952 section 4).
+    fn fmt<W: fmt::Write>(&self, f: &mut fmt::Formatter<W>) -> fmt::Result {
+        fmt::Display::fmt(&Ipv6Addr::from(self.octets).hex_groups(), f)
     }
 }

@@ -3,6 +3,8 @@
 
 mod a;
 mod aaaa;
+mod addr_error;
+mod address_laws;
 mod dname;
 mod hinfo;
 mod laws;
@@ -14,6 +16,8 @@ mod type_laws;
 
 pub use a::A;
 pub use aaaa::Aaaa;
+pub use addr_error::AddrParseError;
+pub use address_laws::{runs_of_zero, texts_of_addresses};
 pub use dname::DName;
 pub use hinfo::HInfo;
 pub use laws::strings_of_texts;

@@ -1,5 +1,6 @@
 //! Each public call once, each trait at each type through its bound, and the sizes at which calls refuse.
 
+mod addresses;
 mod order;
 mod reading;
 mod texts;

@@ -59,15 +59,43 @@ fn codes_are_made_and_written(rt: HostRuntime) -> Result<(), Fail> {
 #[test]
 fn codes_are_shown(rt: HostRuntime) -> Result<(), Fail> {
     let types = [
-        (1, "A"), (2, "NS"), (5, "CNAME"), (6, "SOA"), (12, "PTR"), (13, "HINFO"), (15, "MX"), (16, "TXT"), (17, "RP"),
-        (28, "AAAA"), (33, "SRV"), (39, "DNAME"), (41, "OPT"), (43, "DS"), (46, "RRSIG"), (47, "NSEC"), (48, "DNSKEY"),
-        (50, "NSEC3"), (51, "NSEC3PARAM"), (59, "CDS"), (60, "CDNSKEY"), (63, "ZONEMD"), (250, "TSIG"),
-        (0, "TYPE0"), (265, "TYPE265"), (65535, "TYPE65535"),
+        (1, "A"),
+        (2, "NS"),
+        (5, "CNAME"),
+        (6, "SOA"),
+        (12, "PTR"),
+        (13, "HINFO"),
+        (15, "MX"),
+        (16, "TXT"),
+        (17, "RP"),
+        (28, "AAAA"),
+        (33, "SRV"),
+        (39, "DNAME"),
+        (41, "OPT"),
+        (43, "DS"),
+        (46, "RRSIG"),
+        (47, "NSEC"),
+        (48, "DNSKEY"),
+        (50, "NSEC3"),
+        (51, "NSEC3PARAM"),
+        (59, "CDS"),
+        (60, "CDNSKEY"),
+        (63, "ZONEMD"),
+        (250, "TSIG"),
+        (0, "TYPE0"),
+        (265, "TYPE265"),
+        (65535, "TYPE65535"),
     ];
     for (number, shown) in types {
         assert_eq!(rt; RType::from(number).to_string(rt.alloc())?.as_str(), shown);
     }
-    for (number, shown) in [(1, "IN"), (3, "CH"), (2, "CLASS2"), (42, "CLASS42"), (65535, "CLASS65535")] {
+    for (number, shown) in [
+        (1, "IN"),
+        (3, "CH"),
+        (2, "CLASS2"),
+        (42, "CLASS42"),
+        (65535, "CLASS65535"),
+    ] {
         assert_eq!(rt; RClass::from(number).to_string(rt.alloc())?.as_str(), shown);
     }
     Ok(())

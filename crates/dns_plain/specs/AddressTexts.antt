@@ -1,0 +1,45 @@
+-- Texts of addresses. What is read of an IPv6 address are the forms of RFC 4291 section 2.2 that have no dots, and what is
+-- printed is the form of RFC 5952 section 4.
+use Rattle.std.specs.Prelude.{◌≡◌, ℕ, ◌+◌, ◌-◌, ◌<◌, ◌⊎◌, false, List, ◌++◌, length, replicate, codes}
+use Rattle.std.specs.Net.Addr.{segments_of}
+use Rattle.std.specs.Net.Grammar.{IsDotted, IsGroups}
+use Rattle.std.specs.Net.Text as Net
+use Rattle.dns_plain.specs.declared.a.A.{A}
+use Rattle.dns_plain.specs.declared.aaaa.Aaaa.{Aaaa}
+
+-- ---- IPv4
+
+-- the text is the four octets in decimal, with dots between them
+abbrev pub SpellsIpv4 : List ℕ → A → Type 0
+SpellsIpv4 text v = IsDotted text v.octets
+
+-- and so it is printed
+abbrev pub ipv4_text : A → List ℕ
+ipv4_text v = Net.ipv4_text v.octets
+
+-- ---- IPv6
+
+-- Groups of one to four hexadecimal digits with colons between them before and after `::`, at most seven in all. It stands for
+-- the groups of zero that are missing.
+pub record IsShortened (text groups : List ℕ) : Type 0 where
+  pub front_text : List ℕ
+  pub back_text : List ℕ
+  pub front : List ℕ
+  pub back : List ℕ
+  pub spelled : text ≡ front_text ++ codes "::" ++ back_text
+  pub front_groups : IsGroups false front_text front
+  pub back_groups : IsGroups false back_text back
+  pub few : length front + length back < 8
+  pub value : groups ≡ front ++ replicate (8 - length front - length back) 0 ++ back
+
+-- all eight groups, or those around `::`
+abbrev pub IsHexText : List ℕ → List ℕ → Type 0
+IsHexText text groups = (IsGroups false text groups × (length groups ≡ 8)) ⊎ IsShortened text groups
+
+-- the text spells the address, two octets to a group
+abbrev pub SpellsIpv6 : List ℕ → Aaaa → Type 0
+SpellsIpv6 text v = IsHexText text (segments_of v.octets)
+
+-- groups in small letters without leading zeros, the first of the longest runs of at least two groups of zero as `::`
+abbrev pub ipv6_text : Aaaa → List ℕ
+ipv6_text v = Net.hex_groups_text (segments_of v.octets)
