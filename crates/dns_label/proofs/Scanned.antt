@@ -1,6 +1,7 @@
 -- What the scan of a label reads, in words, and that what is printed is read.
 use Rattle.std.proofs.Common.{◌≡◌, ◌≢◌, ℕ, zero, suc, ◌+◌, ◌-◌, ◌/◌, ◌%◌, ◌<◌, ◌≤◌, inl, inr, true, false, leb, List, [], ◌∷◌, ◌++◌, length, Option, Some, None, Result, Ok, Err, refl, sym, ap, subst, ◌∙◌, append_assoc, arith}
 use Rattle.std.specs.Prelude.{◌==◌, ◌&&◌, ◌||◌, not, IsTrue, IsFalse}
+use Rattle.std.specs.Result.{result_map_both}
 use Rattle.std.specs.Char.{is_ascii_digit, is_ascii_graphic}
 use Rattle.std.proofs.lemmas.Bool.Decides.{nat_tests}
 use Rattle.std.proofs.lemmas.Bool.{cases_Bool, and_parts, le-leb, leb-true, eqb-true, eqb-false, ne_eqb, agree_below_at}
@@ -9,10 +10,11 @@ use Rattle.std.proofs.lemmas.Option.{some_pair_parts}
 use Rattle.dns_wire.proofs.Spelled.{chosen}
 use Rattle.dns_wire.specs.Reading.{AreOctets}
 use Rattle.dns_label.specs.Labels.{IsShort}
+use Rattle.dns_label.specs.declared.text_error.LabelParseError.{LabelParseError}
 use Rattle.dns_label.specs.declared.text_error.LabelSplitError.{LabelSplitError}
 use Rattle.dns_label.specs.declared.text_error.ScanFault.{ScanFault}
 use Rattle.dns_label.specs.declared.text_error.ScanFault.TheVariants.{Overlong}
-use Rattle.dns_label.specs.Text.{is_plain, shown_octet, shown_label, three_digits, in_digits, escaped, next_octet, with_octet, then_octets, octets_within, label_scan, whole_text, parsed_label, front_of_text, split_label, IsForeign, EndsLabel, Spells, IsPlainText}
+use Rattle.dns_label.specs.Text.{is_plain, shown_octet, shown_label, three_digits, in_digits, escaped, next_octet, with_octet, then_octets, octets_within, label_scan, parse_error, front_label, whole_text, parsed_label, front_of_text, split_label, IsForeign, EndsLabel, Spells, IsPlainText}
 
 -- ---- the next octet
 
@@ -258,13 +260,15 @@ pub scan_again : (text contents rest : List ℕ) → Spells text contents → le
 unfolding label_scan
 scan_again text contents rest spells short ends = within_again 63 text contents rest spells (omega arith) ends
 
--- a text spells one label only
+-- a text spells one label only, and it ends in one place
+pub spelled_apart : (text other a b rest left : List ℕ) → text ++ rest ≡ other ++ left → Spells text a → Spells other b → EndsLabel rest → EndsLabel left → (a ≡ b) × (rest ≡ left)
+spelled_apart text other a b rest left same of_a of_b ends ends_left =
+    let first : octets_within (length a + length b) (text ++ rest) ≡ Ok (a, rest) = within_again (length a + length b) text a rest of_a (omega arith) ends in
+    let second : octets_within (length a + length b) (other ++ left) ≡ Ok (b, left) = within_again (length a + length b) other b left of_b (omega arith) ends_left in
+    ok_parts a b rest left (sym first ∙ ap (octets_within (length a + length b)) same ∙ second)
+
 pub spelled_once : (text a b : List ℕ) → Spells text a → Spells text b → a ≡ b
-spelled_once text a b of_a of_b =
-    let whole : text ++ [] ≡ text = append-nil text in
-    let first : octets_within (length a + length b) (text ++ []) ≡ Ok (a, []) = within_again (length a + length b) text a [] of_a (omega arith) tt in
-    let second : octets_within (length a + length b) (text ++ []) ≡ Ok (b, []) = within_again (length a + length b) text b [] of_b (omega arith) tt in
-    (ok_parts a b [] [] (sym first ∙ second)).0
+spelled_once text a b of_a of_b = (spelled_apart text text a b [] [] refl of_a of_b tt tt).0
 
 -- ---- what is printed
 
@@ -336,10 +340,10 @@ shown_plain (octet ∷ others) octets =
     ]
 
 -- a text in plain spelling is what is printed of what it spells
-record Printed (text : List ℕ) : Type 0 where
-  contents : List ℕ
-  spells : Spells text contents
-  text_is : text ≡ shown_label contents
+pub record Printed (text : List ℕ) : Type 0 where
+  pub contents : List ℕ
+  pub spells : Spells text contents
+  pub text_is : text ≡ shown_label contents
 
 -- the digits of a number are those that are printed
 same_digits : (a b c n : ℕ) → IsTrue (is_ascii_digit a) → IsTrue (is_ascii_digit b) → IsTrue (is_ascii_digit c) → n ≡ three_digits a b c → (48 + n / 100 ≡ a) × (48 + n / 10 % 10 ≡ b) × (48 + n % 10 ≡ c)
@@ -355,7 +359,7 @@ same_digits a b c n is_a is_b is_c value =
     let high_c = leb-true c 57 in_c.1 in
     (omega arith, omega arith, omega arith)
 
-plain_printed : (text : List ℕ) → IsPlainText text → Printed text
+pub plain_printed : (text : List ℕ) → IsPlainText text → Printed text
 unfolding shown_octet
 plain_printed text IsPlainText.ended = record { contents = []; spells = Spells.ended; text_is = refl }
 plain_printed text (IsPlainText.itself octet more plain is) =
@@ -450,6 +454,16 @@ parsed_takes text contents e =
 pub parsed_again : (text contents : List ℕ) → Spells text contents → IsShort contents → parsed_label text ≡ Ok contents
 parsed_again text contents spells short =
     ap (λ (l : List ℕ). whole_text (label_scan l)) (sym (append-nil text)) ∙ ap whole_text (scan_again text contents [] spells short tt)
+
+mapped_is : (read : Read) (contents rest : List ℕ) → ◌≡◌ {A = Result (List ℕ × List ℕ) LabelParseError} (result_map_both (λ front. front) parse_error read) (Ok (contents, rest)) → read ≡ Ok (contents, rest)
+mapped_is (Ok front) contents rest e = ap Ok (let h : front ≡ (contents, rest) = cc in h)
+mapped_is (Err fault) contents rest e = absurd cc
+
+pub front_takes : (text contents rest : List ℕ) → front_label text ≡ Ok (contents, rest) → Takes 63 text contents rest
+front_takes text contents rest e = scan_takes text contents rest (mapped_is (label_scan text) contents rest e)
+
+pub front_again : (text contents rest : List ℕ) → Spells text contents → IsShort contents → EndsLabel rest → front_label (text ++ rest) ≡ Ok (contents, rest)
+front_again text contents rest spells short ends = ap (result_map_both (λ front. front) parse_error) (scan_again text contents rest spells short ends)
 
 abbrev Front : Type 0
 Front = Result (List ℕ × List ℕ) LabelSplitError

@@ -2,6 +2,7 @@
 -- a dot within a label).
 use Rattle.std.specs.Prelude.{◌≡◌, ◌≢◌, ◌≤◌, ⊤, ℕ, zero, suc, ◌+◌, ◌-◌, ◌*◌, ◌/◌, ◌%◌, ◌==◌, ◌||◌, ◌&&◌, Bool, nat_le, codes, List, [], ◌∷◌, Option, Some, None, Result, Ok, Err, IsTrue, IsFalse, if◌then◌else◌}
 use Rattle.std.specs.List.{flat_map, list_any}
+use Rattle.std.specs.Result.{result_map_both}
 use Rattle.std.specs.Char.{is_ascii_alphanumeric, is_ascii_digit, is_ascii_graphic}
 use Rattle.dns_label.specs.declared.text_error.ScanFault.{ScanFault}
 use Rattle.dns_label.specs.declared.text_error.ScanFault.TheVariants.{Overlong, CutEscape, WrongEscape}
@@ -83,10 +84,15 @@ label_scan text = octets_within 63 text
 
 -- ---- a whole text
 
+-- what is told of a fault
 abbrev pub parse_error : ScanFault → LabelParseError
 parse_error Overlong = parse_errors.Overlong
 parse_error CutEscape = parse_errors.PartialEscape
 parse_error WrongEscape = parse_errors.InvalidEscape
+
+-- the label at the front of a text, which the end of the text ends too, and the text behind it
+abbrev pub front_label : List ℕ → Result (List ℕ × List ℕ) LabelParseError
+front_label text = result_map_both (λ front. front) parse_error (label_scan text)
 
 -- the contents, where the text ends behind them
 abbrev pub whole_text : Result (List ℕ × List ℕ) ScanFault → Result (List ℕ) LabelParseError

@@ -40,7 +40,7 @@ name_filled bytes is =
 
 -- ---- from the root on
 
-all_short : (labels : List (List ℕ)) → AllByRecursion IsLabel labels → AllByRecursion IsShort labels
+pub all_short : (labels : List (List ℕ)) → AllByRecursion IsLabel labels → AllByRecursion IsShort labels
 all_short [] sizes = tt
 all_short (label ∷ labels) sizes = (sizes.0.1, all_short labels sizes.1)
 

@@ -1,5 +1,6 @@
 -- The crate's own lemmas.
 pub mod Aligned
+pub mod Buffered
 pub mod Continued
 pub mod Followed
 pub mod Gathered
@@ -7,5 +8,6 @@ pub mod Labelled
 pub mod Sameness
 pub mod Standing
 pub mod StandingAt
+pub mod Texts
 pub mod Turned
 pub mod WholeNames

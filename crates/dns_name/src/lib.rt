@@ -5,7 +5,9 @@ mod canonical_name;
 mod conversion;
 mod hash;
 mod in_message;
+mod json;
 mod label_row;
+mod labels_buf;
 mod laws;
 mod lowercased;
 mod name;
@@ -17,9 +19,13 @@ mod rev_name;
 mod rev_name_buf;
 mod rev_order;
 mod row_order;
+mod text;
+mod text_error;
+mod text_laws;
 mod unparsed_name;
 
 pub use canonical_name::CanonicalName;
+pub use json::{JsonLabelError, JsonNameError, label_from_json, label_to_json};
 pub use laws::{
     label_order, one_order, orders_by_octets, reversed_names, unparsed_names,
     unparsed_names_continue,
@@ -30,6 +36,8 @@ pub use name_buf::NameBuf;
 pub use read_name::{ReadMessageName, ReadName};
 pub use rev_name::RevName;
 pub use rev_name_buf::RevNameBuf;
+pub use text_error::{NameParseError, NameSplitError};
+pub use text_laws::{name_texts, plain_names_are_printed, printed_names_are_read};
 pub use unparsed_name::UnparsedName;
 
 #[cfg(test)]

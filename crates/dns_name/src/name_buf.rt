@@ -68,7 +68,7 @@ impl NameBuf {
 }
 
 /// Copies the octets to a place of the buffer.
-fn copy_at(octets: &[u8], buffer: &mut [u8], at: usize)
+pub(crate) fn copy_at(octets: &[u8], buffer: &mut [u8], at: usize)
     requires { at + length octets.now ≤ length buffer.old }
     ensures { take (at + length octets.now) buffer.new ≡ take at buffer.old ++ octets.now }
 {

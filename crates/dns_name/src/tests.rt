@@ -2,7 +2,9 @@
 
 mod canonical_name;
 mod in_message;
+mod json;
 mod reversed;
+mod text;
 mod unparsed_name;
 
 use crate::{Name, NameBuf, RevName, RevNameBuf, UnparsedName};

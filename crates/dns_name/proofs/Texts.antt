@@ -1,0 +1,387 @@
+-- What the scan of a name reads, in words, and that what is printed is read.
+use Rattle.std.proofs.Common.{◌≡◌, ◌≢◌, ◌⊎◌, ℕ, zero, suc, ◌+◌, ◌<◌, ◌≤◌, inl, inr, true, false, List, [], ◌∷◌, ◌++◌, length, Result, Ok, Err, refl, sym, ap, subst, ◌∙◌, append_assoc, arith}
+use Rattle.std.specs.Prelude.{◌==◌}
+use Rattle.std.specs.List.{AllByRecursion}
+use Rattle.std.specs.Result.{result_map_both}
+use Rattle.std.proofs.lemmas.Bool.{le-leb, leb-true, eqb-true, eqb-false, ne_eqb}
+use Rattle.std.proofs.lemmas.List.{append-nil, length-append}
+use Rattle.dns_wire.specs.Names.{heads, wire, IsLabel, IsName}
+use Rattle.dns_wire.specs.Reading.{AreOctets}
+use Rattle.dns_wire.proofs.Spelled.{chosen}
+use Rattle.dns_wire.proofs.Walk.{heads-append, wire_long}
+use Rattle.dns_label.specs.Text.{is_plain, shown_label, front_label, IsForeign, EndsLabel, Spells}
+use Rattle.dns_label.specs.declared.text_error.LabelParseError.{LabelParseError}
+use Rattle.dns_label.proofs.Scanned.{Takes, front_takes, front_again, spelled_apart, shown_spells, shown_plain, plain_printed}
+use Rattle.dns_name.specs.declared.text_error.NameParseError.{NameParseError}
+use Rattle.dns_name.specs.declared.text_error.NameParseError.TheVariants as errors
+use Rattle.dns_name.specs.declared.text_error.NameSplitError.{NameSplitError}
+use Rattle.dns_name.specs.Text.{shown_name, of_label, fits, Parts, label_front, after_label, parts_within, name_scan, at_end, whole_text, parsed_name, at_octet, front_of_text, split_name, NoDot, EndsName, SpellsLabels, ArePlainTexts}
+
+abbrev pub Label : Type 0
+Label = Result (List ℕ × List ℕ) NameParseError
+
+abbrev pub Read : Type 0
+Read = Result Parts NameParseError
+
+-- ---- one label
+
+front_is : (read : Result (List ℕ × List ℕ) LabelParseError) (label rest : List ℕ) → ◌≡◌ {A = Label} (result_map_both (λ front. front) of_label read) (Ok (label, rest)) → read ≡ Ok (label, rest)
+front_is (Ok front) label rest e = ap Ok (let h : front ≡ (label, rest) = cc in h)
+front_is (Err error) label rest e = absurd cc
+
+pub label_takes : (text label rest : List ℕ) → label_front text ≡ Ok (label, rest) → Takes 63 text label rest
+label_takes text label rest e = front_takes text label rest (front_is (front_label text) label rest e)
+
+pub label_again : (text label rest : List ℕ) → Spells text label → length label < 64 → EndsLabel rest → label_front (text ++ rest) ≡ Ok (label, rest)
+label_again text label rest spells short ends = ap (result_map_both (λ front. front) of_label) (front_again text label rest spells short ends)
+
+-- a dot ends a label's text
+dot_foreign : IsForeign 46
+unfolding is_plain
+dot_foreign = (refl, λ e. cc)
+
+-- the text behind a label is no longer than all of it
+pub label_shorter : (text label rest : List ℕ) → label_front text ≡ Ok (label, rest) → length rest ≤ length text
+label_shorter text label rest e =
+    let t = label_takes text label rest e in omega (arith, ap length t.text_is, length-append t.front rest)
+
+-- ---- a scan under way
+
+-- these labels are read, and this text is left
+pub record Underway (text : List ℕ) (labels : List (List ℕ)) (rest : List ℕ) : Type 0 where
+  pub steps : ℕ
+  pub enough : length rest < steps
+  pub left : name_scan text ≡ parts_within steps labels rest
+
+pub begun : (text : List ℕ) (labels : List (List ℕ)) → labels ≡ [] → Underway text labels text
+unfolding name_scan
+begun text labels e = rw e (record { steps = suc (length text); enough = omega arith; left = refl })
+
+-- one step
+stepped : (steps : ℕ) (labels : List (List ℕ)) (text : List ℕ) (read : Label) → label_front text ≡ read → parts_within (suc steps) labels text ≡ after_label (λ longer rest. parts_within steps longer rest) labels read
+unfolding parts_within
+stepped steps labels text read e = ap (after_label (λ longer rest. parts_within steps longer rest) labels) e
+
+unrolled : (steps : ℕ) (labels : List (List ℕ)) (text : List ℕ) (read : Label) → 0 < steps → label_front text ≡ read → (fewer : ℕ) × (steps ≡ suc fewer) × (parts_within steps labels text ≡ after_label (λ longer rest. parts_within fewer longer rest) labels read)
+unrolled zero labels text read some e = absurd (omega arith)
+unrolled (suc steps) labels text read some e = (steps, refl, stepped steps labels text read e)
+
+pub gone_on : (text : List ℕ) (labels new : List (List ℕ)) (rest label next : List ℕ) → Underway text labels rest → label_front rest ≡ Ok (label, 46 ∷ next) → fits labels label ≡ true → 0 < length label → new ≡ labels ++ label ∷ [] → Underway text new next
+gone_on text labels new rest label next way read fine some e =
+    let u = unrolled way.steps labels rest (Ok (label, 46 ∷ next)) (omega (arith, way.enough)) read in
+    let full : (length label == 0) ≡ false = ne_eqb (length label) 0 (λ none. omega arith) in
+    record {
+      steps = u.0;
+      enough = omega (arith, way.enough, u.1, label_shorter rest label (46 ∷ next) read);
+      left = way.left ∙ u.2 ∙ rw (fine, full, e) refl;
+    }
+
+pub failed_scan : (text : List ℕ) (labels : List (List ℕ)) (rest : List ℕ) (error : NameParseError) → Underway text labels rest → label_front rest ≡ Err error → name_scan text ≡ Err error
+failed_scan text labels rest error way read =
+    let u = unrolled way.steps labels rest (Err error) (omega (arith, way.enough)) read in way.left ∙ u.2
+
+pub overlong_scan : (text : List ℕ) (labels : List (List ℕ)) (rest label next : List ℕ) → Underway text labels rest → label_front rest ≡ Ok (label, 46 ∷ next) → fits labels label ≡ false → name_scan text ≡ Err errors.Overlong
+overlong_scan text labels rest label next way read over =
+    let u = unrolled way.steps labels rest (Ok (label, 46 ∷ next)) (omega (arith, way.enough)) read in
+    way.left ∙ u.2 ∙ rw over refl
+
+pub empty_scan : (text : List ℕ) (labels : List (List ℕ)) (rest label next : List ℕ) → Underway text labels rest → label_front rest ≡ Ok (label, 46 ∷ next) → fits labels label ≡ true → label ≡ [] → name_scan text ≡ Err errors.EmptyLabel
+empty_scan text labels rest label next way read fine none =
+    let u = unrolled way.steps labels rest (Ok (label, 46 ∷ next)) (omega (arith, way.enough)) read in
+    let zero_long : (length label == 0) ≡ true = ap (λ (l : List ℕ). length l == 0) none in
+    way.left ∙ u.2 ∙ rw (fine, zero_long) refl
+
+stops : (more : List (List ℕ) → List ℕ → Read) (labels : List (List ℕ)) (label rest : List ℕ) → NoDot rest → after_label more labels (Ok (label, rest)) ≡ Ok (labels, (label, rest))
+stops more labels label [] none = refl
+stops more labels label (octet ∷ rest) none =
+    let apart : (octet == 46) ≡ false = ne_eqb octet 46 none in rw apart refl
+
+pub ended_scan : (text : List ℕ) (labels : List (List ℕ)) (rest label left : List ℕ) → Underway text labels rest → label_front rest ≡ Ok (label, left) → NoDot left → name_scan text ≡ Ok (labels, (label, left))
+ended_scan text labels rest label left way read none =
+    let u = unrolled way.steps labels rest (Ok (label, left)) (omega (arith, way.enough)) read in
+    way.left ∙ u.2 ∙ stops (λ longer more. parts_within u.0 longer more) labels label left none
+
+-- ---- what is read
+
+parts_parts : (a x : List (List ℕ)) (b y c z : List ℕ) → ◌≡◌ {A = Read} (Ok (a, (b, c))) (Ok (x, (y, z))) → (a ≡ x) × (b ≡ y) × (c ≡ z)
+parts_parts a x b y c z e =
+    let h : ◌≡◌ {A = Parts} (a, (b, c)) (x, (y, z)) = cc in
+    (ap (λ (p : Parts). p.0) h, ap (λ (p : Parts). p.1.0) h, ap (λ (p : Parts). p.1.1) h)
+
+-- what a scan has read in words: labels that are spelled with dots behind them, and a last one
+pub record Spelled (before : List (List ℕ)) (text : List ℕ) (labels : List (List ℕ)) (label rest : List ℕ) : Type 0 where
+  pub others : List (List ℕ)
+  pub front : List ℕ
+  pub last : List ℕ
+  pub labels_are : labels ≡ before ++ others
+  pub text_is : text ≡ front ++ (last ++ rest)
+  pub spells : SpellsLabels front others
+  pub sizes : AllByRecursion IsLabel others
+  pub spells_last : Spells last label
+  pub fits_last : length label ≤ 63
+  pub ends : EndsLabel rest
+  pub no_dot : NoDot rest
+
+stopped_spelled : (before : List (List ℕ)) (text : List ℕ) (labels : List (List ℕ)) (label rest found left : List ℕ) → label_front text ≡ Ok (found, left) → NoDot left → ◌≡◌ {A = Read} (Ok (before, (found, left))) (Ok (labels, (label, rest))) → Spelled before text labels label rest
+stopped_spelled before text labels label rest found left read none e =
+    let same = parts_parts before labels found label left rest e in
+    let t = label_takes text found left read in
+    record {
+      others = [];
+      front = [];
+      last = t.front;
+      labels_are = sym same.0 ∙ sym (append-nil before);
+      text_is = t.text_is ∙ ap (λ (l : List ℕ). t.front ++ l) same.2;
+      spells = SpellsLabels.ended;
+      sizes = tt;
+      spells_last = subst (Spells t.front) same.1 t.spells;
+      fits_last = omega (arith, ap length same.1, t.fits);
+      ends = subst EndsLabel same.2 t.ends;
+      no_dot = subst NoDot same.2 none;
+    }
+
+-- a label and a dot in front
+dotted_spelled : (before : List (List ℕ)) (text : List ℕ) (labels : List (List ℕ)) (label rest found next : List ℕ) → label_front text ≡ Ok (found, 46 ∷ next) → 0 < length found → Spelled (before ++ found ∷ []) next labels label rest → Spelled before text labels label rest
+dotted_spelled before text labels label rest found next read some behind =
+    let t = label_takes text found (46 ∷ next) read in
+    record {
+      others = found ∷ behind.others;
+      front = t.front ++ 46 ∷ behind.front;
+      last = behind.last;
+      labels_are = behind.labels_are ∙ append_assoc before (found ∷ []) behind.others;
+      text_is =
+          t.text_is ∙ ap (λ (l : List ℕ). t.front ++ 46 ∷ l) behind.text_is
+          ∙ sym (append_assoc t.front (46 ∷ behind.front) (behind.last ++ rest));
+      spells = SpellsLabels.dotted t.front found behind.front behind.others t.spells behind.spells;
+      sizes = ((some, omega (arith, t.fits)), behind.sizes);
+      spells_last = behind.spells_last;
+      fits_last = behind.fits_last;
+      ends = behind.ends;
+      no_dot = behind.no_dot;
+    }
+
+-- a label that no dot follows, or one that does
+label_spelled : (more : List (List ℕ) → List ℕ → Read) (before : List (List ℕ)) (text : List ℕ) (labels : List (List ℕ)) (label rest : List ℕ) (read : Label) → ((longer : List (List ℕ)) (next : List ℕ) → length next < length text → more longer next ≡ Ok (labels, (label, rest)) → Spelled longer next labels label rest) → label_front text ≡ read → after_label more before read ≡ Ok (labels, (label, rest)) → Spelled before text labels label rest
+label_spelled more before text labels label rest (Err error) later is e = absurd cc
+label_spelled more before text labels label rest (Ok (found, [])) later is e = stopped_spelled before text labels label rest found [] is tt e
+label_spelled more before text labels label rest (Ok (found, octet ∷ next)) later is e =
+    elim (chosen (octet == 46) _ _ _ e) [
+      | inr other ↦ stopped_spelled before text labels label rest found (octet ∷ next) is (eqb-false octet 46 other.0) other.1
+      | inl dot ↦
+          let same : octet ≡ 46 = eqb-true octet 46 dot.0 in
+          let read : label_front text ≡ Ok (found, 46 ∷ next) = is ∙ ap (λ (o : ℕ). Ok (found, o ∷ next)) same in
+          elim (chosen (fits before found) _ _ _ dot.1) [
+            | inr over ↦ absurd (let h = over.1 in cc)
+            | inl fine ↦
+                elim (chosen (length found == 0) _ _ _ fine.1) [
+                  | inl none ↦ absurd (let h = none.1 in cc)
+                  | inr some ↦
+                      dotted_spelled before text labels label rest found next read (some_octets found (eqb-false (length found) 0 some.0)) (later (before ++ found ∷ []) next (omega (arith, label_shorter text found (46 ∷ next) read)) some.1)
+                ]
+          ]
+    ] where
+      some_octets : (found : List ℕ) → length found ≢ 0 → 0 < length found
+      some_octets found some = omega arith
+
+within_spelled : (steps : ℕ) (before : List (List ℕ)) (text : List ℕ) (labels : List (List ℕ)) (label rest : List ℕ) → length text < steps → parts_within steps before text ≡ Ok (labels, (label, rest)) → Spelled before text labels label rest
+unfolding parts_within
+within_spelled zero before text labels label rest enough e = absurd (omega arith)
+within_spelled (suc steps) before text labels label rest enough e =
+    label_spelled (λ longer next. parts_within steps longer next) before text labels label rest (label_front text)
+    (λ longer next shorter h. within_spelled steps longer next labels label rest (omega arith) h) refl e
+
+scan_spelled : (text : List ℕ) (labels : List (List ℕ)) (label rest : List ℕ) → name_scan text ≡ Ok (labels, (label, rest)) → Spelled [] text labels label rest
+unfolding name_scan
+scan_spelled text labels label rest e = within_spelled (suc (length text)) [] text labels label rest (omega arith) e
+
+-- nothing spells the empty label
+spells_none : (text contents : List ℕ) → contents ≡ [] → Spells text contents → text ≡ []
+spells_none text contents none Spells.ended = refl
+spells_none text contents none (Spells.itself octet more octets plain spells) = absurd cc
+spells_none text contents none (Spells.backslash octet more octets graphic no_digit spells) = absurd cc
+spells_none text contents none (Spells.digits a b c more octets is_a is_b is_c small spells) = absurd cc
+
+-- a scan that ended behind a dot
+record Rooted (text : List ℕ) (labels : List (List ℕ)) (rest : List ℕ) : Type 0 where
+  front : List ℕ
+  text_is : text ≡ front ++ rest
+  spells : SpellsLabels front labels
+  name : IsName labels
+  ends : EndsName rest
+
+ends_name : (rest : List ℕ) → EndsLabel rest → NoDot rest → EndsName rest
+ends_name [] ends none = tt
+ends_name (octet ∷ rest) ends none = (ends, none)
+
+fitting : (labels : List (List ℕ)) → fits labels [] ≡ true → length (wire labels) ≤ 255
+fitting labels fine =
+    let room : length (heads labels) + 1 ≤ 255 = leb-true (length (heads labels) + 1) 255 fine in omega (arith, room, wire_long labels)
+
+scan_rooted : (text : List ℕ) (labels : List (List ℕ)) (rest : List ℕ) → name_scan text ≡ Ok (labels, ([], rest)) → fits labels [] ≡ true → Rooted text labels rest
+scan_rooted text labels rest e fine =
+    let t = scan_spelled text labels [] rest e in
+    record {
+      front = t.front;
+      text_is = t.text_is ∙ ap (λ (l : List ℕ). t.front ++ (l ++ rest)) (spells_none t.last [] refl t.spells_last);
+      spells = subst (SpellsLabels t.front) (sym t.labels_are) t.spells;
+      name = record { sizes = subst (AllByRecursion IsLabel) (sym t.labels_are) t.sizes; size = fitting labels fine };
+      ends = ends_name rest t.ends t.no_dot;
+    }
+
+-- ---- what is spelled is read
+
+ends_label : (rest : List ℕ) → EndsName rest → EndsLabel rest
+ends_label [] ends = tt
+ends_label (octet ∷ rest) ends = ends.0
+
+ends_dotless : (rest : List ℕ) → EndsName rest → NoDot rest
+ends_dotless [] ends = tt
+ends_dotless (octet ∷ rest) ends = ends.1
+
+within_again : (steps : ℕ) (before : List (List ℕ)) (text : List ℕ) (labels : List (List ℕ)) (rest : List ℕ) → SpellsLabels text labels → AllByRecursion IsLabel labels → length (heads (before ++ labels)) ≤ 255 → EndsName rest → length (text ++ rest) < steps → parts_within steps before (text ++ rest) ≡ Ok (before ++ labels, ([], rest))
+within_again zero before text labels rest spells sizes short ends enough = absurd (omega arith)
+within_again (suc steps) before text labels rest SpellsLabels.ended sizes short ends enough =
+    stepped steps before rest (Ok ([], rest)) (label_again [] [] rest Spells.ended (omega arith) (ends_label rest ends))
+    ∙ stops (λ longer next. parts_within steps longer next) before [] rest (ends_dotless rest ends)
+    ∙ ap (λ (l : List (List ℕ)). Ok (l, ([], rest))) (sym (append-nil before))
+within_again (suc steps) before text labels rest (SpellsLabels.dotted spelled octets more others spells behind) sizes short ends enough =
+    let regrouped : (spelled ++ 46 ∷ more) ++ rest ≡ spelled ++ 46 ∷ (more ++ rest) = append_assoc spelled (46 ∷ more) rest in
+    let read : label_front (spelled ++ 46 ∷ (more ++ rest)) ≡ Ok (octets, 46 ∷ (more ++ rest)) = label_again spelled octets (46 ∷ (more ++ rest)) spells sizes.0.1 dot_foreign in
+    let longer : (before ++ octets ∷ []) ++ others ≡ before ++ octets ∷ others = append_assoc before (octets ∷ []) others in
+    let long : length (heads (before ++ octets ∷ others)) ≡ length (heads before) + (suc (length octets) + length (heads others)) = ap length (heads-append before (octets ∷ others)) ∙ length-append (heads before) (heads (octets ∷ others)) ∙ ap (λ (n : ℕ). length (heads before) + suc n) (length-append octets (heads others)) ∙ omega arith in
+    let fine : fits before octets ≡ true = le-leb (length (heads before) + suc (length octets)) 255 (omega (arith, long)) in
+    let full : (length octets == 0) ≡ false = ne_eqb (length octets) 0 (λ none. omega (arith, sizes.0.0)) in
+    ap (parts_within (suc steps) before) regrouped
+    ∙ stepped steps before (spelled ++ 46 ∷ (more ++ rest)) (Ok (octets, 46 ∷ (more ++ rest))) read
+    ∙ rw (fine, full) refl
+    ∙ within_again steps (before ++ octets ∷ []) more others rest behind sizes.1
+    (omega (arith, ap (λ (l : List (List ℕ)). length (heads l)) longer)) ends
+    (omega (arith, ap length regrouped, length-append spelled (46 ∷ (more ++ rest))))
+    ∙ ap (λ (l : List (List ℕ)). Ok (l, ([], rest))) longer
+
+scan_again : (text : List ℕ) (labels : List (List ℕ)) (rest : List ℕ) → SpellsLabels text labels → IsName labels → EndsName rest → name_scan (text ++ rest) ≡ Ok (labels, ([], rest))
+unfolding name_scan
+scan_again text labels rest spells name ends =
+    within_again (suc (length (text ++ rest))) [] text labels rest spells name.sizes (omega (arith, name.size, wire_long labels)) ends (omega arith)
+
+name_fits : (labels : List (List ℕ)) → IsName labels → fits labels [] ≡ true
+name_fits labels name = le-leb (length (heads labels) + 1) 255 (omega (arith, name.size, wire_long labels))
+
+-- ---- whole texts, and the fronts of texts
+
+at_end_is : (labels : List (List ℕ)) (label rest : List ℕ) (name : List (List ℕ)) → at_end labels label rest ≡ Ok name → (labels ≡ name) × (label ≡ []) × (rest ≡ [])
+at_end_is labels label (octet ∷ rest) name e = absurd cc
+at_end_is labels [] [] name e = (cc, refl, refl)
+at_end_is labels (octet ∷ others) [] name e = absurd cc
+
+whole_is : (read : Read) (labels : List (List ℕ)) → whole_text read ≡ Ok labels → (read ≡ Ok (labels, ([], []))) × (fits labels [] ≡ true)
+whole_is (Err error) labels e = absurd cc
+whole_is (Ok (found, (label, rest))) labels e =
+    elim (chosen (fits found label) _ _ _ e) [
+      | inl fine ↦
+          let same = at_end_is found label rest labels fine.1 in
+          (rw (same.0, same.1, same.2) refl, sym (ap (λ (l : List (List ℕ)). fits l []) same.0) ∙ sym (ap (fits found) same.1) ∙ fine.0)
+      | inr over ↦ absurd (let h = over.1 in cc)
+    ]
+
+pub parsed_takes : (text : List ℕ) (labels : List (List ℕ)) → parsed_name text ≡ Ok labels → SpellsLabels text labels × IsName labels
+parsed_takes text labels e =
+    let w = whole_is (name_scan text) labels e in
+    let t = scan_rooted text labels [] w.0 w.1 in
+    (subst (λ (l : List ℕ). SpellsLabels l labels) (sym (t.text_is ∙ append-nil t.front)) t.spells, t.name)
+
+pub parsed_again : (text : List ℕ) (labels : List (List ℕ)) → SpellsLabels text labels → IsName labels → parsed_name text ≡ Ok labels
+parsed_again text labels spells name =
+    ap (λ (l : List ℕ). whole_text (name_scan l)) (sym (append-nil text)) ∙ ap whole_text (scan_again text labels [] spells name tt)
+    ∙ rw (name_fits labels name) refl
+
+abbrev Front : Type 0
+Front = Result (List (List ℕ) × List ℕ) NameSplitError
+
+front_parts : (a b : List (List ℕ)) (x y : List ℕ) → ◌≡◌ {A = Front} (Ok (a, x)) (Ok (b, y)) → (a ≡ b) × (x ≡ y)
+front_parts a b x y e =
+    let h : ◌≡◌ {A = List (List ℕ) × List ℕ} (a, x) (b, y) = cc in
+    (ap (λ (p : List (List ℕ) × List ℕ). p.0) h, ap (λ (p : List (List ℕ) × List ℕ). p.1) h)
+
+at_octet_is : (labels name : List (List ℕ)) (label rest left : List ℕ) → at_octet labels label rest ≡ Ok (name, left) → (labels ≡ name) × (label ≡ []) × (rest ≡ left)
+at_octet_is labels name [] rest left e = let same = front_parts labels name rest left e in (same.0, refl, same.1)
+at_octet_is labels name (octet ∷ others) rest left e = absurd cc
+
+front_of_is : (read : Read) (labels : List (List ℕ)) (rest : List ℕ) → front_of_text read ≡ Ok (labels, rest) → (read ≡ Ok (labels, ([], rest))) × (fits labels [] ≡ true) × (rest ≢ [])
+front_of_is (Err error) labels rest e = absurd cc
+front_of_is (Ok (found, (label, []))) labels rest e = absurd cc
+front_of_is (Ok (found, (label, octet ∷ left))) labels rest e =
+    elim (chosen (fits found label) _ _ _ e) [
+      | inl fine ↦
+          let same = at_octet_is found labels label (octet ∷ left) rest fine.1 in (
+            rw (same.0, same.1, same.2) refl,
+            sym (ap (λ (l : List (List ℕ)). fits l []) same.0) ∙ sym (ap (fits found) same.1) ∙ fine.0,
+            λ none. let h = same.2 ∙ none in cc,
+          )
+      | inr over ↦ absurd (let h = over.1 in cc)
+    ]
+
+pub split_takes : (text rest : List ℕ) (labels : List (List ℕ)) → split_name text ≡ Ok (labels, rest) → (front : List ℕ) × (text ≡ front ++ rest) × SpellsLabels front labels × IsName labels × (rest ≢ []) × EndsName rest
+split_takes text rest labels e =
+    let w = front_of_is (name_scan text) labels rest e in
+    let t = scan_rooted text labels rest w.0 w.1 in
+    (t.front, t.text_is, t.spells, t.name, w.2, t.ends)
+
+front_whole : (labels : List (List ℕ)) (rest : List ℕ) → IsName labels → rest ≢ [] → front_of_text (Ok (labels, ([], rest))) ≡ Ok (labels, rest)
+front_whole labels [] name some = absurd (some refl)
+front_whole labels (octet ∷ rest) name some = rw (name_fits labels name) refl
+
+pub split_again : (text rest : List ℕ) (labels : List (List ℕ)) → SpellsLabels text labels → IsName labels → rest ≢ [] → EndsName rest → split_name (text ++ rest) ≡ Ok (labels, rest)
+split_again text rest labels spells name some ends = ap front_of_text (scan_again text labels rest spells name ends) ∙ front_whole labels rest name some
+
+-- ---- what is printed
+
+shown_more : (label : List ℕ) (labels : List (List ℕ)) → shown_name (label ∷ labels) ≡ shown_label label ++ 46 ∷ shown_name labels
+shown_more label labels = append_assoc (shown_label label) (46 ∷ []) (shown_name labels)
+
+pub names_spell : (labels : List (List ℕ)) → AllByRecursion AreOctets labels → SpellsLabels (shown_name labels) labels
+names_spell [] octets = SpellsLabels.ended
+names_spell (label ∷ labels) octets =
+    subst (λ (l : List ℕ). SpellsLabels l (label ∷ labels)) (sym (shown_more label labels))
+    (SpellsLabels.dotted (shown_label label) label (shown_name labels) labels (shown_spells label octets.0) (names_spell labels octets.1))
+
+pub names_plain : (labels : List (List ℕ)) → AllByRecursion AreOctets labels → ArePlainTexts (shown_name labels)
+names_plain [] octets = ArePlainTexts.ended
+names_plain (label ∷ labels) octets =
+    subst ArePlainTexts (sym (shown_more label labels))
+    (ArePlainTexts.dotted (shown_label label) (shown_name labels) (shown_plain label octets.0) (names_plain labels octets.1))
+
+-- the first label of a text
+record First (text : List ℕ) (labels : List (List ℕ)) : Type 0 where
+  spelled : List ℕ
+  octets : List ℕ
+  more : List ℕ
+  others : List (List ℕ)
+  text_is : text ≡ spelled ++ 46 ∷ more
+  labels_are : labels ≡ octets ∷ others
+  spells : Spells spelled octets
+  behind : SpellsLabels more others
+
+first_of : (text : List ℕ) (labels : List (List ℕ)) → SpellsLabels text labels → ((text ≡ []) × (labels ≡ [])) ⊎ First text labels
+first_of text labels SpellsLabels.ended = inl (refl, refl)
+first_of text labels (SpellsLabels.dotted spelled octets more others spells behind) =
+    inr (record { spelled = spelled; octets = octets; more = more; others = others; text_is = refl; labels_are = refl; spells = spells; behind = behind })
+
+pub names_shown : (text : List ℕ) (labels : List (List ℕ)) → ArePlainTexts text → SpellsLabels text labels → text ≡ shown_name labels
+names_shown text labels ArePlainTexts.ended spells =
+    elim (first_of [] labels spells) [
+      | inl none ↦ ap shown_name (sym none.1)
+      | inr first ↦ absurd (omega (arith, ap length first.text_is, length-append first.spelled (46 ∷ first.more)))
+    ]
+names_shown text labels (ArePlainTexts.dotted spelled more plain behind) spells =
+    elim (first_of (spelled ++ 46 ∷ more) labels spells) [
+      | inl none ↦ absurd (omega (arith, ap length none.0, length-append spelled (46 ∷ more)))
+      | inr first ↦
+          let p = plain_printed spelled plain in
+          let same = spelled_apart spelled first.spelled p.contents first.octets (46 ∷ more) (46 ∷ first.more) first.text_is p.spells first.spells dot_foreign dot_foreign in
+          let left : more ≡ first.more = let h = same.1 in cc in
+          ap (λ (l : List ℕ). l ++ 46 ∷ more) (p.text_is ∙ ap shown_label same.0)
+          ∙ ap (λ (l : List ℕ). shown_label first.octets ++ 46 ∷ l) (names_shown more first.others behind (subst (λ (l : List ℕ). SpellsLabels l first.others) (sym left) first.behind))
+          ∙ sym (shown_more first.octets first.others)
+          ∙ ap shown_name (sym first.labels_are)
+    ]
