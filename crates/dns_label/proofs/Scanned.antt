@@ -11,9 +11,11 @@ use Rattle.dns_wire.proofs.Spelled.{chosen}
 use Rattle.dns_wire.specs.Reading.{AreOctets}
 use Rattle.dns_label.specs.Labels.{IsShort}
 use Rattle.dns_label.specs.declared.text_error.LabelParseError.{LabelParseError}
+use Rattle.dns_label.specs.declared.text_error.LabelParseError.TheVariants as parse_errors
+use Rattle.dns_label.specs.declared.text_error.LabelSplitError.TheVariants.{InvalidChar}
 use Rattle.dns_label.specs.declared.text_error.LabelSplitError.{LabelSplitError}
 use Rattle.dns_label.specs.declared.text_error.ScanFault.{ScanFault}
-use Rattle.dns_label.specs.declared.text_error.ScanFault.TheVariants.{Overlong}
+use Rattle.dns_label.specs.declared.text_error.ScanFault.TheVariants.{Overlong, CutEscape, WrongEscape}
 use Rattle.dns_label.specs.Text.{is_plain, shown_octet, shown_label, three_digits, in_digits, escaped, next_octet, with_octet, then_octets, octets_within, label_scan, parse_error, front_label, whole_text, parsed_label, front_of_text, split_label, IsForeign, EndsLabel, Spells, IsPlainText}
 
 -- ---- the next octet
@@ -488,3 +490,23 @@ split_takes text contents rest e =
 
 pub split_again : (text contents rest : List ℕ) (octet : ℕ) → Spells text contents → IsShort contents → IsForeign octet → split_label (text ++ octet ∷ rest) ≡ Ok (contents, octet ∷ rest)
 split_again text contents rest octet spells short foreign = ap front_of_text (scan_again text contents (octet ∷ rest) spells short foreign)
+
+-- a text that may go on is never refused for an octet that no text of a label has, and no front of one is
+front_never_invalid : (read : Read) → front_of_text read ≢ Err InvalidChar
+front_never_invalid (Ok (found, [])) e = cc
+front_never_invalid (Ok (found, octet ∷ rest)) e = cc
+front_never_invalid (Err Overlong) e = cc
+front_never_invalid (Err CutEscape) e = cc
+front_never_invalid (Err WrongEscape) e = cc
+
+pub split_never : (text : List ℕ) → split_label text ≢ Err InvalidChar
+split_never text = front_never_invalid (label_scan text)
+
+mapped_never : (read : Read) → ◌≢◌ {A = Result (List ℕ × List ℕ) LabelParseError} (result_map_both (λ front. front) parse_error read) (Err parse_errors.InvalidChar)
+mapped_never (Ok front) e = cc
+mapped_never (Err Overlong) e = cc
+mapped_never (Err CutEscape) e = cc
+mapped_never (Err WrongEscape) e = cc
+
+pub front_never : (text : List ℕ) → front_label text ≢ Err parse_errors.InvalidChar
+front_never text = mapped_never (label_scan text)

@@ -11,11 +11,13 @@ use Rattle.dns_wire.proofs.Spelled.{chosen}
 use Rattle.dns_wire.proofs.Walk.{heads-append, wire_long}
 use Rattle.dns_label.specs.Text.{is_plain, shown_label, front_label, IsForeign, EndsLabel, Spells}
 use Rattle.dns_label.specs.declared.text_error.LabelParseError.{LabelParseError}
-use Rattle.dns_label.proofs.Scanned.{Takes, front_takes, front_again, spelled_apart, shown_spells, shown_plain, plain_printed}
+use Rattle.dns_label.specs.declared.text_error.LabelParseError.TheVariants as label_errors
+use Rattle.dns_label.proofs.Scanned.{Takes, front_takes, front_again, front_never, spelled_apart, shown_spells, shown_plain, plain_printed}
 use Rattle.dns_name.specs.declared.text_error.NameParseError.{NameParseError}
 use Rattle.dns_name.specs.declared.text_error.NameParseError.TheVariants as errors
 use Rattle.dns_name.specs.declared.text_error.NameSplitError.{NameSplitError}
-use Rattle.dns_name.specs.Text.{shown_name, of_label, fits, Parts, label_front, after_label, parts_within, name_scan, at_end, whole_text, parsed_name, at_octet, front_of_text, split_name, NoDot, EndsName, SpellsLabels, ArePlainTexts}
+use Rattle.dns_name.specs.declared.text_error.NameSplitError.TheVariants as split_errors
+use Rattle.dns_name.specs.Text.{shown_name, of_label, of_front, fits, Parts, label_front, after_label, parts_within, name_scan, at_end, whole_text, parsed_name, at_octet, front_of_text, split_name, NoDot, EndsName, SpellsLabels, ArePlainTexts}
 
 abbrev pub Label : Type 0
 Label = Result (List ℕ × List ℕ) NameParseError
@@ -385,3 +387,70 @@ names_shown text labels (ArePlainTexts.dotted spelled more plain behind) spells 
           ∙ sym (shown_more first.octets first.others)
           ∙ ap shown_name (sym first.labels_are)
     ]
+
+-- ---- no front of a text is refused for an octet that no text of a name has
+
+of_label_invalid : (error : LabelParseError) → of_label error ≡ errors.InvalidChar → error ≡ label_errors.InvalidChar
+of_label_invalid label_errors.Overlong e = absurd cc
+of_label_invalid label_errors.InvalidChar e = refl
+of_label_invalid label_errors.PartialEscape e = absurd cc
+of_label_invalid label_errors.InvalidEscape e = absurd cc
+
+mapped_never : (read : Result (List ℕ × List ℕ) LabelParseError) → read ≢ Err label_errors.InvalidChar → ◌≢◌ {A = Label} (result_map_both (λ front. front) of_label read) (Err errors.InvalidChar)
+mapped_never (Ok front) never e = cc
+mapped_never (Err error) never e = never (ap Err (of_label_invalid error (let h : of_label error ≡ errors.InvalidChar = cc in h)))
+
+label_never : (more : List (List ℕ) → List ℕ → Read) (before : List (List ℕ)) (text : List ℕ) (read : Label) → ((longer : List (List ℕ)) (next : List ℕ) → length next < length text → more longer next ≢ Err errors.InvalidChar) → label_front text ≡ read → after_label more before read ≢ Err errors.InvalidChar
+label_never more before text (Err error) later is e = mapped_never (front_label text) (front_never text) (is ∙ e_as_label) where
+  e_as_label : ◌≡◌ {A = Label} (Err error) (Err errors.InvalidChar)
+  e_as_label = ap Err (let h : error ≡ errors.InvalidChar = cc in h)
+label_never more before text (Ok (found, [])) later is e = cc
+label_never more before text (Ok (found, octet ∷ next)) later is e =
+    elim (chosen (octet == 46) _ _ _ e) [
+      | inr other ↦ let h = other.1 in cc
+      | inl dot ↦
+          elim (chosen (fits before found) _ _ _ dot.1) [
+            | inr over ↦ let h = over.1 in cc
+            | inl fine ↦
+                elim (chosen (length found == 0) _ _ _ fine.1) [
+                  | inl none ↦ let h = none.1 in cc
+                  | inr some ↦ later (before ++ found ∷ []) next (omega (arith, label_shorter text found (octet ∷ next) is)) some.1
+                ]
+          ]
+    ]
+
+within_never : (steps : ℕ) (before : List (List ℕ)) (text : List ℕ) → length text < steps → parts_within steps before text ≢ Err errors.InvalidChar
+unfolding parts_within
+within_never zero before text enough e = absurd (omega arith)
+within_never (suc steps) before text enough e =
+    label_never (λ longer next. parts_within steps longer next) before text (label_front text)
+    (λ longer next shorter. within_never steps longer next (omega arith)) refl e
+
+scan_never : (text : List ℕ) → name_scan text ≢ Err errors.InvalidChar
+unfolding name_scan
+scan_never text = within_never (suc (length text)) [] text (omega arith)
+
+of_front_invalid : (error : NameParseError) → of_front error ≡ split_errors.InvalidChar → error ≡ errors.InvalidChar
+of_front_invalid errors.Overlong e = absurd cc
+of_front_invalid errors.Relative e = absurd cc
+of_front_invalid errors.EmptyLabel e = absurd cc
+of_front_invalid errors.OverlongLabel e = absurd cc
+of_front_invalid errors.InvalidChar e = refl
+of_front_invalid errors.PartialEscape e = absurd cc
+of_front_invalid errors.InvalidEscape e = absurd cc
+
+at_octet_never : (labels : List (List ℕ)) (label rest : List ℕ) → at_octet labels label rest ≢ Err split_errors.InvalidChar
+at_octet_never labels [] rest e = cc
+at_octet_never labels (octet ∷ others) rest e = cc
+
+front_of_never : (read : Read) → read ≢ Err errors.InvalidChar → front_of_text read ≢ Err split_errors.InvalidChar
+front_of_never (Err error) never e = never (ap Err (of_front_invalid error (let h : of_front error ≡ split_errors.InvalidChar = cc in h)))
+front_of_never (Ok (found, (label, []))) never e = cc
+front_of_never (Ok (found, (label, octet ∷ left))) never e =
+    elim (chosen (fits found label) _ _ _ e) [
+      | inl fine ↦ at_octet_never found label (octet ∷ left) fine.1
+      | inr over ↦ let h = over.1 in cc
+    ]
+
+pub split_never : (text : List ℕ) → split_name text ≢ Err split_errors.InvalidChar
+split_never text = front_of_never (name_scan text) (scan_never text)

@@ -7,11 +7,12 @@ ghost use Rattle.serde_json.specs.Find.{as_str};
 ghost use Rattle.dns_wire.specs.Names.{IsName};
 ghost use Rattle.dns_wire.specs.Reading.{AreOctets};
 ghost use Rattle.dns_name.specs.Json.{name_of_string};
+ghost use Rattle.dns_name.specs.declared.text_error.NameSplitError.TheVariants.{InvalidChar};
 ghost use Rattle.dns_name.specs.Text.{ArePlainTexts, EndsName, SpellsLabels, parsed_name, shown_name, split_name};
 
 /// A text is read as a name exactly where it spells the name's labels with a dot behind each, and they are a
 /// name. At the front of a text a name is read exactly where such a text stands there, and an octet follows
-/// that no text of a name has.
+/// that no text of a name has, so that `InvalidChar` never comes.
 pub fn name_texts()
     ensures parsed { (text : List ℕ) (labels : List (List ℕ)) →
         (parsed_name text ≡ Ok labels) ↔ (SpellsLabels text labels × IsName labels) }
@@ -19,6 +20,7 @@ pub fn name_texts()
         (front : List ℕ) × (text ≡ front ++ rest) × SpellsLabels front labels × IsName labels × (rest ≢ []) × EndsName rest }
     ensures front { (text rest : List ℕ) (labels : List (List ℕ)) → SpellsLabels text labels → IsName labels → rest ≢ [] → EndsName rest →
         split_name (text ++ rest) ≡ Ok (labels, rest) }
+    ensures never { (text : List ℕ) → split_name text ≢ Err InvalidChar }
 {}
 
 /// What is printed of a name is read as that name, the root's empty text too: by itself, in front of an octet

@@ -1,4 +1,4 @@
-use Rattle.dns_label.proofs.Scanned.{parsed_takes, parsed_again, split_takes, split_again}
+use Rattle.dns_label.proofs.Scanned.{parsed_takes, parsed_again, split_takes, split_again, split_never}
 use Rattle.dns_label.proofs.text_laws.label_texts.Goals as goal
 
 pub returns-clause-parsed : goal.returns-clause-parsed
@@ -9,3 +9,6 @@ returns-clause-split c = split_takes
 
 pub returns-clause-front : goal.returns-clause-front
 returns-clause-front c = split_again
+
+pub returns-clause-never : goal.returns-clause-never
+returns-clause-never c = split_never
