@@ -8,6 +8,7 @@ pub mod CodeTexts
 pub mod Data
 pub mod FieldOrder
 pub mod Fields
+pub mod InMessage
 pub mod InPlace
 pub mod Kinds
 pub mod Left
@@ -18,6 +19,7 @@ pub mod Rows
 pub mod Seen
 pub mod Serials
 pub mod Texts
+pub mod Told
 pub mod Types
 pub mod Unparsed
 pub mod Whole

@@ -4,14 +4,15 @@ ghost use Rattle.dns_record.specs.Left.{question_leaves, question_ends};
 ghost use Rattle.std.specs.Prelude.{◌≡◌, [], ◌++◌, length};
 ghost use Rattle.std.specs.Int.{w16, to_be_bytes};
 ghost use Rattle.std.specs.Fn.{FnOnceTakesAt, FnOnceReturnsAt};
+ghost use Rattle.dns_record.specs.InMessage.{question_presses};
 ghost use Rattle.dns_record.specs.Questions.{QuestionOf, question_at, question_in};
 ghost use Rattle.dns_record.specs.Seen.{question_seen};
 
 use crate::qclass::QClass;
 use crate::qtype::QType;
 use dns_wire::{
-    BuildBytes, ParseBytes, ParseError, ParseMessageBytes, SplitBytes, SplitMessageBytes,
-    TruncationError, whole, whole_message,
+    BuildBytes, BuildInMessage, NameCompressor, ParseBytes, ParseError, ParseMessageBytes,
+    SplitBytes, SplitMessageBytes, TruncationError, whole, whole_message,
 };
 
 /// A question of a message: a name, a type and a class (RFC 1035 section 4.1.2).
@@ -132,5 +133,24 @@ impl<N: BuildBytes> BuildBytes for Question<N> {
 
     fn built_bytes_size(&self) -> usize {
         self.qname.built_bytes_size() + 4
+    }
+}
+
+/// The name as its type writes it in a message, and behind it the type and the class.
+impl<N: BuildInMessage> BuildInMessage for Question<N> {
+    ghost presses = { λ v. question_presses (N.presses v.qname) v.qtype.code.value v.qclass.code.value };
+
+    ghost fits_in = { λ v. N.fits_in v.qname };
+
+    ghost told = { λ _. tt };
+
+    fn build_in_message(
+        &self,
+        contents: &mut [u8],
+        start: usize,
+        compressor: &mut NameCompressor,
+    ) -> Result<usize, TruncationError> {
+        let codes = (&self.qtype, &self.qclass);
+        (&self.qname, codes).build_in_message(contents, start, compressor)
     }
 }

@@ -4,6 +4,7 @@ ghost use Rattle.dns_record.specs.Left.{record_leaves, record_ends};
 ghost use Rattle.std.specs.Prelude.{◌≡◌, ◌≤◌, ◌<◌, ◌^◌, [], length, IfOk};
 ghost use Rattle.std.specs.Fn.{FnOnceTakesAt, FnOnceReturnsAt};
 ghost use Rattle.dns_wire.specs.Reading.{Gives};
+ghost use Rattle.dns_record.specs.InMessage.{record_numbers, record_presses, record_fits};
 ghost use Rattle.dns_record.specs.Records.{RecordOf, record_at, record_in, record_octets, SizedData, SizedDataIn};
 ghost use Rattle.dns_record.specs.Seen.{record_seen};
 
@@ -13,8 +14,8 @@ use crate::rtype::RType;
 use crate::ttl::TTL;
 use dns_num::{SizePrefixed, U16};
 use dns_wire::{
-    BuildBytes, ParseBytes, ParseError, ParseMessageBytes, SplitBytes, SplitMessageBytes,
-    TruncationError, split_octets, whole, whole_message,
+    BuildBytes, BuildInMessage, NameCompressor, ParseBytes, ParseError, ParseMessageBytes,
+    SplitBytes, SplitMessageBytes, TruncationError, split_octets, whole, whole_message,
 };
 
 /// A record: an owner, a type, a class, a time to live, and data (RFC 1035 section 4.1.3).
@@ -190,5 +191,25 @@ impl<N: BuildBytes, D: BuildBytes> BuildBytes for Record<N, D> {
 
     fn built_bytes_size(&self) -> usize {
         self.rname.built_bytes_size() + (10 + self.rdata.built_bytes_size())
+    }
+}
+
+/// The owner and the data as their types write them in a message. The data are at most 65,535 octets there.
+impl<N: BuildInMessage, D: BuildInMessage> BuildInMessage for Record<N, D> {
+    ghost presses = { λ v. record_presses (N.presses v.rname) (record_numbers v.rtype.code.value v.rclass.code.value v.ttl.value.value) (D.presses v.rdata) };
+
+    ghost fits_in = { λ v. record_fits (N.fits_in v.rname) (N.presses v.rname) (record_numbers v.rtype.code.value v.rclass.code.value v.ttl.value.value) (D.fits_in v.rdata) (D.presses v.rdata) };
+
+    ghost told = { λ _. tt };
+
+    fn build_in_message(
+        &self,
+        contents: &mut [u8],
+        start: usize,
+        compressor: &mut NameCompressor,
+    ) -> Result<usize, TruncationError> {
+        let numbers = (&self.rtype, (&self.rclass, &self.ttl));
+        let data = SizePrefixed::<U16, _>::new(&self.rdata);
+        (&self.rname, (numbers, data)).build_in_message(contents, start, compressor)
     }
 }

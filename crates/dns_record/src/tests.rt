@@ -1,5 +1,7 @@
 //! Each public call once, the numbers at which answers change, and each generic call at a concrete type.
 
+mod in_message;
+
 use crate::{
     CanonicalRecordData, ParseRecordData, ParseRecordDataBytes, QClass, QType, Question, RClass,
     RType, Record, Serial, TTL, UnparsedRecordData, items_in_words, whole_data_are_short,
