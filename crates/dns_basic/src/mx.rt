@@ -9,10 +9,12 @@ ghost use Rattle.dns_wire.specs.Names.{wire};
 ghost use Rattle.dns_wire.specs.Reading.{Gives, all_of, all_at};
 ghost use Rattle.dns_record.specs.Canonical.{ranked_cmp};
 ghost use Rattle.dns_record.specs.Fields.{FieldOf, named_by, canonical_octets};
+ghost use Rattle.dns_record.specs.InMessage.{fields_press, fields_fit, fields_tell};
 ghost use Rattle.dns_record.specs.Kinds.{fields_of, fields_in};
 ghost use Rattle.dns_record.specs.Kinds.Kind.{OneNumber, Pointed};
 ghost use Rattle.dns_record.specs.Left.{fields_leave, fields_end};
 ghost use Rattle.dns_record.specs.Rows.{row};
+ghost use Rattle.dns_record.specs.Told.{told_fields};
 ghost use Rattle.dns_record.proofs.Sizes.{canonical_long};
 ghost use Rattle.dns_basic.specs.Types.{mx_fields};
 
@@ -20,8 +22,8 @@ use dns_name::{CanonicalName, Lowercased};
 use dns_num::U16;
 use dns_record::{CanonicalRecordData, DataOfType, RType};
 use dns_wire::{
-    BuildBytes, ParseError, ParseName, ReadMessageValue, ReadValue, SplitBytes, SplitMessageBytes,
-    TruncationError,
+    BuildBytes, BuildInMessage, NameCompressor, ParseError, ParseName, ReadMessageValue, ReadValue,
+    SplitBytes, SplitMessageBytes, TruncationError,
 };
 use std::cmp::Ordering;
 
@@ -115,6 +117,26 @@ impl<N: BuildBytes> BuildBytes for Mx<N> {
 
     fn built_bytes_size(&self) -> usize {
         self.exchange.built_bytes_size() + 2
+    }
+}
+
+/// The name as its type writes it in a message, all else whole.
+impl<N: BuildInMessage> BuildInMessage for Mx<N> {
+    ghost presses = { λ v. fields_press N.presses (mx_fields v) };
+
+    ghost fits_in = { λ v. fields_fit N.fits_in N.presses (mx_fields v) };
+
+    ghost pieces = { λ v. fields_tell N.pieces (mx_fields v) };
+
+    ghost told = { λ v. told_fields N.presses N.pieces N.told (mx_fields v) };
+
+    fn build_in_message(
+        &self,
+        contents: &mut [u8],
+        start: usize,
+        compressor: &mut NameCompressor,
+    ) -> Result<usize, TruncationError> {
+        (&self.preference, (&self.exchange, ())).build_in_message(contents, start, compressor)
     }
 }
 

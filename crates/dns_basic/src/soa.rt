@@ -8,10 +8,12 @@ ghost use Rattle.dns_wire.specs.Reading.{Gives, all_of, all_at};
 ghost use Rattle.dns_wire.specs.Names.{wire};
 ghost use Rattle.dns_record.specs.Canonical.{ranked_cmp};
 ghost use Rattle.dns_record.specs.Fields.{FieldOf, named_by, canonical_octets};
+ghost use Rattle.dns_record.specs.InMessage.{fields_press, fields_fit, fields_tell};
 ghost use Rattle.dns_record.specs.Kinds.{fields_of, fields_in};
 ghost use Rattle.dns_record.specs.Kinds.Kind.{OneNumber, Pointed};
 ghost use Rattle.dns_record.specs.Left.{fields_leave, fields_end};
 ghost use Rattle.dns_record.specs.Rows.{row};
+ghost use Rattle.dns_record.specs.Told.{told_fields};
 ghost use Rattle.dns_record.proofs.Sizes.{canonical_long};
 ghost use Rattle.dns_basic.specs.Calls.{TakesNextAt};
 ghost use Rattle.dns_basic.specs.Types.{soa_fields};
@@ -21,8 +23,8 @@ use dns_name::{CanonicalName, Lowercased};
 use dns_num::U32;
 use dns_record::{CanonicalRecordData, DataOfType, RType, Serial};
 use dns_wire::{
-    BuildBytes, ParseError, ParseName, ReadMessageValue, ReadValue, SplitBytes, SplitMessageBytes,
-    TruncationError,
+    BuildBytes, BuildInMessage, NameCompressor, ParseError, ParseName, ReadMessageValue, ReadValue,
+    SplitBytes, SplitMessageBytes, TruncationError,
 };
 use std::cmp::Ordering;
 
@@ -164,6 +166,28 @@ impl<N: BuildBytes> BuildBytes for Soa<N> {
 
     fn built_bytes_size(&self) -> usize {
         self.mname.built_bytes_size() + self.rname.built_bytes_size() + 20
+    }
+}
+
+/// The names as their type writes them in a message, all else whole.
+impl<N: BuildInMessage> BuildInMessage for Soa<N> {
+    ghost presses = { λ v. fields_press N.presses (soa_fields v) };
+
+    ghost fits_in = { λ v. fields_fit N.fits_in N.presses (soa_fields v) };
+
+    ghost pieces = { λ v. fields_tell N.pieces (soa_fields v) };
+
+    ghost told = { λ v. told_fields N.presses N.pieces N.told (soa_fields v) };
+
+    fn build_in_message(
+        &self,
+        contents: &mut [u8],
+        start: usize,
+        compressor: &mut NameCompressor,
+    ) -> Result<usize, TruncationError> {
+        let limits = (&self.expire, (&self.minimum, ()));
+        let numbers = (&self.serial, (&self.refresh, (&self.retry, limits)));
+        (&self.mname, (&self.rname, numbers)).build_in_message(contents, start, compressor)
     }
 }
 

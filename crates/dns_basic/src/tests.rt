@@ -7,6 +7,7 @@
 //! 4.1.4).
 
 mod canonical;
+mod in_message;
 mod maps;
 
 use crate::{CName, Mx, Ns, Ptr, Rp, Soa};
