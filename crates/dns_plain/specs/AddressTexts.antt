@@ -40,6 +40,7 @@ IsHexText text groups = (IsGroups false text groups × (length groups ≡ 8)) �
 abbrev pub SpellsIpv6 : List ℕ → Aaaa → Type 0
 SpellsIpv6 text v = IsHexText text (segments_of v.octets)
 
--- groups in small letters without leading zeros, the first of the longest runs of at least two groups of zero as `::`
+-- Hexadecimal digits in small letters, with no zero in front of a group. Where two groups of zero or more stand together, `::` stands
+-- for the longest such run, and for the first of those as long.
 abbrev pub ipv6_text : Aaaa → List ℕ
 ipv6_text v = Net.hex_groups_text (segments_of v.octets)

@@ -139,8 +139,8 @@ impl CanonicalRecordData for Aaaa {
 impl fmt::Display for Aaaa {
     ghost output = { λ v. Some (ipv6_text v) };
 
-    /// Groups of hexadecimal digits in small letters without leading zeros, the first of the longest runs of at
-    /// least two groups of zero as `::` (RFC 5952 section 4).
+    /// Hexadecimal digits in small letters, with no zero in front of a group. `::` stands for the longest run of two
+    /// groups of zero or more, and for the first of those as long (RFC 5952 section 4).
     fn fmt<W: fmt::Write>(&self, f: &mut fmt::Formatter<W>) -> fmt::Result {
         fmt::Display::fmt(&Ipv6Addr::from(self.octets).hex_groups(), f)
     }
