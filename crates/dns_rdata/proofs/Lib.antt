@@ -3,3 +3,4 @@ pub mod Alike
 pub mod Canonical
 pub mod Forms
 pub mod Plain
+pub mod Pressed

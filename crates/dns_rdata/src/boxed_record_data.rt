@@ -14,7 +14,7 @@ use crate::laws::{data_of_any_type_are_equal_by_fields, data_of_any_type_are_has
 use crate::record_data::RecordData;
 use dns_name::Name;
 use dns_record::{CanonicalRecordData, ParseRecordDataBytes, RType};
-use dns_wire::{BuildBytes, TruncationError, put};
+use dns_wire::{BuildBytes, BuildInMessage, NameCompressor, TruncationError, put};
 use std::alloc::{AllocError, Global};
 use std::cmp::Ordering;
 use std::hash::{Hash, Hasher};
@@ -146,6 +146,32 @@ impl BuildBytes for BoxedRecordData {
 
     fn built_bytes_size(&self) -> usize {
         self.bytes().len()
+    }
+}
+
+/// As the data that the octets spell: names that pointers may lead through are shared, though they are kept whole.
+impl BuildInMessage for BoxedRecordData {
+    ghost use Rattle.std.specs.Prelude.{[], ◌∷◌};
+    ghost use Rattle.dns_wire.specs.Compression.{name_presses};
+    ghost use Rattle.dns_wire.specs.Pieces.Piece.{Pressed};
+    ghost use Rattle.dns_wire.specs.Told.{told_piece};
+    ghost use Rattle.dns_record.specs.InMessage.{fields_press, fields_tell};
+    ghost use Rattle.dns_record.specs.Told.{told_fields};
+    ghost use Rattle.dns_rdata.specs.Boxed.{spelled};
+
+    ghost presses = { λ v. fields_press name_presses (spelled v.rtype.code.value v.octets.items) };
+
+    ghost pieces = { λ v. fields_tell (λ labels. Some (Pressed labels ∷ [])) (spelled v.rtype.code.value v.octets.items) };
+
+    ghost told = { λ v. told_fields name_presses (λ labels. Some (Pressed labels ∷ [])) (λ labels. told_piece (Pressed labels)) (spelled v.rtype.code.value v.octets.items) };
+
+    fn build_in_message(
+        &self,
+        contents: &mut [u8],
+        start: usize,
+        compressor: &mut NameCompressor,
+    ) -> Result<usize, TruncationError> {
+        self.get().build_in_message(contents, start, compressor)
     }
 }
 

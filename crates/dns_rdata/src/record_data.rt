@@ -8,8 +8,10 @@ ghost use Rattle.std.specs.Ordering.{nat_cmp};
 ghost use Rattle.dns_record.specs.Canonical.{ranked_cmp};
 ghost use Rattle.dns_record.specs.Data.{data_as, data_in};
 ghost use Rattle.dns_record.specs.Fields.{FieldOf, named_by, canonical_octets};
+ghost use Rattle.dns_record.specs.InMessage.{fields_press, fields_fit, fields_tell};
 ghost use Rattle.dns_rdata.specs.Written.{as_many};
 ghost use Rattle.dns_record.specs.Rows.{has_row};
+ghost use Rattle.dns_record.specs.Told.{told_fields};
 ghost use Rattle.std.specs.Fn.{CalledAt, TakesAt};
 ghost use Rattle.dns_rdata.specs.Mapping.{TakesNames, HoldsGiven};
 ghost use Rattle.dns_rdata.specs.Data.{data_fields, type_number, IsProper, IsDataOf, NamesFit, written_fields};
@@ -23,8 +25,8 @@ use dns_plain::{A, Aaaa, DName, HInfo, Srv, Txt};
 use dns_record::{CanonicalRecordData, ParseRecordData, ParseRecordDataBytes, RType};
 use dns_sec::{DNSKey, Ds, Rrsig, ZoneMD};
 use dns_wire::{
-    BuildBytes, ParseBytes, ParseError, ParseMessageBytes, ParseName, SplitMessageBytes,
-    TruncationError,
+    BuildBytes, BuildInMessage, NameCompressor, ParseBytes, ParseError, ParseMessageBytes,
+    ParseName, SplitMessageBytes, TruncationError,
 };
 use std::cmp::Ordering;
 
@@ -339,6 +341,48 @@ impl<N: BuildBytes> BuildBytes for RecordData<'_, N> {
             RecordData::Nsec3Param(v) => v.built_bytes_size(),
             RecordData::ZoneMD(v) => v.built_bytes_size(),
             RecordData::Unknown(_, v) => v.built_bytes_size(),
+        }
+    }
+}
+
+/// Names that pointers may lead through as their type writes them in a message, all else whole.
+impl<N: BuildInMessage> BuildInMessage for RecordData<'_, N> {
+    ghost presses = { λ v. fields_press N.presses (data_fields v) };
+
+    ghost fits_in = { λ v. fields_fit N.fits_in N.presses (data_fields v) };
+
+    ghost pieces = { λ v. fields_tell N.pieces (data_fields v) };
+
+    ghost told = { λ v. told_fields N.presses N.pieces N.told (data_fields v) };
+
+    fn build_in_message(
+        &self,
+        contents: &mut [u8],
+        start: usize,
+        compressor: &mut NameCompressor,
+    ) -> Result<usize, TruncationError> {
+        match self {
+            RecordData::A(v) => v.build_in_message(contents, start, compressor),
+            RecordData::Ns(v) => v.build_in_message(contents, start, compressor),
+            RecordData::CName(v) => v.build_in_message(contents, start, compressor),
+            RecordData::Soa(v) => v.build_in_message(contents, start, compressor),
+            RecordData::Ptr(v) => v.build_in_message(contents, start, compressor),
+            RecordData::HInfo(v) => v.build_in_message(contents, start, compressor),
+            RecordData::Mx(v) => v.build_in_message(contents, start, compressor),
+            RecordData::Txt(v) => v.build_in_message(contents, start, compressor),
+            RecordData::Rp(v) => v.build_in_message(contents, start, compressor),
+            RecordData::Srv(v) => v.build_in_message(contents, start, compressor),
+            RecordData::Aaaa(v) => v.build_in_message(contents, start, compressor),
+            RecordData::DName(v) => v.build_in_message(contents, start, compressor),
+            RecordData::Opt(v) => v.build_in_message(contents, start, compressor),
+            RecordData::Ds(v) => v.build_in_message(contents, start, compressor),
+            RecordData::Rrsig(v) => v.build_in_message(contents, start, compressor),
+            RecordData::Nsec(v) => v.build_in_message(contents, start, compressor),
+            RecordData::DNSKey(v) => v.build_in_message(contents, start, compressor),
+            RecordData::Nsec3(v) => v.build_in_message(contents, start, compressor),
+            RecordData::Nsec3Param(v) => v.build_in_message(contents, start, compressor),
+            RecordData::ZoneMD(v) => v.build_in_message(contents, start, compressor),
+            RecordData::Unknown(_, v) => v.build_in_message(contents, start, compressor),
         }
     }
 }

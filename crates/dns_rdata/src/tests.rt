@@ -5,6 +5,7 @@ ghost use Rattle.dns_rdata.specs.Data.{IsProper};
 
 mod boxed;
 mod edns;
+mod in_message;
 mod mapping;
 
 use crate::{RecordData, UnknownRecordData, old_new};

@@ -132,19 +132,17 @@ fn keeps_places_in_reach(rt: HostRuntime) -> Result<(), Fail> {
 
 /// Names from the root on are written as those with their first label in front are.
 #[test]
-fn shares_names_from_the_root_on(rt: HostRuntime) -> Result<(), Fail> {
-    let mut contents = [0; 107];
+fn two_names_from_the_root_on(rt: HostRuntime) -> Result<(), Fail> {
+    let mut contents = [0; 23];
     let mut compressor = NameCompressor::new();
-    let mut start = 0;
-    for (octets, end) in NAMES {
-        let name = RevNameBuf::parse_bytes(octets)?;
-        start = name
-            .as_revname()
-            .build_in_message(&mut contents, start, &mut compressor)?;
-        assert_eq!(rt; start, end);
-    }
-    assert_eq!(rt; contents, CONTENTS);
-    assert_eq!(rt; compressor.places(), PLACES.as_slice());
+    let name = RevNameBuf::parse_bytes(b"\x07example\x03org\0")?;
+    let view = name.as_revname();
+    let end = view.build_in_message(&mut contents, 0, &mut compressor)?;
+    let name = RevNameBuf::parse_bytes(b"\x07unequal\x03ORG\0")?;
+    let end = name.build_in_message(&mut contents, end, &mut compressor)?;
+    assert_eq!(rt; end, 23);
+    assert_eq!(rt; contents, *b"\x07example\x03org\0\x07unequal\xc0\x14");
+    assert_eq!(rt; compressor.places(), [0, 8, 13].as_slice());
     Ok(())
 }
 
@@ -156,11 +154,12 @@ fn one_name_twice(rt: HostRuntime) -> Result<(), Fail> {
     let end = name.build_in_message(&mut contents, 0, &mut compressor)?;
     assert_eq!(rt; end, 5);
     assert_eq!(rt; compressor.places(), [0, 2].as_slice());
-    let refused = name.build_in_message(&mut contents[..6], end, &mut compressor);
-    assert_eq!(rt; refused, Err(TruncationError));
     let end = name.build_in_message(&mut contents, end, &mut compressor)?;
     assert_eq!(rt; end, 7);
     assert_eq!(rt; contents, *b"\x01a\x01b\0\xc0\x0c");
+    assert_eq!(rt; compressor.places(), [0, 2].as_slice());
+    let refused = name.build_in_message(&mut contents, end, &mut compressor);
+    assert_eq!(rt; refused, Err(TruncationError));
     assert_eq!(rt; compressor.places(), [0, 2].as_slice());
     Ok(())
 }
