@@ -1,5 +1,7 @@
 -- The crate's own lemmas.
 pub mod Counting
+pub mod Drafts
+pub mod Extended
 pub mod Headed
 pub mod Octets
 pub mod Often
@@ -8,6 +10,7 @@ pub mod Ordering
 pub mod Parsed
 pub mod Phrased
 pub mod Placed
+pub mod Pushed
 pub mod Sameness
 pub mod Slots
 pub mod Sound

@@ -1,4 +1,5 @@
 -- Messages, canonical octets and the canonical list.
+pub mod Building
 pub mod Canonical
 pub mod Counted
 pub mod Headers

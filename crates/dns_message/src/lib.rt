@@ -1,12 +1,20 @@
 //! Messages: what is read in them, and the canonical form and order of their records.
 #![tactic(auto)]
 
+mod build_error;
+mod build_laws;
+mod builder;
 mod header;
 mod item;
 mod laws;
 mod message;
 mod parser;
 
+pub use build_error::MessageBuildError;
+pub use build_laws::{
+    new_messages_are_empty, octets_behind_items, pushes_add_an_item, pushes_count_one_more,
+};
+pub use builder::MessageBuilder;
 pub use header::{Header, HeaderFlags, SectionCounts};
 pub use item::{MessageItem, ParsedMessageItem};
 pub use laws::{

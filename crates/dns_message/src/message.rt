@@ -10,7 +10,7 @@ use dns_num::U16;
 use dns_wire::{ParseBytes, ParseError};
 
 /// How many octets a header has (RFC 1035 section 4.1.1).
-const HEADER_SIZE: usize = 12;
+pub(crate) const HEADER_SIZE: usize = 12;
 
 /// A message: its header, and the contents behind it (RFC 1035 section 4.1). Whether its items can be read is not yet known.
 #[derive(Clone, Copy, Debug)]

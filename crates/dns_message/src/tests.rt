@@ -1,11 +1,13 @@
 //! Each law is called once.
 
+mod builder;
 mod parser;
 
 use crate::{
     canonical_lists, canonical_octets_are_read_back, canonical_records_are_split_back,
     canonical_texts, counted_items, equal_canonical_octets, equal_outputs, items_in_words,
-    order_of_records, parsers_read_messages, readings_in_words,
+    new_messages_are_empty, octets_behind_items, order_of_records, parsers_read_messages,
+    pushes_add_an_item, pushes_count_one_more, readings_in_words,
     records_that_are_read_are_well_formed, same_records, three_kinds_of_messages,
 };
 use dns_basic::CName;
@@ -31,6 +33,10 @@ fn laws_are_called(_rt: HostRuntime) -> Result<(), Fail> {
     equal_outputs();
     canonical_texts();
     parsers_read_messages();
+    octets_behind_items();
+    new_messages_are_empty();
+    pushes_count_one_more();
+    pushes_add_an_item();
     Ok(())
 }
 

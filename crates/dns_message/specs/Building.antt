@@ -1,0 +1,94 @@
+-- A message that is built item by item: what is seen of it, and what a push answers and leaves.
+use Rattle.std.specs.Prelude.{◌≡◌, ℕ, ◌+◌, ◌*◌, ◌<◌, ◌≤◌, List, ◌++◌, length, take, drop, slice_index, Bool, nat_lt, ◌==◌, if◌then◌else◌, Result, Ok, Err, IsTrue, IsFalse}
+use Rattle.std.specs.List.{list_any}
+use Rattle.std.specs.Int.{w16, to_be_bytes}
+use Rattle.dns_wire.specs.Compression.{Pressing}
+use Rattle.dns_record.specs.InMessage.{question_presses, record_numbers, record_presses, record_fits}
+use Rattle.dns_record.specs.declared.question.Question.{Question as QuestionOf}
+use Rattle.dns_record.specs.declared.record.Record.{Record as RecordOf}
+use Rattle.dns_message.specs.Messages.{counts_of}
+use Rattle.dns_message.specs.declared.build_error.MessageBuildError.{MessageBuildError}
+use Rattle.dns_message.specs.declared.build_error.MessageBuildError.TheVariants.{Misplaced, TooMany, Truncated}
+use Rattle.dns_message.specs.declared.builder.Section.{Section}
+use Rattle.dns_message.specs.declared.builder.Section.TheVariants.{Question, Answer, Authority, Additional}
+
+-- What is seen of a builder: the header's twelve octets, the contents so far, how many octets its buffer has, and where in
+-- the contents names begin that are known.
+pub record Draft : Type 0 where
+  pub header : List ℕ
+  pub contents : List ℕ
+  pub size : ℕ
+  pub places : List ℕ
+
+-- the octets of the message so far
+abbrev pub drafted : Draft → List ℕ
+drafted draft = draft.header ++ draft.contents
+
+-- the number of a section, from 0
+abbrev pub section_number : Section → ℕ
+section_number Question = 0
+section_number Answer = 1
+section_number Authority = 2
+section_number Additional = 3
+
+-- how many items a section has
+abbrev pub count_in : ℕ → List ℕ → ℕ
+count_in section header = slice_index (counts_of header) section
+
+-- a section behind this one has an item
+abbrev pub has_later : ℕ → List ℕ → Bool
+has_later section header = list_any (λ count. nat_lt 0 count) (drop (section + 1) (counts_of header))
+
+-- how many items a section has with one more, or why it can have no more
+abbrev pub next_count : ℕ → List ℕ → Result ℕ MessageBuildError
+next_count section header =
+    if has_later section header then Err Misplaced
+    else if count_in section header == 65535 then Err TooMany
+    else Ok (count_in section header + 1)
+
+-- the header with another count of a section, whose two octets stand behind id, flags and the counts of those before it
+abbrev pub with_count : ℕ → ℕ → List ℕ → List ℕ
+with_count section count header = take (4 + 2 * section) header ++ to_be_bytes w16 count ++ drop (6 + 2 * section) header
+
+-- ---- what items write
+
+-- a question: its name, and type and class as they are
+abbrev pub asked : {N : Type 0} → (N → Pressing) → QuestionOf N → Pressing
+asked name q = question_presses (name q.qname) q.qtype.code.value q.qclass.code.value
+
+-- a record: its owner, ten octets and its data behind their size
+abbrev pub told : {N D : Type 0} → (N → Pressing) → (D → Pressing) → RecordOf N D → Pressing
+told owner content r =
+    record_presses (owner r.rname) (record_numbers r.rtype.code.value r.rclass.code.value r.ttl.value.value) (content r.rdata)
+
+-- what is prefixed in it fits, and its data are no more octets than their size can say
+abbrev pub told_fits : {N D : Type 0} → (N → List ℕ → List ℕ → Type 0) → (N → Pressing) → (D → List ℕ → List ℕ → Type 0) → (D → Pressing) → RecordOf N D → List ℕ → List ℕ → Type 0
+told_fits owner_fits owner content_fits content r =
+    record_fits (owner_fits r.rname) (owner r.rname) (record_numbers r.rtype.code.value r.rclass.code.value r.ttl.value.value) (content_fits r.rdata) (content r.rdata)
+
+-- ---- what a push answers and leaves
+
+-- what an accepted push leaves: one more item is counted, and its octets stand behind the contents
+abbrev pub pushed : ℕ → Pressing → Draft → Draft
+pushed section presses draft = record {
+  header = with_count section (count_in section draft.header + 1) draft.header;
+  contents = draft.contents ++ (presses draft.contents draft.places).0;
+  size = draft.size;
+  places = (presses draft.contents draft.places).1;
+}
+
+-- the item's prefixed data fit their prefixes, and its octets the rest of the buffer
+abbrev pub HasRoom : (List ℕ → List ℕ → Type 0) → Pressing → Draft → Type 0
+HasRoom fits presses draft =
+    fits draft.contents draft.places
+    × (12 + length draft.contents + length (presses draft.contents draft.places).0 ≤ draft.size)
+
+-- When a push gives each answer. The causes exclude one another, in the order of the refusals.
+abbrev pub PushAnswers : {A : Type 0} → ℕ → (List ℕ → List ℕ → Type 0) → Pressing → Draft → Result A MessageBuildError → Type 0
+PushAnswers section fits presses draft (Err Misplaced) = IsTrue (has_later section draft.header)
+PushAnswers section fits presses draft (Err TooMany) =
+    IsFalse (has_later section draft.header) × (count_in section draft.header ≡ 65535)
+PushAnswers section fits presses draft (Err Truncated) =
+    IsFalse (has_later section draft.header) × (count_in section draft.header < 65535) × ¬ (HasRoom fits presses draft)
+PushAnswers section fits presses draft (Ok done) =
+    IsFalse (has_later section draft.header) × (count_in section draft.header < 65535) × HasRoom fits presses draft

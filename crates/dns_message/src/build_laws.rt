@@ -1,0 +1,52 @@
+//! What follows from the definitions of messages that are built.
+
+ghost use Rattle.std.specs.Prelude.{◌≡◌, ◌<◌, ◌+◌, ◌++◌, ℕ, List, [], ◌∷◌, Some, IsFalse, length, take, replicate, set};
+ghost use Rattle.std.specs.Int.{w16, to_be_bytes};
+ghost use Rattle.dns_wire.specs.Compression.{Pressing};
+ghost use Rattle.dns_wire.specs.Reading.{AreOctets};
+ghost use Rattle.dns_message.specs.Building.{Draft, drafted, count_in, has_later, pushed};
+ghost use Rattle.dns_message.specs.Messages.{Item, Question, Rec, counts_of, item_at, message_reading, records_among};
+ghost use Rattle.dns_message.specs.Messages.Item.{Asked, Told};
+ghost use Rattle.dns_message.specs.Messages.Reading.{Whole};
+
+/// Octets behind an item change nothing of how it is read: names lead back, and data are read within their size (RFC 1035
+/// sections 4.1.3 and 4.1.4).
+pub fn octets_behind_items()
+    ensures { (section : ℕ) (contents more : List ℕ) (at : ℕ) (item : Item) (end : ℕ) →
+        item_at section contents at ≡ Some (item, end) → item_at section (contents ++ more) at ≡ Some (item, end) }
+{}
+
+/// A new message, of an id, flags and four counts of zero, is read whole and has no items (RFC 1035 section 4.1.1).
+pub fn new_messages_are_empty()
+    ensures { (draft : Draft) (id flags : ℕ) →
+        draft.header ≡ to_be_bytes w16 id ++ to_be_bytes w16 flags ++ replicate 8 0 → draft.contents ≡ [] →
+        message_reading (drafted draft) ≡ Whole [] 0 }
+{}
+
+/// A push that is accepted leaves a header of 12 octets, with the id and the flags that it had and with the counts that it had,
+/// but one more item in the section of the push (RFC 1035 section 4.1.1).
+pub fn pushes_count_one_more()
+    ensures size { (section : ℕ) (presses : Pressing) (draft : Draft) → section < 4 → length draft.header ≡ 12 →
+        length (pushed section presses draft).header ≡ 12 }
+    ensures octets { (section : ℕ) (presses : Pressing) (draft : Draft) → AreOctets draft.header →
+        AreOctets (pushed section presses draft).header }
+    ensures front { (section : ℕ) (presses : Pressing) (draft : Draft) → section < 4 → length draft.header ≡ 12 →
+        take 4 (pushed section presses draft).header ≡ take 4 draft.header }
+    ensures counts { (section : ℕ) (presses : Pressing) (draft : Draft) → section < 4 → length draft.header ≡ 12 →
+        count_in section draft.header < 65535 →
+        counts_of (pushed section presses draft).header ≡ set (counts_of draft.header) section (count_in section draft.header + 1) }
+{}
+
+/// Let a message be read whole, with its items ending where its contents do, and let a push be accepted. If the octets that it
+/// writes are read behind the contents as an item of its section, the message is then read whole as the items that it had and
+/// this one, and they end where the new contents do (RFC 1035 section 4.1). Its records are those that it had, and then the
+/// item, where that is a record.
+pub fn pushes_add_an_item()
+    ensures item { (section : ℕ) (presses : Pressing) (draft : Draft) (items : List Item) (item : Item) →
+        section < 4 → length draft.header ≡ 12 → IsFalse (has_later section draft.header) → count_in section draft.header < 65535 →
+        message_reading (drafted draft) ≡ Whole items (length draft.contents) →
+        item_at section (pushed section presses draft).contents (length draft.contents) ≡ Some (item, length (pushed section presses draft).contents) →
+        message_reading (drafted (pushed section presses draft)) ≡ Whole (items ++ item ∷ []) (length (pushed section presses draft).contents) }
+    ensures asked { (items : List Item) (question : Question) → records_among (items ++ Asked question ∷ []) ≡ records_among items }
+    ensures told { (items : List Item) (found : Rec) → records_among (items ++ Told found ∷ []) ≡ records_among items ++ found ∷ [] }
+{}
