@@ -1,8 +1,10 @@
 -- The crate's own lemmas.
+pub mod BuiltSo
 pub mod Counting
 pub mod Drafts
 pub mod Extended
 pub mod Headed
+pub mod Laid
 pub mod Octets
 pub mod Often
 pub mod OneReading
@@ -11,12 +13,16 @@ pub mod Parsed
 pub mod Phrased
 pub mod Placed
 pub mod Pushed
+pub mod Rebuilt
 pub mod Sameness
+pub mod Repushed
+pub mod SizedRead
 pub mod Slots
-pub mod Sound
 pub mod Sorting
+pub mod Sound
 pub mod Standing
 pub mod Suiting
+pub mod Surviving
 pub mod Texts
 pub mod Told
 pub mod Whole

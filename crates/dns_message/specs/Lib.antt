@@ -1,5 +1,6 @@
 -- Messages, canonical octets and the canonical list.
 pub mod Building
+pub mod Built
 pub mod Canonical
 pub mod Counted
 pub mod Headers
@@ -7,6 +8,7 @@ pub mod MessageOctets
 pub mod Messages
 pub mod Order
 pub mod Parsing
+pub mod PiecesRead
 pub mod Same
 pub mod Seen
 pub mod Sorted

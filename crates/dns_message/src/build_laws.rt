@@ -1,9 +1,14 @@
 //! What follows from the definitions of messages that are built.
 
-ghost use Rattle.std.specs.Prelude.{◌≡◌, ◌<◌, ◌+◌, ◌++◌, ℕ, List, [], ◌∷◌, Some, IsFalse, length, take, replicate, set};
+ghost use Rattle.std.specs.Prelude.{◌≡◌, ◌<◌, ◌+◌, ◌^◌, ◌++◌, ℕ, List, [], ◌∷◌, Some, IsFalse, length, take, replicate, set};
 ghost use Rattle.std.specs.Int.{w16, to_be_bytes};
-ghost use Rattle.dns_wire.specs.Compression.{Pressing};
+ghost use Rattle.dns_wire.specs.Compression.{Pressing, FitsIn, name_presses};
+ghost use Rattle.dns_wire.specs.Names.{IsName, lowered};
 ghost use Rattle.dns_wire.specs.Reading.{AreOctets};
+ghost use Rattle.dns_record.specs.InMessage.{question_presses};
+ghost use Rattle.dns_message.specs.Built.{built};
+ghost use Rattle.dns_message.specs.Canonical.{fold};
+ghost use Rattle.dns_message.specs.WellFormed.{WellFormed};
 ghost use Rattle.dns_message.specs.Building.{Draft, drafted, count_in, has_later, pushed};
 ghost use Rattle.dns_message.specs.Messages.{Item, Question, Rec, counts_of, item_at, message_reading, records_among};
 ghost use Rattle.dns_message.specs.Messages.Item.{Asked, Told};
@@ -49,4 +54,26 @@ pub fn pushes_add_an_item()
         message_reading (drafted (pushed section presses draft)) ≡ Whole (items ++ item ∷ []) (length (pushed section presses draft).contents) }
     ensures asked { (items : List Item) (question : Question) → records_among (items ++ Asked question ∷ []) ≡ records_among items }
     ensures told { (items : List Item) (found : Rec) → records_among (items ++ Told found ∷ []) ≡ records_among items ++ found ∷ [] }
+{}
+
+/// Let a message be read whole, with its items ending where its contents do, and let a well formed record be pushed whose owner and
+/// whose names that pointers may lead through are shared. The message is then read whole as the items that it had and this record,
+/// but for ASCII case in names that were shared, and they end where the new contents do (RFC 1035 section 4.1.4).
+pub fn pushed_records_are_read()
+    ensures { (section : ℕ) (draft : Draft) (items : List Item) (r : Rec) →
+        0 < section → section < 4 → length draft.header ≡ 12 → IsFalse (has_later section draft.header) → count_in section draft.header < 65535 →
+        message_reading (drafted draft) ≡ Whole items (length draft.contents) → FitsIn draft.places draft.contents → WellFormed r →
+        (there : Rec) × (fold there ≡ fold r)
+        × (message_reading (drafted (pushed section (built r) draft)) ≡ Whole (items ++ Told there ∷ []) (length (pushed section (built r) draft).contents)) }
+{}
+
+/// The same for a question, whose name is shared: its type and class are the same, and its name but for ASCII case.
+pub fn pushed_questions_are_read()
+    ensures { (draft : Draft) (items : List Item) (labels : List (List ℕ)) (qtype class : ℕ) →
+        length draft.header ≡ 12 → IsFalse (has_later 0 draft.header) → count_in 0 draft.header < 65535 →
+        message_reading (drafted draft) ≡ Whole items (length draft.contents) → FitsIn draft.places draft.contents →
+        IsName labels → qtype < 2 ^ 16 → class < 2 ^ 16 →
+        (there : List (List ℕ)) × (lowered there ≡ lowered labels)
+        × (message_reading (drafted (pushed 0 (question_presses (name_presses labels) qtype class) draft))
+        ≡ Whole (items ++ Asked (record { name = there; qtype = qtype; class = class }) ∷ []) (length (pushed 0 (question_presses (name_presses labels) qtype class) draft).contents)) }
 {}

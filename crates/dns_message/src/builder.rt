@@ -100,6 +100,7 @@ impl<'b> MessageBuilder<'b> {
     pub fn message(&self) -> Message<'_>
         ensures octets { result.slice.now ≡ drafted self.now }
         ensures header { length self.now.header ≡ 12 }
+        ensures known { FitsIn self.now.places self.now.contents }
     {
         Message {
             slice: &self.buffer[..HEADER_SIZE + self.size],

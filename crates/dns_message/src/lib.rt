@@ -9,10 +9,12 @@ mod item;
 mod laws;
 mod message;
 mod parser;
+mod read_again;
 
 pub use build_error::MessageBuildError;
 pub use build_laws::{
-    new_messages_are_empty, octets_behind_items, pushes_add_an_item, pushes_count_one_more,
+    new_messages_are_empty, octets_behind_items, pushed_questions_are_read,
+    pushed_records_are_read, pushes_add_an_item, pushes_count_one_more,
 };
 pub use builder::MessageBuilder;
 pub use header::{Header, HeaderFlags, SectionCounts};
@@ -25,6 +27,10 @@ pub use laws::{
 };
 pub use message::Message;
 pub use parser::{MessageParser, Place};
+pub use read_again::{
+    built_questions_are_read, built_records_are_read, prefixed_pieces_are_read, records_are_built,
+    told_pieces_are_read,
+};
 
 #[cfg(test)]
 mod tests;

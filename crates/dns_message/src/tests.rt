@@ -4,14 +4,17 @@ mod builder;
 mod parser;
 
 use crate::{
-    canonical_lists, canonical_octets_are_read_back, canonical_records_are_split_back,
-    canonical_texts, counted_items, equal_canonical_octets, equal_outputs, items_in_words,
-    new_messages_are_empty, octets_behind_items, order_of_records, parsers_read_messages,
-    pushes_add_an_item, pushes_count_one_more, readings_in_words,
-    records_that_are_read_are_well_formed, same_records, three_kinds_of_messages,
+    built_questions_are_read, built_records_are_read, canonical_lists,
+    canonical_octets_are_read_back, canonical_records_are_split_back, canonical_texts,
+    counted_items, equal_canonical_octets, equal_outputs, items_in_words, new_messages_are_empty,
+    octets_behind_items, order_of_records, parsers_read_messages, prefixed_pieces_are_read,
+    pushed_questions_are_read, pushed_records_are_read, pushes_add_an_item, pushes_count_one_more,
+    readings_in_words, records_are_built, records_that_are_read_are_well_formed, same_records,
+    three_kinds_of_messages, told_pieces_are_read,
 };
 use dns_basic::CName;
-use dns_name::Name;
+use dns_name::{Name, NameBuf};
+use dns_num::U16;
 use dns_rdata::RecordData;
 use dns_record::{RType, Record, TTL};
 use dns_wire::{ParseBytes, SplitBytes};
@@ -37,6 +40,13 @@ fn laws_are_called(_rt: HostRuntime) -> Result<(), Fail> {
     new_messages_are_empty();
     pushes_count_one_more();
     pushes_add_an_item();
+    pushed_records_are_read();
+    pushed_questions_are_read();
+    built_records_are_read();
+    built_questions_are_read();
+    records_are_built::<NameBuf>();
+    told_pieces_are_read::<NameBuf>();
+    prefixed_pieces_are_read::<U16, NameBuf>();
     Ok(())
 }
 
