@@ -121,11 +121,8 @@ fn takes_65535_questions(rt: HostRuntime) -> Result<(), Fail> {
     );
     let octets = builder.message().as_bytes();
     assert_eq!(rt; octets.len(), 327_687);
-    assert_eq!(rt;
-        &octets[..17],
-        b"\0\0\0\0\xff\xff\0\0\0\0\0\0\0\0\x02\0\x01".as_slice()
-    );
-    assert_eq!(rt; &octets[327_682..], b"\0\0\x02\0\x01".as_slice());
+    assert!(rt; octets.starts_with(b"\0\0\0\0\xff\xff\0\0\0\0\0\0\0\0\x02\0\x01"));
+    assert!(rt; octets.ends_with(b"\0\0\x02\0\x01"));
     Ok(())
 }
 
