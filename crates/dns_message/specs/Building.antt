@@ -53,17 +53,17 @@ with_count section count header = take (4 + 2 * section) header ++ to_be_bytes w
 -- ---- what items write
 
 -- a question: its name, and type and class as they are
-abbrev pub asked : {N : Type 0} → (N → Pressing) → QuestionOf N → Pressing
-asked name q = question_presses (name q.qname) q.qtype.code.value q.qclass.code.value
+abbrev pub question_pressed : {N : Type 0} → (N → Pressing) → QuestionOf N → Pressing
+question_pressed name q = question_presses (name q.qname) q.qtype.code.value q.qclass.code.value
 
 -- a record: its owner, ten octets and its data behind their size
-abbrev pub told : {N D : Type 0} → (N → Pressing) → (D → Pressing) → RecordOf N D → Pressing
-told owner content r =
+abbrev pub record_pressed : {N D : Type 0} → (N → Pressing) → (D → Pressing) → RecordOf N D → Pressing
+record_pressed owner content r =
     record_presses (owner r.rname) (record_numbers r.rtype.code.value r.rclass.code.value r.ttl.value.value) (content r.rdata)
 
 -- what is prefixed in it fits, and its data are no more octets than their size can say
-abbrev pub told_fits : {N D : Type 0} → (N → List ℕ → List ℕ → Type 0) → (N → Pressing) → (D → List ℕ → List ℕ → Type 0) → (D → Pressing) → RecordOf N D → List ℕ → List ℕ → Type 0
-told_fits owner_fits owner content_fits content r =
+abbrev pub record_fits_in : {N D : Type 0} → (N → List ℕ → List ℕ → Type 0) → (N → Pressing) → (D → List ℕ → List ℕ → Type 0) → (D → Pressing) → RecordOf N D → List ℕ → List ℕ → Type 0
+record_fits_in owner_fits owner content_fits content r =
     record_fits (owner_fits r.rname) (owner r.rname) (record_numbers r.rtype.code.value r.rclass.code.value r.ttl.value.value) (content_fits r.rdata) (content r.rdata)
 
 -- ---- what a push answers and leaves

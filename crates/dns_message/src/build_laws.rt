@@ -57,8 +57,8 @@ pub fn pushes_add_an_item()
 {}
 
 /// Let a message be read whole, with its items ending where its contents do, and let a well formed record be pushed whose owner and
-/// whose names that pointers may lead through are shared. The message is then read whole as the items that it had and this record,
-/// but for ASCII case in names that were shared, and they end where the new contents do (RFC 1035 section 4.1.4).
+/// whose names that pointers may lead through are pressed. The message is then read whole as the items that it had and a record
+/// that is this one when both are folded, and they end where the new contents do (RFC 1035 section 4.1.4).
 pub fn pushed_records_are_read()
     ensures { (section : ℕ) (draft : Draft) (items : List Item) (r : Rec) →
         0 < section → section < 4 → length draft.header ≡ 12 → IsFalse (has_later section draft.header) → count_in section draft.header < 65535 →
@@ -67,7 +67,7 @@ pub fn pushed_records_are_read()
         × (message_reading (drafted (pushed section (built r) draft)) ≡ Whole (items ++ Told there ∷ []) (length (pushed section (built r) draft).contents)) }
 {}
 
-/// The same for a question, whose name is shared: its type and class are the same, and its name but for ASCII case.
+/// The same for a question whose name is pressed: its type and class are the same, and its name is but for ASCII case.
 pub fn pushed_questions_are_read()
     ensures { (draft : Draft) (items : List Item) (labels : List (List ℕ)) (qtype class : ℕ) →
         length draft.header ≡ 12 → IsFalse (has_later 0 draft.header) → count_in 0 draft.header < 65535 →

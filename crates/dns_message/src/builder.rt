@@ -8,7 +8,7 @@ ghost use Rattle.dns_wire.specs.Pieces.{whole_presses};
 ghost use Rattle.dns_rdata.specs.Edns.{edns_octets};
 ghost use Rattle.dns_message.specs.Headers.{header_bits};
 ghost use Rattle.dns_message.specs.Messages.{counts_of};
-ghost use Rattle.dns_message.specs.Building.{Draft, drafted, section_number, asked, told, told_fits, count_in, has_later, next_count, with_count, pushed, PushAnswers};
+ghost use Rattle.dns_message.specs.Building.{Draft, drafted, section_number, question_pressed, record_pressed, record_fits_in, count_in, has_later, next_count, with_count, pushed, PushAnswers};
 
 use crate::build_error::MessageBuildError;
 use crate::header::HeaderFlags;
@@ -113,8 +113,8 @@ impl<'b> MessageBuilder<'b> {
         &mut self,
         item: &Question<N>,
     ) -> Result<(), MessageBuildError>
-        ensures answered { PushAnswers 0 (N.fits_in item.now.qname) (asked N.presses item.now) self.old result }
-        ensures pushed { OnOk result (self.new ≡ pushed 0 (asked N.presses item.now) self.old) }
+        ensures answered { PushAnswers 0 (N.fits_in item.now.qname) (question_pressed N.presses item.now) self.old result }
+        ensures pushed { OnOk result (self.new ≡ pushed 0 (question_pressed N.presses item.now) self.old) }
         ensures kept { OnErr result (self.new ≡ self.old) }
     {
         self.push(Section::Question, item)
@@ -127,8 +127,8 @@ impl<'b> MessageBuilder<'b> {
         &mut self,
         item: &Record<N, D>,
     ) -> Result<(), MessageBuildError>
-        ensures answered { PushAnswers 1 (told_fits N.fits_in N.presses D.fits_in D.presses item.now) (told N.presses D.presses item.now) self.old result }
-        ensures pushed { OnOk result (self.new ≡ pushed 1 (told N.presses D.presses item.now) self.old) }
+        ensures answered { PushAnswers 1 (record_fits_in N.fits_in N.presses D.fits_in D.presses item.now) (record_pressed N.presses D.presses item.now) self.old result }
+        ensures pushed { OnOk result (self.new ≡ pushed 1 (record_pressed N.presses D.presses item.now) self.old) }
         ensures kept { OnErr result (self.new ≡ self.old) }
     {
         self.push(Section::Answer, item)
@@ -139,8 +139,8 @@ impl<'b> MessageBuilder<'b> {
         &mut self,
         item: &Record<N, D>,
     ) -> Result<(), MessageBuildError>
-        ensures answered { PushAnswers 2 (told_fits N.fits_in N.presses D.fits_in D.presses item.now) (told N.presses D.presses item.now) self.old result }
-        ensures pushed { OnOk result (self.new ≡ pushed 2 (told N.presses D.presses item.now) self.old) }
+        ensures answered { PushAnswers 2 (record_fits_in N.fits_in N.presses D.fits_in D.presses item.now) (record_pressed N.presses D.presses item.now) self.old result }
+        ensures pushed { OnOk result (self.new ≡ pushed 2 (record_pressed N.presses D.presses item.now) self.old) }
         ensures kept { OnErr result (self.new ≡ self.old) }
     {
         self.push(Section::Authority, item)
@@ -151,8 +151,8 @@ impl<'b> MessageBuilder<'b> {
         &mut self,
         item: &Record<N, D>,
     ) -> Result<(), MessageBuildError>
-        ensures answered { PushAnswers 3 (told_fits N.fits_in N.presses D.fits_in D.presses item.now) (told N.presses D.presses item.now) self.old result }
-        ensures pushed { OnOk result (self.new ≡ pushed 3 (told N.presses D.presses item.now) self.old) }
+        ensures answered { PushAnswers 3 (record_fits_in N.fits_in N.presses D.fits_in D.presses item.now) (record_pressed N.presses D.presses item.now) self.old result }
+        ensures pushed { OnOk result (self.new ≡ pushed 3 (record_pressed N.presses D.presses item.now) self.old) }
         ensures kept { OnErr result (self.new ≡ self.old) }
     {
         self.push(Section::Additional, item)

@@ -22,16 +22,17 @@ ghost use Rattle.dns_message.specs.WellFormed.{WellFormed};
 use dns_num::SizePrefix;
 use dns_wire::BuildInMessage;
 
-/// A value that tells its pieces is read again where it was written in a message, whatever is written behind it: each name, but
-/// for ASCII case where it was shared, and all other octets as they are (RFC 1035 section 4.1.4).
+/// A value that tells its pieces is read again where it was written in a message, whatever is written behind it: each pressed name
+/// but for ASCII case, since the name that it points to may have another, and all other octets as they are (RFC 1035 section
+/// 4.1.4).
 pub fn told_pieces_are_read<T: BuildInMessage>()
     ensures { (v : T) (pieces : List Piece) (contents places more : List ℕ) →
         T.pieces v ≡ Some pieces → AllByRecursion IsPiece pieces → FitsIn places contents →
         PiecesAt ((contents ++ (T.presses v contents places).0) ++ more) (length contents) pieces (length contents + length (T.presses v contents places).0) }
 {}
 
-/// Data behind their size are read again where they were written in a message, piece by piece: the size that is written over the
-/// zeros is no part of a name.
+/// Data behind their size are read again where they were written in a message, piece by piece: the size that stands in place of
+/// the zeros is no part of a name.
 pub fn prefixed_pieces_are_read<S: SizePrefix, T: BuildInMessage>()
     ensures { (v : T) (pieces : List Piece) (contents places more : List ℕ) →
         T.pieces v ≡ Some pieces → AllByRecursion IsPiece pieces → FitsIn places contents →
@@ -50,7 +51,8 @@ pub fn records_are_built<N: BuildInMessage>()
 {}
 
 /// A well formed record that was built in a message is read again where it stands, whatever is written
-/// behind it: as the same record, but for ASCII case in names that were shared (RFC 1035 section 4.1.4).
+/// behind it, as the same record when both are folded: but for ASCII case in its owner and in names of the nine
+/// types (RFC 1035 section 4.1.4).
 pub fn built_records_are_read()
     ensures { (r : Rec) (contents places more : List ℕ) → WellFormed r → FitsIn places contents →
         ReadAgain ((contents ++ (built r contents places).0) ++ more) (length contents) r (length contents + length (built r contents places).0) }

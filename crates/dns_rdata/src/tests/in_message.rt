@@ -11,7 +11,8 @@ use std::test::Fail;
 const OWNER: &[u8] = b"\x04HOST\x07example\0";
 
 /// A record of each type for this owner: `to_wire` of dnspython 2.3.0 wrote the names, with one table of names for the owners
-/// and for the names in NS, CNAME, SOA, PTR, MX and RP data, and without one for all others. It reads them as the same records.
+/// and for the names in NS, CNAME, SOA, PTR, MX and RP data, and without one for all others. It reads
+/// them as the same records, but for OPT, which it takes nowhere but among additional records.
 const CONTENTS: [u8; 696] =
     *b"\x04HOST\x07example\0\0\x01\0\x01\0\0\0<\0\x04\xc0\0\x02A\xc0\x0c\0\x02\0\x01\0\0\0<\0\x11\x03Ns1\
     \x07Example\x03COM\0\xc0\x0c\0\x05\0\x01\0\0\0<\0\x08\x05Alias\xc0\x11\xc0\x0c\0\x06\0\x01\0\0\0<\0(\
