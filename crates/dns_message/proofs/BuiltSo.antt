@@ -30,7 +30,7 @@ module _ {N : Type 0} (presses : N → Pressing) (pieces : N → Option (List Pi
   fields_tell_so (Byte b ∷ fields) = rw (fields_tell_so fields) refl
   fields_tell_so (Number w n ∷ fields) = rw (fields_tell_so fields) refl
 
-  content_pressed : (fields : List (FieldOf N)) → fields_press presses fields ≡ laid (map field_piece (map (named_by name) fields))
+  pub content_pressed : (fields : List (FieldOf N)) → fields_press presses fields ≡ laid (map field_piece (map (named_by name) fields))
   content_pressed fields =
       let each : (c k : List ℕ) → fields_press presses fields c k ≡ laid (map field_piece (map (named_by name) fields)) c k = subst (λ (t : Option (List Piece)). IsTold t (fields_press presses fields)) (fields_tell_so fields) (told_fields presses pieces tells fields) in
       λ i c k. each c k i

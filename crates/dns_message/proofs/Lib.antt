@@ -1,7 +1,9 @@
 -- The crate's own lemmas.
+pub mod Accepted
 pub mod BuiltSo
 pub mod Counting
 pub mod Drafts
+pub mod EdnsBuilt
 pub mod Extended
 pub mod Headed
 pub mod Laid
@@ -16,6 +18,7 @@ pub mod Pushed
 pub mod Rebuilt
 pub mod Sameness
 pub mod Repushed
+pub mod Shorter
 pub mod SizedRead
 pub mod Slots
 pub mod Sorting

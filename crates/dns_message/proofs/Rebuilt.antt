@@ -113,7 +113,7 @@ again (Rest ∷ kinds) (Raw o ∷ fs) c at row suits p = bare_again Rest (Raw o)
 again (kind ∷ kinds) (f ∷ fs) c at row suits p = absurd suits.0
 
 -- what is pressed of these fields are names
-pieces_are : (kinds : List Kind) (fs : List Field) → AllSuit kinds fs → AllByRecursion IsPiece (map field_piece fs)
+pub pieces_are : (kinds : List Kind) (fs : List Field) → AllSuit kinds fs → AllByRecursion IsPiece (map field_piece fs)
 pieces_are [] [] suits = tt
 pieces_are [] (f ∷ fs) suits = absurd suits
 pieces_are (kind ∷ kinds) [] suits = absurd suits

@@ -4,7 +4,7 @@ use Rattle.std.specs.Prelude.{◌↔◌, reverse}
 use Rattle.std.specs.List.{All, AllByRecursion}
 use Rattle.std.specs.List.Sorted.{IsPermutation}
 use Rattle.std.proofs.lemmas.List.Elements.{recursion_from_All}
-use Rattle.std.proofs.lemmas.List.Sorted.{IsPermutation-trans, IsPermutation-sym, IsPermutation-map}
+use Rattle.std.proofs.lemmas.List.Sorted.{IsPermutation-refl, IsPermutation-trans, IsPermutation-sym, IsPermutation-map}
 use Rattle.dns_record.specs.Fields.{fields_octets}
 use Rattle.dns_wire.specs.Reading.{AreOctets}
 use Rattle.dns_message.specs.Canonical.{canon, fold, is_kept, plain_record}
@@ -72,6 +72,24 @@ output_from_same rs ss same =
     let sums : SameSums (map sort_key (in_order kept)) (map sort_key (in_order other)) = λ f. in_order_sums kept f ∙ sym (sums_permuted (map sort_key kept) (map sort_key other) moved f) ∙ sym (in_order_sums other f) in
     let keys = sorted_unique sort_key_cmp sort_key_cmp_total sort_key_cmp_same (map sort_key (in_order kept)) (map sort_key (in_order other)) (ascends_in_order kept) (ascends_in_order other) sums in
     sym (octets_of_keys (in_order kept)) ∙ ap (map octets_of_key) keys ∙ octets_of_keys (in_order other)
+
+-- ---- from folded records, in this order
+
+-- a folded record has the type that it had, so it is kept where the record is
+kept_folded : (rs : List Rec) → filter is_kept (map fold rs) ≡ folded_kept rs
+kept_folded [] = refl
+kept_folded (r ∷ rs) =
+    let kept = filter is_kept rs in
+    elim (is_kept r) as (λ b. cond b (fold r ∷ filter is_kept (map fold rs)) (filter is_kept (map fold rs)) ≡ map fold (cond b (r ∷ kept) kept)) [
+      | true ↦ ap (λ (l : List Rec). fold r ∷ l) (kept_folded rs)
+      | false ↦ kept_folded rs
+    ]
+
+-- records that are the same when folded, in the same order, have one canonical list
+pub output_of_folds : (rs ss : List Rec) → map fold rs ≡ map fold ss → output rs ≡ output ss
+output_of_folds rs ss e =
+    let same : folded_kept rs ≡ folded_kept ss = sym (kept_folded rs) ∙ ap (filter is_kept) e ∙ kept_folded ss in
+    output_from_same rs ss (subst (IsPermutation (folded_kept rs)) same (IsPermutation-refl (folded_kept rs)))
 
 pub outputs : (rs ss : List Rec) → All WellFormed rs → All WellFormed ss → (output rs ≡ output ss) ↔ Same rs ss
 outputs rs ss are also = (

@@ -12,6 +12,7 @@ use Rattle.dns_wire.proofs.Rising.{all_map}
 use Rattle.dns_wire.proofs.Runs.{fits_more}
 use Rattle.dns_num.specs.InMessage.{zeros, sized_presses}
 use Rattle.dns_num.proofs.Prefixes.{number_long}
+use Rattle.dns_num.proofs.Slots.{slot_fits}
 use Rattle.dns_message.proofs.Surviving.{pieces_slot}
 
 module _ (w : Width) (pieces : List Piece) (contents places more : List ℕ) (fits : FitsIn places contents) (all : AllByRecursion IsPiece pieces) where
@@ -73,6 +74,12 @@ module _ (w : Width) (pieces : List Piece) (contents places more : List ℕ) (fi
         subst (λ (n : ℕ). PiecesAt (contents ++ (size ++ rest)) n pieces (length contents + length (size ++ inner.0))) at
             (subst (λ (n : ℕ). PiecesAt (contents ++ (size ++ rest)) low pieces n) end filled),
       )
+
+  -- and the places lead to names, once the size stands where zeros stood
+  pub sized_laid_fits : FitsIn inner.1 (contents ++ (size ++ rest))
+  sized_laid_fits =
+      subst (λ (k : List ℕ). FitsIn k (contents ++ (size ++ rest))) (sym grown.after_is)
+      (slot_fits contents (zeros w) size rest places grown.added same_long fits behind all_fit)
 
 -- and so of data that tell their pieces
 pub sized_told_read : (w : Width) (told : Option (List Piece)) (presses : Pressing) (pieces : List Piece) (contents places more : List ℕ) → IsTold told presses → told ≡ Some pieces → FitsIn places contents → AllByRecursion IsPiece pieces

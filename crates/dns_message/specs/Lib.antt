@@ -9,6 +9,7 @@ pub mod Messages
 pub mod Order
 pub mod Parsing
 pub mod PiecesRead
+pub mod Pushes
 pub mod Same
 pub mod Seen
 pub mod Sorted

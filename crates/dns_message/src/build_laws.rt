@@ -1,11 +1,16 @@
 //! What follows from the definitions of messages that are built.
 
-ghost use Rattle.std.specs.Prelude.{◌≡◌, ◌<◌, ◌+◌, ◌^◌, ◌++◌, ℕ, List, [], ◌∷◌, Some, IsFalse, length, take, replicate, set};
+ghost use Rattle.std.specs.Prelude.{◌≡◌, ◌<◌, ◌+◌, ◌^◌, ◌++◌, ℕ, List, [], ◌∷◌, Some, IsTrue, IsFalse, length, take, replicate, set};
 ghost use Rattle.std.specs.Int.{w16, to_be_bytes};
 ghost use Rattle.dns_wire.specs.Compression.{Pressing, FitsIn, name_presses};
 ghost use Rattle.dns_wire.specs.Names.{IsName, lowered};
+ghost use Rattle.dns_wire.specs.Pieces.{whole_presses};
 ghost use Rattle.dns_wire.specs.Reading.{AreOctets};
 ghost use Rattle.dns_record.specs.InMessage.{question_presses};
+ghost use Rattle.dns_record.specs.Options.{is_option_data};
+ghost use Rattle.dns_edns.specs.Flags.{flag_bits};
+ghost use Rattle.dns_rdata.specs.Edns.{edns_seen, edns_octets};
+ghost use Rattle.dns_rdata.specs.declared.edns_record.EdnsRecord.{EdnsRecord};
 ghost use Rattle.dns_message.specs.Built.{built};
 ghost use Rattle.dns_message.specs.Canonical.{fold};
 ghost use Rattle.dns_message.specs.WellFormed.{WellFormed};
@@ -13,6 +18,7 @@ ghost use Rattle.dns_message.specs.Building.{Draft, drafted, count_in, has_later
 ghost use Rattle.dns_message.specs.Messages.{Item, Question, Rec, counts_of, item_at, message_reading, records_among};
 ghost use Rattle.dns_message.specs.Messages.Item.{Asked, Told};
 ghost use Rattle.dns_message.specs.Messages.Reading.{Whole};
+ghost use Rattle.dns_message.specs.Seen.{edns_told};
 
 /// Octets behind an item change nothing of how it is read: names lead back, and data are read within their size (RFC 1035
 /// sections 4.1.3 and 4.1.4).
@@ -76,4 +82,16 @@ pub fn pushed_questions_are_read()
         (there : List (List ℕ)) × (lowered there ≡ lowered labels)
         × (message_reading (drafted (pushed 0 (question_presses (name_presses labels) qtype class) draft))
         ≡ Whole (items ++ Asked (record { name = there; qtype = qtype; class = class }) ∷ []) (length (pushed 0 (question_presses (name_presses labels) qtype class) draft).contents)) }
+{}
+
+/// The same for an EDNS record whose data are options, among the additional records: the message is then read whole as the items
+/// that it had and exactly this record, since its owner is the root and its data have no names (RFC 6891 section 6.1.2).
+pub fn pushed_edns_are_read<D>()
+    ensures { (draft : Draft) (items : List Item) (r : EdnsRecord D) (octets : List ℕ) →
+        length draft.header ≡ 12 → count_in 3 draft.header < 65535 →
+        message_reading (drafted draft) ≡ Whole items (length draft.contents) → FitsIn draft.places draft.contents →
+        r.max_udp_payload.value < 2 ^ 16 → r.ext_rcode < 2 ^ 8 → r.version < 2 ^ 8 → flag_bits r.flags < 2 ^ 16 →
+        AreOctets octets → IsTrue (is_option_data octets) →
+        message_reading (drafted (pushed 3 (whole_presses (edns_octets r octets)) draft))
+        ≡ Whole (items ++ Told (edns_told (edns_seen (λ _. octets) r)) ∷ []) (length (pushed 3 (whole_presses (edns_octets r octets)) draft).contents) }
 {}

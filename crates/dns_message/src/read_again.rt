@@ -1,11 +1,11 @@
 //! What is built in a message is read again.
 
-ghost use Rattle.std.specs.Prelude.{◌≡◌, ◌+◌, ◌<◌, ◌^◌, ◌++◌, ℕ, List, [], ◌∷◌, Some, length, map};
+ghost use Rattle.std.specs.Prelude.{◌≡◌, ◌+◌, ◌<◌, ◌≤◌, ◌^◌, ◌++◌, ℕ, List, [], ◌∷◌, Some, length, map};
 ghost use Rattle.dns_wire.specs.Compression.{FitsIn, name_presses};
 ghost use Rattle.dns_wire.specs.Names.{IsName};
 ghost use Rattle.std.specs.Int.{to_be_bytes};
 ghost use Rattle.std.specs.List.{AllByRecursion};
-ghost use Rattle.dns_wire.specs.Pieces.{Piece};
+ghost use Rattle.dns_wire.specs.Pieces.{Piece, whole_presses};
 ghost use Rattle.dns_wire.specs.Pieces.Piece.{Pressed, Whole};
 ghost use Rattle.dns_num.specs.InMessage.{zeros, sized_presses};
 ghost use Rattle.dns_message.specs.PiecesRead.{IsPiece, PiecesAt};
@@ -13,10 +13,15 @@ ghost use Rattle.dns_record.specs.Fields.{named_by};
 ghost use Rattle.dns_record.specs.InMessage.{question_presses, record_numbers, record_presses, fields_press};
 ghost use Rattle.dns_record.specs.Seen.{record_seen};
 ghost use Rattle.dns_record.specs.declared.record.Record.{Record};
+ghost use Rattle.dns_edns.specs.Flags.{flag_bits};
 ghost use Rattle.dns_rdata.specs.Data.{data_fields};
+ghost use Rattle.dns_rdata.specs.Edns.{edns_seen, edns_octets};
+ghost use Rattle.dns_rdata.specs.declared.edns_record.EdnsRecord.{EdnsRecord};
 ghost use Rattle.dns_rdata.specs.declared.record_data.RecordData.{RecordData};
 ghost use Rattle.dns_message.specs.Built.{built, ReadAgain, AskedAgain};
+ghost use Rattle.dns_message.specs.Canonical.{record_octets};
 ghost use Rattle.dns_message.specs.Messages.{Rec};
+ghost use Rattle.dns_message.specs.Seen.{edns_told};
 ghost use Rattle.dns_message.specs.WellFormed.{WellFormed};
 
 use dns_num::SizePrefix;
@@ -50,6 +55,14 @@ pub fn records_are_built<N: BuildInMessage>()
         ≡ built (record_seen name (λ v. map (named_by name) (data_fields v)) r) }
 {}
 
+/// An EDNS record whose data are these octets writes in a message what the record that it is writes (RFC 6891 section 6.1.2). A
+/// message keeps no more than 128 places of names.
+pub fn edns_records_are_built<D>()
+    ensures { (r : EdnsRecord D) (octets contents places : List ℕ) →
+        length places ≤ 128 → r.ext_rcode < 2 ^ 8 → r.version < 2 ^ 8 → flag_bits r.flags < 2 ^ 16 →
+        whole_presses (edns_octets r octets) contents places ≡ built (edns_told (edns_seen (λ _. octets) r)) contents places }
+{}
+
 /// A well formed record that was built in a message is read again where it stands, whatever is written
 /// behind it, as the same record when both are folded: but for ASCII case in its owner and in names of the nine
 /// types (RFC 1035 section 4.1.4).
@@ -64,4 +77,9 @@ pub fn built_questions_are_read()
     ensures { (labels : List (List ℕ)) (qtype class : ℕ) (contents places more : List ℕ) → IsName labels → qtype < 2 ^ 16 → class < 2 ^ 16 → FitsIn places contents →
         AskedAgain ((contents ++ (question_presses (name_presses labels) qtype class contents places).0) ++ more) (length contents) labels qtype class
         (length contents + length (question_presses (name_presses labels) qtype class contents places).0) }
+{}
+
+/// Shared names make nothing longer: a record that is built has no more octets than with its names whole.
+pub fn built_records_are_no_longer()
+    ensures { (r : Rec) (contents places : List ℕ) → length (built r contents places).0 ≤ length (record_octets r) }
 {}
