@@ -7,7 +7,7 @@ use Rattle.dns_wire.specs.declared.error.ParseError.{ParseError}
 use Rattle.dns_message.specs.Canonical.{is_kept}
 use Rattle.dns_message.specs.Messages.{Item, Rec, Reading, with_item, message_reading, records_among, Valid, BadAt}
 use Rattle.dns_message.specs.Messages.Item.{Told}
-use Rattle.dns_message.specs.Messages.Reading.{Short, Stopped, Whole}
+use Rattle.dns_message.specs.Messages.Reading.{Stopped, Whole}
 use Rattle.dns_message.specs.Order.{SortKey, sort_key}
 use Rattle.dns_message.specs.Parsing.{parsed_message, given_count, next_start, has_ended, ahead, Parsed, GivesNext}
 use Rattle.dns_message.specs.Seen.{item_seen}

@@ -1,10 +1,15 @@
 -- The crate's own lemmas.
 pub mod Chained
 pub mod Decoding
+pub mod Digits
 pub mod Exclusive
+pub mod GeneratedRecords
 pub mod Kept
+pub mod MadeLemmas
 pub mod Pairs
 pub mod Parting
+pub mod PlainNames
+pub mod PushedAnswers
 pub mod Sameness
 pub mod Sorting
 pub mod Transfers

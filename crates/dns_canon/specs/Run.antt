@@ -6,11 +6,12 @@ use Rattle.dns_wire.specs.Outside.{WritesFront}
 use Rattle.dns_message.specs.Messages.{Rec, Valid}
 use Rattle.dns_message.specs.Order.{output}
 use Rattle.dns_message.specs.Same.{Same as AreSame}
+use Rattle.dns_canon.specs.Generated.{made_line}
 use Rattle.dns_canon.specs.Parts.{first_text, second_text}
 use Rattle.dns_canon.specs.declared.status.Status.{Status}
 use Rattle.dns_canon.specs.declared.status.Status.TheVariants.{Done, Short, Item, BadHex, Usage, ReadFault, WriteFault, Memory}
 use Rattle.dns_canon.specs.declared.words.Command.{Command}
-use Rattle.dns_canon.specs.declared.words.Command.TheVariants.{Canon, Same}
+use Rattle.dns_canon.specs.declared.words.Command.TheVariants.{Canon, Same, Make}
 
 -- ---- the answer
 
@@ -33,6 +34,7 @@ abbrev pub Prints : Command → List ℕ → List ℕ → Type 0
 Prints Canon text printed = (m : List ℕ) × (rs : List Rec) × Spells text m × Valid m rs × (printed ≡ lines (output rs))
 Prints Same text printed =
     (m n : List ℕ) × (rs ss : List Rec) × Spells (first_text text) m × Spells (second_text text) n × Valid m rs × Valid n ss × TellsSameness rs ss printed
+Prints (Make count) text printed = printed ≡ made_line count
 
 -- all of it is written at `Done`, and some front of it at `WriteFault`
 abbrev pub WritesText : Command → List ℕ → Option (List ℕ) → Option (List ℕ) → Status → Type 0

@@ -8,14 +8,16 @@ use Rattle.dns_canon.specs.Parts.{first_text, second_text}
 use Rattle.dns_canon.specs.declared.status.Status.{Status}
 use Rattle.dns_canon.specs.declared.status.Status.TheVariants.{Done, Short, Item, BadHex, TooLong, Usage}
 use Rattle.dns_canon.specs.declared.words.Command.{Command}
-use Rattle.dns_canon.specs.declared.words.Command.TheVariants.{Canon, Same}
+use Rattle.dns_canon.specs.declared.words.Command.TheVariants.{Canon, Same, Make}
 
 -- ---- what a command reads
 
--- whether a command reads a text; words that are no command read nothing
+-- whether a command reads a text; `make` reads none, nor do words that are no command
 abbrev pub reads : Option Command → Bool
 reads None = false
-reads (Some command) = true
+reads (Some Canon) = true
+reads (Some Same) = true
+reads (Some (Make count)) = false
 
 -- the text that is read, as far as the source tells what it has left
 abbrev pub text_read : Option Command → Option (List ℕ) → Option (List ℕ)
@@ -25,11 +27,13 @@ text_read command left = if reads command then left else Some []
 abbrev pub limit_of : Command → ℕ
 limit_of Canon = 131072
 limit_of Same = 262144
+limit_of (Make count) = 0
 
 -- the texts of the messages in it
 abbrev pub texts_in : Command → List ℕ → List (List ℕ)
 texts_in Canon text = text ∷ []
 texts_in Same text = first_text text ∷ second_text text ∷ []
+texts_in (Make count) text = []
 
 -- ---- the verdict
 

@@ -1,6 +1,6 @@
 //! The canonical list of a message.
 
-ghost use Rattle.std.specs.Prelude.{◌≡◌, ◌≤◌, ◌<◌, ◌⊎◌, ◌↔◌, ℕ, List, map, length, IfOk, IfErr, OnOk, OnErr, IsNone, IsTrue, slice_get};
+ghost use Rattle.std.specs.Prelude.{◌≡◌, ◌≤◌, ◌<◌, ◌^◌, ◌⊎◌, ◌↔◌, ℕ, List, map, length, IfOk, IfErr, OnOk, OnErr, IsNone, IsTrue, slice_get, sum_by};
 ghost use Rattle.std.specs.Option.{option_copied};
 ghost use Rattle.std.specs.List.Sorted.{IsPermutation};
 ghost use Rattle.dns_canon.specs.Refusals.{RefusedAs, RefusedOrMemory};
@@ -75,6 +75,14 @@ impl CanonList {
             Some(list) => Some(list.as_slice()),
             None => None,
         }
+    }
+
+    /// The number of all their octets.
+    pub(crate) fn octets(&self) -> usize
+        requires { sum_by length self.now < 2 ^ 64 }
+        ensures { result ≡ sum_by length self.now }
+    {
+        self.lists.iter().map(|list| list.len()).sum()
     }
 
     /// All of them, in order.

@@ -13,6 +13,7 @@ ghost use Rattle.dns_canon.specs.Words.{command_of};
 ghost use Rattle.dns_canon.specs.declared.error.CanonError.{CanonError};
 
 use crate::canonical::{CanonList, canonicalise};
+use crate::make::make_text;
 use crate::spelling::{octets_of, parted, text_of};
 use crate::status::Status;
 use crate::transfer::{PIECE, put_line, put_text, read_text};
@@ -21,7 +22,7 @@ use dns_wire::{Failed, Sink, Source};
 use std::alloc::Global;
 
 /// The canonical list of the message of this number.
-fn list_of(alloc: Global, octets: &[u8], message: u8) -> Result<CanonList, Status>
+pub(crate) fn list_of(alloc: Global, octets: &[u8], message: u8) -> Result<CanonList, Status>
     ensures ok { IfOk result (λ list. (rs : List Rec) × Valid octets.now rs × (list ≡ output rs)) }
     ensures err { IfErr result (λ status. (error : CanonError) × RefusedOrMemory octets.now error × (status ≡ canon_status message error)) }
 {
@@ -72,6 +73,7 @@ fn same_text(alloc: Global, text: &[u8]) -> Result<Vec<u8>, Status>
 
 /// The text that a command prints.
 fn printed<S: Source>(alloc: Global, command: Command, source: &mut S) -> Result<Vec<u8>, Status>
+    requires few { (count : ℕ) → command ≡ Command.Make count → count ≤ 1000 }
     ensures ok { IfOk result (λ printed. IfSome (text_read (Some command) (S.left source.old)) (λ t.
         (verdict (Some command) t ≡ Status.Done) × Prints command t printed.items)) }
     ensures err { IfErr result (λ status. IfSome (text_read (Some command) (S.left source.old)) (λ t. Answers (verdict (Some command) t) status)) }
@@ -83,10 +85,10 @@ fn printed<S: Source>(alloc: Global, command: Command, source: &mut S) -> Result
     ensures emptied_err { reads (Some command) ≡ true → IfErr result (λ status. Empties status (S.left source.old) (S.left source.new)) }
     ensures taken { TakesAtMost (S.left source.old) (S.left source.new) (limit_of command + PIECE) }
 {
-    let text = read_text(alloc, source, command.limit())?;
     match command {
-        Command::Canon => canon_text(alloc, &text),
-        Command::Same => same_text(alloc, &text),
+        Command::Canon => canon_text(alloc, &read_text(alloc, source, LIMIT)?),
+        Command::Same => same_text(alloc, &read_text(alloc, source, LIMIT_OF_TWO)?),
+        Command::Make { count } => make_text(alloc, count),
     }
 }
 

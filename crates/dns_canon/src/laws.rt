@@ -1,6 +1,6 @@
 //! What follows from the definitions.
 
-ghost use Rattle.std.specs.Prelude.{◌≡◌, ◌≤◌, ◌<◌, ◌⊎◌, ◌↔◌, ℕ, List, [], ◌∷◌, ◌++◌, Some, None, codes, length};
+ghost use Rattle.std.specs.Prelude.{◌≡◌, ◌≤◌, ◌<◌, ◌⊎◌, ◌↔◌, ℕ, List, [], ◌∷◌, ◌++◌, Some, None, codes, decimal, length};
 ghost use Rattle.dns_wire.specs.Hexadecimal.{Spells, SpellsNothing};
 ghost use Rattle.dns_message.specs.Messages.{Rec, Valid, BadAt};
 ghost use Rattle.dns_message.specs.Same.{Same};
@@ -12,10 +12,13 @@ ghost use Rattle.dns_canon.specs.Words.{command_of};
 use crate::status::Status;
 use crate::words::Command;
 
-/// The words of a command are these and no others.
+/// The words of a command are these and no others; the number of `make` is at most 1,000, in decimal digits without a
+/// sign or a zero in front.
 pub fn words_of_commands()
     ensures canon { (words : List (List ℕ)) → (command_of words ≡ Some Command.Canon) ↔ (words ≡ codes "canon" ∷ []) }
     ensures same { (words : List (List ℕ)) → (command_of words ≡ Some Command.Same) ↔ (words ≡ codes "same" ∷ []) }
+    ensures make { (words : List (List ℕ)) (count : ℕ) →
+        (command_of words ≡ Some (Command.Make count)) ↔ ((count ≤ 1000) × (words ≡ codes "make" ∷ decimal count ∷ [])) }
 {}
 
 /// What `same` prints for a text whose parts spell two valid messages: `same` and LF exactly where they have the same records,
@@ -35,7 +38,7 @@ pub fn parted_texts()
 {}
 
 /// The verdict on a text in words, for each status that one calls for: first on the text of one message, and then on that of
-/// two. A refusal of the second comes only where the first is valid.
+/// two. A refusal of the second comes only where the first is valid. `make` reads no text, and its verdict is `Done`.
 pub fn verdicts_in_words()
     ensures done { (t : List ℕ) → (verdict (Some Command.Canon) t ≡ Status.Done)
         ↔ ((length t ≤ 131072) × (m : List ℕ) × (rs : List Rec) × Spells t m × Valid m rs) }
@@ -56,5 +59,6 @@ pub fn verdicts_in_words()
     ensures same_bad_hex { (t : List ℕ) → (verdict (Some Command.Same) t ≡ Status.BadHex)
         ↔ ((length t ≤ 262144) × (SpellsNothing (first_text t) ⊎ SpellsNothing (second_text t))) }
     ensures same_too_long { (t : List ℕ) → (verdict (Some Command.Same) t ≡ Status.TooLong) ↔ (262144 < length t) }
+    ensures make_done { (count : ℕ) → verdict (Some (Command.Make count)) [] ≡ Status.Done }
     ensures usage { (t : List ℕ) → verdict None t ≡ Status.Usage }
 {}

@@ -6,6 +6,7 @@ mod canonical_data;
 mod command;
 mod error;
 mod laws;
+mod make;
 mod message;
 mod owned;
 mod spelling;
@@ -19,7 +20,7 @@ pub use error::CanonError;
 pub use laws::{answers_on_sameness, parted_texts, verdicts_in_words, words_of_commands};
 pub use status::Status;
 pub use transfer::PIECE;
-pub use words::{Command, LIMIT, LIMIT_OF_TWO, Words};
+pub use words::{Command, LIMIT, LIMIT_OF_TWO, MOST_RECORDS, Words};
 
 #[cfg(test)]
 mod tests;

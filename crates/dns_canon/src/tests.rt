@@ -1,5 +1,7 @@
 //! The program's answers to known texts, also where a device fails in mid-stream.
 
+mod again;
+mod make;
 mod messages;
 mod pairs;
 mod pointers;
@@ -15,6 +17,7 @@ use crate::{
     words_of_commands,
 };
 use dns_wire::{NullSink, PlainSource, ReadSource, TextSink, TextSource, WriteSink};
+use make::{MADE, NO_COUNTS};
 use messages::MESSAGES;
 use pointers::POINTERS;
 use rows::{ORDINARY_REPLY, ORDINARY_REPLY_LINES, ROWS, Row};
@@ -95,6 +98,37 @@ fn answers_entry(rt: &impl Abort, alloc: Global, entry: &str) -> Result<(), Fail
         }
     }
     assert_eq!(rt; sink.written(), wanted.as_slice(), "{name}");
+    Ok(())
+}
+
+/// `make` with this word prints this line, and reads nothing of its source.
+fn makes(rt: &impl Abort, alloc: Global, count: &str, line: &str) -> Result<(), Fail> {
+    let words = words_of(alloc, &["make", count])?;
+    let mut source = TextSource::new(b"unread", 7, &[0]);
+    let (mut printed, mut noted) = ([0u8; 100], [0u8; 100]);
+    let mut sink = TextSink::new(&mut printed, 7, &[]);
+    let mut notes = TextSink::new(&mut noted, 7, &[]);
+    let status = run(alloc, &words, &mut source, &mut sink, &mut notes);
+    let (wanted, note) = if line.is_empty() {
+        (Status::Usage, "usage\n")
+    } else {
+        (Status::Done, "")
+    };
+    assert_eq!(rt; status, wanted, "{count}");
+    assert_eq!(rt; sink.written(), line.as_bytes(), "{count}");
+    assert_eq!(rt; notes.written(), note.as_bytes(), "{count}");
+    assert_eq!(rt; sink.flushed(), status == Status::Done, "{count}");
+    Ok(())
+}
+
+#[test]
+fn makes_messages_of_so_many_records(rt: HostRuntime) -> Result<(), Fail> {
+    for (count, line) in MADE {
+        makes(&rt, rt.alloc(), count, line)?;
+    }
+    for count in NO_COUNTS {
+        makes(&rt, rt.alloc(), count, "")?;
+    }
     Ok(())
 }
 

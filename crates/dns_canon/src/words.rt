@@ -1,9 +1,9 @@
 //! The words of the command line.
 
 ghost use Rattle.std.specs.Prelude.{◌≡◌, ℕ, List, map, string_bytes};
-ghost use Rattle.dns_canon.specs.Verdict.{limit_of};
-ghost use Rattle.dns_canon.specs.Words.{command_named, command_of};
+ghost use Rattle.dns_canon.specs.Words.{command_named, command_of, number_named, numbered_command};
 
+use itoa::Buffer;
 use std::marker::Model;
 
 /// The most octets of the text of one message.
@@ -12,6 +12,9 @@ pub const LIMIT: usize = 131_072;
 /// The most octets of the text of two messages.
 pub const LIMIT_OF_TWO: usize = 262_144;
 
+/// The most records that a message is made of.
+pub const MOST_RECORDS: u16 = 1000;
+
 /// What the program is asked to do.
 #[derive(Clone, Copy, Debug, PartialEq, Eq)]
 pub enum Command {
@@ -19,6 +22,8 @@ pub enum Command {
     Canon,
     /// `same`: whether two messages carry the same records.
     Same,
+    /// `make`: the sizes of a message of so many generated records, at most 1,000.
+    Make { count: u16 },
 }
 
 impl Command {
@@ -33,15 +38,30 @@ impl Command {
         }
     }
 
-    /// The most octets of the text that the command reads.
-    pub(crate) fn limit(self) -> usize
-        ensures { result ≡ limit_of self }
+    /// The command of a word and the word behind it; none where they are no command.
+    fn numbered(word: &str, number: &str) -> Option<Command>
+        ensures { result ≡ numbered_command word.now number.now }
     {
-        match self {
-            Command::Canon => LIMIT,
-            Command::Same => LIMIT_OF_TWO,
+        if word != "make" {
+            return None;
         }
+        let count = count_named(number)?;
+        Some(Command::Make { count })
     }
+}
+
+/// How many records a word asks for: a number from 0 to 1,000 in decimal digits, without a sign or a zero in front.
+fn count_named(word: &str) -> Option<u16>
+    ensures { result ≡ number_named word.now }
+{
+    let Ok(count) = word.parse::<u16>() else {
+        return None;
+    };
+    let mut buffer = Buffer::new();
+    if count > MOST_RECORDS || buffer.format(count) != word {
+        return None;
+    }
+    Some(count)
 }
 
 /// The words of the command line, without the program's own name.
@@ -70,6 +90,7 @@ impl Words {
     {
         match self.words.as_slice() {
             [word] => Command::named(word.as_str()),
+            [word, number] => Command::numbered(word.as_str(), number.as_str()),
             _ => None,
         }
     }

@@ -16,5 +16,6 @@ returns c = record {
   same_item = λ t message section index. pair_words t (Item message section index);
   same_bad_hex = λ t. pair_words t BadHex;
   same_too_long = λ t. pair_words t TooLong;
+  make_done = λ count. refl;
   usage = λ t. refl;
 }

@@ -1,5 +1,4 @@
-use Rattle.std.proofs.Common.{ap, arith, length, map, ◌∙◌}
-use Rattle.dns_message.specs.Parsing.{slots_ahead}
+use Rattle.std.proofs.Common.{ap, arith, length, map}
 use Rattle.dns_canon.specs.Seen.{owned_seen}
 use Rattle.dns_canon.proofs.Chained.{read_none, read_more, read_fails, read_over}
 use Rattle.dns_canon.proofs.message.read_message.Goals as goal
