@@ -80,6 +80,7 @@ fn printed<S: Source>(alloc: Global, command: Command, source: &mut S) -> Result
     ensures refused { (result ≢ Err Status.Done) × (result ≢ Err Status.WriteFault) × (result ≢ Err Status.Usage) }
     ensures read_fault { result ≡ Err Status.ReadFault → Rose (S.faults source.old) (S.faults source.new) }
     ensures read_steady { (result ≢ Err Status.ReadFault) → S.faults source.new ≡ S.faults source.old }
+    ensures reading { result ≡ Err Status.ReadFault → reads (Some command) ≡ true }
     ensures unread { reads (Some command) ≡ false → source.new ≡ source.old }
     ensures emptied { reads (Some command) ≡ true → OnOk result (IsEmptied (S.left source.old) (S.left source.new)) }
     ensures emptied_err { reads (Some command) ≡ true → IfErr result (λ status. Empties status (S.left source.old) (S.left source.new)) }
@@ -99,6 +100,7 @@ fn answer<S: Source, K: Sink>(alloc: Global, words: &Words, source: &mut S, sink
     ensures read_fault { result ≡ Status.ReadFault → Rose (S.faults source.old) (S.faults source.new) }
     ensures write_fault { result ≡ Status.WriteFault → Rose (K.faults sink.old) (K.faults sink.new) }
     ensures read_steady { (result ≢ Status.ReadFault) → S.faults source.new ≡ S.faults source.old }
+    ensures reading { result ≡ Status.ReadFault → reads (command_of words.now) ≡ true }
     ensures write_steady { (result ≢ Status.WriteFault) → K.faults sink.new ≡ K.faults sink.old }
     ensures written { IfSome (command_of words.now) (λ command. IfSome (text_read (Some command) (S.left source.old)) (λ t.
         WritesText command t (K.written sink.old) (K.written sink.new) result)) }
@@ -162,14 +164,17 @@ pub fn run<S: Source, K: Sink, N: Sink>(
     // The answer is what the text calls for, or an excuse.
     ensures verdict { IfSome (text_read (command_of words.now) (S.left source.old)) (λ t. Answers (verdict (command_of words.now) t) result) }
 
-    // A fault is answered exactly where its device has counted one. A count at its last value stays.
+    // A fault is answered exactly where its device has counted one, and a fault of the source only where
+    // the command reads. A count at its last value stays.
     ensures read_fault { result ≡ Status.ReadFault → Rose (S.faults source.old) (S.faults source.new) }
     ensures read_steady { (result ≢ Status.ReadFault) → S.faults source.new ≡ S.faults source.old }
+    ensures reading { result ≡ Status.ReadFault → reads (command_of words.now) ≡ true }
     ensures write_fault { result ≡ Status.WriteFault → Rose (K.faults sink.old) (K.faults sink.new) }
     ensures write_steady { (result ≢ Status.WriteFault) → K.faults sink.new ≡ K.faults sink.old }
 
-    // With no fault the answer is what the text calls for, or memory was refused.
-    ensures complete { (Rose (S.faults source.old) (S.faults source.new) → ⊥) → (Rose (K.faults sink.old) (K.faults sink.new) → ⊥)
+    // With no fault of the sink, nor of the source where the command reads, the answer is what the text
+    // calls for, or memory was refused.
+    ensures complete { (reads (command_of words.now) ≡ true → Rose (S.faults source.old) (S.faults source.new) → ⊥) → (Rose (K.faults sink.old) (K.faults sink.new) → ⊥)
         → IfSome (text_read (command_of words.now) (S.left source.old)) (λ t. (result ≡ verdict (command_of words.now) t) ⊎ (result ≡ Status.Memory)) }
 
     // What is written.
