@@ -1,12 +1,14 @@
 -- The crate's own lemmas.
 pub mod Accepted
 pub mod BuiltSo
+pub mod CanonBuilt
 pub mod Counting
 pub mod Drafts
 pub mod EdnsBuilt
 pub mod Extended
 pub mod Headed
 pub mod Laid
+pub mod Lengths
 pub mod Octets
 pub mod Often
 pub mod OneReading

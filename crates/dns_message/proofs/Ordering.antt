@@ -118,7 +118,7 @@ none_unmapped : (x : Rec) (zs : List Rec) → NoneBelow sort_key_cmp (sort_key x
 none_unmapped x [] h = tt
 none_unmapped x (z ∷ zs) h = (h.0, none_unmapped x zs h.1)
 
-ascends_unmapped : (rs : List Rec) → Ascends sort_key_cmp (map sort_key rs) → Ascends record_cmp rs
+pub ascends_unmapped : (rs : List Rec) → Ascends sort_key_cmp (map sort_key rs) → Ascends record_cmp rs
 ascends_unmapped [] h = tt
 ascends_unmapped (r ∷ rs) h = (none_unmapped r rs h.0, ascends_unmapped rs h.1)
 

@@ -63,15 +63,19 @@ keys_folded : (rs : List Rec) → map sort_key (map fold rs) ≡ map sort_key rs
 keys_folded [] = refl
 keys_folded (r ∷ rs) = λ i. key_folded r i ∷ keys_folded rs i
 
-pub output_from_same : (rs ss : List Rec) → Same rs ss → output rs ≡ output ss
-output_from_same rs ss same =
+-- records that are the same have one order
+pub keys_from_same : (rs ss : List Rec) → Same rs ss → map sort_key (in_order (filter is_kept rs)) ≡ map sort_key (in_order (filter is_kept ss))
+keys_from_same rs ss same =
     let kept = filter is_kept rs in
     let other = filter is_kept ss in
     let moved : IsPermutation (map sort_key kept) (map sort_key other) = subst (λ (l : List SortKey). IsPermutation l (map sort_key other)) (keys_folded kept)
     (subst (IsPermutation (map sort_key (map fold kept))) (keys_folded other) (IsPermutation-map sort_key (map fold kept) (map fold other) same)) in
     let sums : SameSums (map sort_key (in_order kept)) (map sort_key (in_order other)) = λ f. in_order_sums kept f ∙ sym (sums_permuted (map sort_key kept) (map sort_key other) moved f) ∙ sym (in_order_sums other f) in
-    let keys = sorted_unique sort_key_cmp sort_key_cmp_total sort_key_cmp_same (map sort_key (in_order kept)) (map sort_key (in_order other)) (ascends_in_order kept) (ascends_in_order other) sums in
-    sym (octets_of_keys (in_order kept)) ∙ ap (map octets_of_key) keys ∙ octets_of_keys (in_order other)
+    sorted_unique sort_key_cmp sort_key_cmp_total sort_key_cmp_same (map sort_key (in_order kept)) (map sort_key (in_order other)) (ascends_in_order kept) (ascends_in_order other) sums
+
+pub output_from_same : (rs ss : List Rec) → Same rs ss → output rs ≡ output ss
+output_from_same rs ss same =
+    sym (octets_of_keys (in_order (filter is_kept rs))) ∙ ap (map octets_of_key) (keys_from_same rs ss same) ∙ octets_of_keys (in_order (filter is_kept ss))
 
 -- ---- from folded records, in this order
 

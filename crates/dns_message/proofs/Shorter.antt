@@ -7,7 +7,7 @@ use Rattle.std.proofs.lemmas.Option.{some_pair_parts}
 use Rattle.dns_wire.specs.Compression.{or_shorter, longest_kept, stands_at, cut_at, press, name_presses}
 use Rattle.dns_wire.specs.Names.{heads, wire}
 use Rattle.dns_wire.specs.Pieces.{list_presses, piece_presses, laid}
-use Rattle.dns_num.specs.InMessage.{zeros, sized_presses}
+use Rattle.dns_num.specs.InMessage.{zeros}
 use Rattle.dns_record.specs.Fields.{Field, field_octets, fields_octets}
 use Rattle.dns_record.specs.Fields.FieldOf.{Named, Bare, Raw, Sized, Byte, Number}
 use Rattle.dns_record.specs.InMessage.{record_numbers}

@@ -10,7 +10,7 @@ use Rattle.std.specs.List.Sorted.{IsPermutation}
 use Rattle.std.proofs.lemmas.Cmp.{nat_cmp_total, on_total, then_total, nat_list_cmp_total, tied_itself}
 use Rattle.std.proofs.lemmas.List.{reverse-reverse}
 use Rattle.std.proofs.lemmas.List.Recursion.{is_sum_by}
-use Rattle.std.proofs.lemmas.List.Sorted.{ranks_by, sum_by-IsPermutation}
+use Rattle.std.proofs.lemmas.List.Sorted.{ranks_by, sum_by-IsPermutation, IsPermutation-map}
 use Rattle.dns_wire.specs.Names.{lowered}
 use Rattle.dns_name.proofs.Sameness.{keys_total}
 use Rattle.dns_message.specs.Canonical.{canon, is_kept, octets_of_parts}
@@ -174,11 +174,13 @@ octets_of_keys (r ∷ rs) =
     ap (λ (small : List (List ℕ)). octets_of_parts small r.rtype r.class r.ttl (fields_octets (canonical_fields r.rtype r.content)) ∷ map octets_of_key (map sort_key rs)) (reverse-reverse (lowered r.owner))
     ∙ ap (λ (l : List (List ℕ)). canon r ∷ l) (octets_of_keys rs)
 
--- what the sort leaves is what the definition gives
-pub output_sorted : (rs : List Rec) (old new : List SortKey) → old ≡ map sort_key (filter is_kept rs) → IsPermutation old new → Ascends sort_key_cmp new
-    → map octets_of_key new ≡ output rs
-output_sorted rs old new is moved up =
+-- what a sort leaves is what the definition gives
+pub keys_sorted : (rs records : List Rec) → IsPermutation (filter is_kept rs) records → Ascends sort_key_cmp (map sort_key records) → map sort_key records ≡ map sort_key (in_order (filter is_kept rs))
+keys_sorted rs records moved up =
     let kept = filter is_kept rs in
-    let sums : SameSums new (map sort_key (in_order kept)) = λ f. sums_permuted old new moved f ∙ ap (times f) is ∙ sym (in_order_sums kept f) in
-    ap (map octets_of_key) (sorted_unique sort_key_cmp sort_key_cmp_total sort_key_cmp_same new (map sort_key (in_order kept)) up (ascends_in_order kept) sums)
-    ∙ octets_of_keys (in_order kept)
+    let sums : SameSums (map sort_key records) (map sort_key (in_order kept)) = λ f. sums_permuted (map sort_key kept) (map sort_key records) (IsPermutation-map sort_key kept records moved) f ∙ sym (in_order_sums kept f) in
+    sorted_unique sort_key_cmp sort_key_cmp_total sort_key_cmp_same (map sort_key records) (map sort_key (in_order kept)) up (ascends_in_order kept) sums
+
+pub output_sorted : (rs records : List Rec) → IsPermutation (filter is_kept rs) records → Ascends sort_key_cmp (map sort_key records) → map canon records ≡ output rs
+output_sorted rs records moved up =
+    sym (octets_of_keys records) ∙ ap (map octets_of_key) (keys_sorted rs records moved up) ∙ octets_of_keys (in_order (filter is_kept rs))

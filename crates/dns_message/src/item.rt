@@ -6,7 +6,7 @@ ghost use Rattle.dns_message.specs.Messages.{item_at};
 ghost use Rattle.dns_message.specs.Seen.{BeginsEdns, item_seen, HasSoundData, IsOfSection};
 
 use dns_edns::Opt;
-use dns_name::NameBuf;
+use dns_name::{NameBuf, RevNameBuf};
 use dns_rdata::{EdnsRecord, RecordData};
 use dns_record::{Question, Record};
 use dns_wire::{ParseError, SplitMessageBytes};
@@ -27,8 +27,9 @@ pub enum MessageItem<N, D, E> {
     Edns(EdnsRecord<E>),
 }
 
-/// An item that was read, with names of its own: its data are lent by the message.
-pub type ParsedMessageItem<'a> = MessageItem<NameBuf, RecordData<'a, NameBuf>, Opt<'a>>;
+/// An item that was read, with names of its own: its data are lent by the message, and its owner is kept from the root on, as
+/// owners are compared.
+pub type ParsedMessageItem<'a> = MessageItem<RevNameBuf, RecordData<'a, NameBuf>, Opt<'a>>;
 
 /// Whether the octets begin as an EDNS record does: with the root, and the number of OPT.
 fn begins_edns(octets: &[u8]) -> bool
@@ -48,7 +49,7 @@ fn read_additional(
     ensures sound { IfOk result (λ x. HasSoundData x.0) }
     ensures kind { IfOk result (λ x. IsOfSection 3 (drop start contents.now) x.0) }
 {
-    let (form, end) = Record::<NameBuf, RecordData<'_, NameBuf>>::split_message_bytes(
+    let (form, end) = Record::<RevNameBuf, RecordData<'_, NameBuf>>::split_message_bytes(
         contents, start,
     )?;
     if begins_edns(&contents[start..]) {

@@ -24,7 +24,7 @@ ghost use Rattle.dns_message.specs.Sorted.{Ascends};
 ghost use Rattle.dns_message.specs.WellFormed.{WellFormed};
 ghost use Rattle.dns_message.specs.Worded.{ItemAt, FailsAt, ReadsWhole};
 
-use dns_name::Name;
+use dns_name::{Name, NameBuf, RevNameBuf};
 use dns_rdata::RecordData;
 use dns_record::Record;
 use dns_wire::ParseBytes;
@@ -155,4 +155,11 @@ pub fn parsers_read_messages()
     ensures refused { (old new : MessageParser) (place : Place) (error : ParseError) →
         GivesNext old (Some (place, Err error)) new → ahead old ≡ Stopped [] place.section place.index (next_start old) }
     ensures over { (old new : MessageParser) → GivesNext {E = ParseError} old None new → ahead old ≡ Whole [] (next_start old) }
+{}
+
+/// A record is read as the same whichever way its owner is kept, from its first label on or from the root on.
+pub fn owners_in_either_layout()
+    ensures { (contents : List ℕ) (at : ℕ) →
+        ⟦<Record<NameBuf, RecordData<'static, NameBuf>> as ParseBytes<'static>>⟧.reads_at contents at
+        ≡ ⟦<Record<RevNameBuf, RecordData<'static, NameBuf>> as ParseBytes<'static>>⟧.reads_at contents at }
 {}

@@ -1,16 +1,18 @@
 //! Each law is called once.
 
 mod builder;
+mod canonical_record;
 mod parser;
 
 use crate::{
     built_questions_are_read, built_records_are_read, canonical_lists,
     canonical_octets_are_read_back, canonical_records_are_split_back, canonical_texts,
     counted_items, equal_canonical_octets, equal_outputs, items_in_words, new_messages_are_empty,
-    octets_behind_items, order_of_records, parsers_read_messages, prefixed_pieces_are_read,
-    pushed_questions_are_read, pushed_records_are_read, pushes_add_an_item, pushes_count_one_more,
-    readings_in_words, records_are_built, records_that_are_read_are_well_formed, same_records,
-    three_kinds_of_messages, told_pieces_are_read,
+    octets_behind_items, order_of_records, owners_in_either_layout, parsers_read_messages,
+    prefixed_pieces_are_read, pushed_questions_are_read, pushed_records_are_read,
+    pushes_add_an_item, pushes_count_one_more, readings_in_words, records_are_built,
+    records_that_are_read_are_well_formed, same_records, three_kinds_of_messages,
+    told_pieces_are_read,
 };
 use dns_basic::CName;
 use dns_name::{Name, NameBuf};
@@ -31,6 +33,7 @@ fn laws_are_called(_rt: HostRuntime) -> Result<(), Fail> {
     canonical_octets_are_read_back();
     canonical_records_are_split_back();
     order_of_records();
+    owners_in_either_layout();
     canonical_lists();
     same_records();
     equal_outputs();

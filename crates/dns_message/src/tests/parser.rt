@@ -1,7 +1,7 @@
 //! Messages item by item.
 
 use crate::{HeaderFlags, Message, MessageItem, MessageParser, ParsedMessageItem};
-use dns_name::{Name, NameBuf};
+use dns_name::{Name, NameBuf, RevNameBuf};
 use dns_num::U16;
 use dns_rdata::RecordData;
 use dns_record::{RType, Record};
@@ -9,7 +9,7 @@ use dns_wire::{ParseBytes, ParseError};
 use std::test::Fail;
 
 /// The answer of BIND, as a resolver, to a question for an alias: a question, an alias, an address and an OPT with a cookie.
-const ANSWER: &[u8] =
+pub(crate) const ANSWER: &[u8] =
     b"\x3a\x4f\x81\x80\0\x01\0\x02\0\0\0\x01\x05Alias\x07Example\x03ORG\0\0\x01\0\x01\x05alias\x07example\x03org\0\0\x05\0\x01\0\0\x01\x2c\0\x09\x06single\xc0\x29\xc0\x40\0\x01\0\x01\0\0\x01\x2c\0\x04\xc0\0\x02\x5a\0\0\x29\x04\xd0\0\0\0\0\0\x1c\0\x0a\0\x18\xe0\x0f\x5a\x3b\x6e\x7b\x8e\x68\x01\0\0\0\x6b\x09\x76\xcb\x72\x0d\xdc\x96\xda\x5e\x61\x7b";
 
 /// Three additional records: an address of the root, an OPT whose owner is a pointer to that root, and an OPT whose owner is the
@@ -26,10 +26,10 @@ struct Line {
     ttl: u32,
 }
 
-fn line_of(kind: char, found: &Record<NameBuf, RecordData<'_, NameBuf>>) -> Line {
+fn line_of(kind: char, found: &Record<RevNameBuf, RecordData<'_, NameBuf>>) -> Line {
     Line {
         kind,
-        owner: NameBuf::copy_from(found.rname.as_name()),
+        owner: found.rname.as_revname().to_name(),
         rtype: found.rtype,
         ttl: found.ttl.as_secs(),
     }
@@ -39,7 +39,7 @@ fn told(item: &ParsedMessageItem<'_>) -> Line {
     match item {
         MessageItem::Question(question) => Line {
             kind: 'q',
-            owner: NameBuf::copy_from(question.qname.as_name()),
+            owner: question.qname.as_revname().to_name(),
             rtype: RType {
                 code: question.qtype.code,
             },

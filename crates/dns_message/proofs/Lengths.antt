@@ -1,0 +1,33 @@
+-- How many octets canonical records have.
+use Rattle.std.proofs.Common.{◌≡◌, ℕ, ◌+◌, List, ◌++◌, length, sym, ap, refl, arith}
+use Rattle.std.specs.Int.{w16, w32, to_be_bytes}
+use Rattle.std.proofs.lemmas.List.{length-append}
+use Rattle.dns_wire.specs.Names.{wire, lowered}
+use Rattle.dns_wire.proofs.Lowered.{lowered_long}
+use Rattle.dns_record.specs.Fields.{fields_octets, canonical_octets, canonical_fields}
+use Rattle.dns_record.proofs.Sizes.{canonical_long}
+use Rattle.dns_rdata.specs.Data.{data_fields, type_number, written_fields}
+use Rattle.dns_rdata.specs.Written.{fields_written}
+use Rattle.dns_rdata.specs.declared.record_data.RecordData.{RecordData}
+use Rattle.dns_message.specs.Canonical.{canon}
+use Rattle.dns_message.specs.Messages.{Rec}
+use Rattle.dns_message.specs.Seen.{data_seen}
+
+-- data are written as their fields are
+pub as_whole : (v : RecordData (List (List ℕ))) → length (written_fields wire (data_fields v)) ≡ length (fields_octets (data_seen v))
+as_whole v = ap length (sym (fields_written (λ labels. labels) wire (λ labels. refl) (data_fields v)))
+
+-- and the canonical octets are as many
+pub as_canonical : (v : RecordData (List (List ℕ))) → length (canonical_octets (type_number v) (data_seen v)) ≡ length (fields_octets (data_seen v))
+as_canonical v = canonical_long (type_number v) (data_seen v)
+
+-- an owner, ten octets, and the data
+pub canon_long : (r : Rec) → length (canon r) ≡ length (wire r.owner) + (10 + length (fields_octets r.content))
+canon_long r =
+    let small = fields_octets (canonical_fields r.rtype r.content) in
+    omega (
+      arith,
+      lowered_long r.owner,
+      canonical_long r.rtype r.content,
+      length-append (wire (lowered r.owner)) (to_be_bytes w16 r.rtype ++ (to_be_bytes w16 r.class ++ (to_be_bytes w32 r.ttl ++ (to_be_bytes w16 (length small) ++ small)))),
+    )

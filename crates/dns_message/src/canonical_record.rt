@@ -1,0 +1,199 @@
+//! Records as they are compared and written in canonical form.
+
+ghost use Rattle.std.specs.Prelude.{◌≡◌, ◌≤◌, ◌<◌, ◌^◌, [], ◌∷◌, length, drop, filter, MatchOption, IfOk, OnOk, OnErr, ⊤};
+ghost use Rattle.std.proofs.Common.{rules};
+ghost use Rattle.std.specs.Borrow.{sem};
+ghost use Rattle.std.specs.Cmp.{partial_order_from_own_ties};
+ghost use Rattle.std.specs.Cmp.Rules.{comparing};
+ghost use Rattle.std.specs.Ordering.{on, as_partial_cmp, eq_by_cmp};
+ghost use Rattle.dns_wire.specs.Building.{Builds, LendsRest};
+ghost use Rattle.dns_record.specs.Fields.{canonical_octets, fields_octets};
+ghost use Rattle.dns_rdata.specs.Data.{type_number};
+ghost use Rattle.dns_message.specs.Canonical.{canon, is_kept};
+ghost use Rattle.dns_message.specs.Messages.{Rec, records_among};
+ghost use Rattle.dns_message.specs.Order.{record_cmp, sort_key, sort_key_cmp};
+ghost use Rattle.dns_message.specs.Seen.{AreSound, HasSoundData, data_seen, item_seen, record_told};
+
+use crate::item::{MessageItem, ParsedMessageItem};
+use dns_name::{CanonicalName, Lowercased, NameBuf, RevNameBuf};
+use dns_num::{SizePrefixed, U16};
+use dns_rdata::RecordData;
+use dns_record::{CanonicalRecordData, RType, Record};
+use dns_wire::{BuildBytes, TruncationError};
+use std::cmp::Ordering;
+use std::marker::Model;
+
+/// A record of another type than OPT, to be compared and written in canonical form (RFC 4034 section 6). Its data are lent by
+/// the message, and its owner is kept from the root on, as owners are compared.
+#[derive(Debug, Drop)]
+pub struct CanonicalRecord<'a> {
+    found: Record<RevNameBuf, RecordData<'a, NameBuf>>,
+}
+
+impl<'a> Model for CanonicalRecord<'a> {
+    ghost Value = { Rec };
+
+    ghost view = { λ r. record_told r.found };
+
+    ghost invariant = { λ r. AreSound r.found };
+}
+
+impl<'a> CanonicalRecord<'a> {
+    /// The record that the item is; none exactly for a question and for a record of type OPT, which is a record in form alone
+    /// (RFC 6891 section 6.1.1).
+    pub fn of(item: ParsedMessageItem<'a>) -> Option<CanonicalRecord<'a>>
+        requires { HasSoundData item }
+        ensures { MatchOption result (filter is_kept (records_among (item_seen item.entry ∷ [])) ≡ []) (λ r. filter is_kept (records_among (item_seen item.entry ∷ [])) ≡ r ∷ []) }
+    {
+        match item {
+            MessageItem::Answer(found)
+            | MessageItem::Authority(found)
+            | MessageItem::Additional(found) => CanonicalRecord::of_record(found),
+            MessageItem::Question(_) | MessageItem::Edns(_) => None,
+        }
+    }
+
+    /// The record; none for one of type OPT.
+    fn of_record(found: Record<RevNameBuf, RecordData<'a, NameBuf>>) -> Option<CanonicalRecord<'a>>
+        requires { AreSound found }
+        ensures { MatchOption result (filter is_kept (record_told found.entry ∷ []) ≡ []) (λ r. filter is_kept (record_told found.entry ∷ []) ≡ r ∷ []) }
+    {
+        if found.rtype == RType::OPT {
+            None
+        } else {
+            Some(CanonicalRecord { found })
+        }
+    }
+
+    /// The number of canonical octets, at most 65,800.
+    pub fn size(&self) -> usize
+        ensures size { result ≡ length (canon self.now) }
+        ensures short { result ≤ 65800 }
+    {
+        self.built_bytes_size()
+    }
+
+    /// Writes the canonical octets to the beginning of the buffer. What is behind them is lent back as it was.
+    /// `TruncationError` comes exactly where they are more than the buffer's; what the buffer holds then is open.
+    pub fn write<'b>(&self, bytes: &'b mut [u8]) -> Result<&'b mut [u8], TruncationError>
+        ensures* written { sem 𝓛 (LendsRest bytes.entry result (canon self.now)) }
+        ensures rest { IfOk result (λ rest. rest.now ≡ drop (length (canon self.now)) bytes.old) }
+        ensures accepted { OnOk result (length (canon self.now) ≤ length bytes.old) }
+        ensures refused { OnErr result (length bytes.old < length (canon self.now)) }
+    {
+        match self.put(bytes) {
+            Ok(end) => Ok(&mut bytes[end..]),
+            Err(error) => Err(error),
+        }
+    }
+
+    /// Writes the canonical octets to the beginning of the buffer, and gives the place where they end.
+    fn put(&self, bytes: &mut [u8]) -> Result<usize, TruncationError>
+        ensures { Builds ⊤ (canon self.now) bytes.old 0 bytes.new result }
+    {
+        self.build_at(bytes, 0)
+    }
+}
+
+/// The canonical octets of data, among other parts.
+#[derive(Drop)]
+struct CanonicalData<'r, 'a> {
+    rdata: &'r RecordData<'a, NameBuf>,
+    ghost short: { length (fields_octets (data_seen rdata.now)) < 2 ^ 16 },
+}
+
+impl BuildBytes for CanonicalData<'_, '_> {
+    ghost octets = { λ v. canonical_octets (type_number v.rdata.now) (data_seen v.rdata.now) };
+
+    fn build_at(&self, bytes: &mut [u8], start: usize) -> Result<usize, TruncationError> {
+        self.rdata.build_canonical_at(bytes, start)
+    }
+
+    #[tactic(auto, using(crate::proofs::Lengths::as_whole, crate::proofs::Lengths::as_canonical))]
+    fn built_bytes_size(&self) -> usize {
+        self.rdata.built_bytes_size()
+    }
+}
+
+/// The canonical octets: the owner in small letters, type, class, TTL, the number of the data's octets, and these (RFC 4034
+/// section 6.2).
+impl BuildBytes for CanonicalRecord<'_> {
+    ghost octets = { canon };
+
+    fn build_at(&self, bytes: &mut [u8], start: usize) -> Result<usize, TruncationError> {
+        let owner = Lowercased {
+            name: &self.found.rname,
+        };
+        let data = SizePrefixed::<U16, _>::new(CanonicalData {
+            rdata: &self.found.rdata,
+        });
+        let parts = (
+            &self.found.rtype,
+            (&self.found.rclass, (&self.found.ttl, data)),
+        );
+        (owner, parts).build_at(bytes, start)
+    }
+
+    /// The number of octets, at most 65,800.
+    fn built_bytes_size(&self) -> usize
+        ensures size { result ≡ length (canon self.now) }
+        ensures short { result ≤ 65800 }
+    {
+        self.found.rname.composed_size() + (10 + self.found.rdata.built_bytes_size())
+    }
+}
+
+impl PartialEq for CanonicalRecord<'_> {
+    ghost eq = { eq_by_cmp (on sort_key sort_key_cmp) };
+
+    ghost laws = { Prim.search (comparing, rules) depth 9 };
+
+    /// Whether the canonical octets are the same.
+    fn eq(&self, other: &Self) -> bool {
+        self.cmp(other).is_eq()
+    }
+}
+
+impl Eq for CanonicalRecord<'_> {
+    ghost laws = { Prim.search (comparing, rules) depth 9 };
+}
+
+impl Ord for CanonicalRecord<'_> {
+    ghost cmp = { on sort_key sort_key_cmp };
+
+    ghost total = { Prim.search (comparing, rules) depth 9 };
+
+    ghost matches_partial_cmp = { Prim.search (comparing, rules) depth 9 };
+
+    ghost matches_eq = { Prim.search (comparing, rules) depth 9 };
+
+    /// By owner, label by label from the root on, then by class, type, the data's canonical octets, and TTL (RFC 4034
+    /// sections 6.1, 6.3). The first that differs decides, and no octets are written.
+    fn cmp(&self, other: &Self) -> Ordering {
+        let (a, b) = (&self.found, &other.found);
+        let owners = a.rname.cmp(&b.rname);
+        if owners.is_ne() {
+            return owners;
+        }
+        let classes = a.rclass.cmp(&b.rclass);
+        if classes.is_ne() {
+            return classes;
+        }
+        // Data are compared by their type first.
+        let data = a.rdata.cmp_canonical(&b.rdata);
+        if data.is_ne() {
+            return data;
+        }
+        a.ttl.cmp(&b.ttl)
+    }
+}
+
+impl PartialOrd for CanonicalRecord<'_> {
+    ghost partial_cmp = { as_partial_cmp (on sort_key sort_key_cmp) };
+
+    ghost laws = { partial_order_from_own_ties (Prim.search (comparing, rules) depth 9) (Prim.search (comparing, rules) depth 9) };
+
+    fn partial_cmp(&self, other: &Self) -> Option<Ordering> {
+        Some(self.cmp(other))
+    }
+}
