@@ -1,14 +1,10 @@
 -- The items of a message, as its parser gives them one after another.
-use Rattle.std.proofs.Common.{◌≡◌, ℕ, ◌≤◌, ◌≢◌, true, false, List, [], ◌∷◌, ◌++◌, length, map, filter, Option, Some, None, Result, Ok, Err, refl, sym, ap, ◌∙◌, subst, arith}
-use Rattle.std.proofs.lemmas.Bool.Decides.{nat_tests}
-use Rattle.std.proofs.lemmas.List.{map-append}
+use Rattle.std.proofs.Common.{◌≡◌, ℕ, ◌≤◌, false, List, [], ◌∷◌, ◌++◌, length, filter, Option, Some, None, Result, Ok, Err, refl, sym, ap, ◌∙◌, subst}
 use Rattle.std.proofs.lemmas.List.Elements.{filter-append}
 use Rattle.dns_wire.specs.declared.error.ParseError.{ParseError}
 use Rattle.dns_message.specs.Canonical.{is_kept}
 use Rattle.dns_message.specs.Messages.{Item, Rec, Reading, with_item, message_reading, records_among, Valid, BadAt}
-use Rattle.dns_message.specs.Messages.Item.{Told}
 use Rattle.dns_message.specs.Messages.Reading.{Stopped, Whole}
-use Rattle.dns_message.specs.Order.{SortKey, sort_key}
 use Rattle.dns_message.specs.Parsing.{parsed_message, given_count, next_start, has_ended, ahead, Parsed, GivesNext}
 use Rattle.dns_message.specs.Seen.{item_seen}
 use Rattle.dns_message.specs.declared.parser.MessageParser.{MessageParser}
@@ -17,23 +13,12 @@ use Rattle.dns_message.proofs.Parsed.{starts, gives, refuses, ends}
 use Rattle.dns_message.proofs.Slots.{among_append}
 
 -- what is kept of items
-abbrev pub kept_of : List Item → List SortKey
-kept_of items = map sort_key (filter is_kept (records_among items))
+abbrev pub kept_of : List Item → List Rec
+kept_of items = filter is_kept (records_among items)
 
 kept_append : (items others : List Item) → kept_of (items ++ others) ≡ kept_of items ++ kept_of others
 kept_append items others =
-    ap (λ (l : List Rec). map sort_key (filter is_kept l)) (among_append items others)
-    ∙ ap (map sort_key) (filter-append is_kept (records_among items) (records_among others))
-    ∙ map-append sort_key (filter is_kept (records_among items)) (filter is_kept (records_among others))
-
--- ---- one item
-
--- a record of another type than OPT
-pub kept_told : (r : Rec) → r.rtype ≢ 41 → kept_of (Told r ∷ []) ≡ sort_key r ∷ []
-kept_told r other = let keeps : is_kept r ≡ true = grind (arith, nat_tests) in rw keeps refl
-
-pub kept_opt : (r : Rec) → r.rtype ≡ 41 → kept_of (Told r ∷ []) ≡ []
-kept_opt r opt = let leaves : is_kept r ≡ false = rw opt refl in rw leaves refl
+    ap (filter is_kept) (among_append items others) ∙ filter-append is_kept (records_among items) (records_among others)
 
 -- ---- items in front of a reading
 
@@ -56,13 +41,13 @@ all_whole (item ∷ items) end = ap (with_item item) (all_whole items end)
 -- ---- the items so far
 
 -- these items were given, what is kept is of them, and the parser has the others ahead
-pub record ReadSoFar (m : List ℕ) (parser : MessageParser) (kept : List SortKey) : Type 0 where
+pub record ReadSoFar (m : List ℕ) (parser : MessageParser) (kept : List Rec) : Type 0 where
   pub of_message : parsed_message parser ≡ m
   pub items : List Item
   pub read : with_items items (ahead parser) ≡ message_reading m
   pub kept_is : kept ≡ kept_of items
 
-pub read_none : (m : List ℕ) (parser : MessageParser) (kept : List SortKey) → (12 ≤ length m) × (parsed_message parser ≡ m) → (given_count parser ≡ 0) × (next_start parser ≡ 0) × (has_ended parser ≡ false) → kept ≡ [] → ReadSoFar m parser kept
+pub read_none : (m : List ℕ) (parser : MessageParser) (kept : List Rec) → (12 ≤ length m) × (parsed_message parser ≡ m) → (given_count parser ≡ 0) × (next_start parser ≡ 0) × (has_ended parser ≡ false) → kept ≡ [] → ReadSoFar m parser kept
 read_none m parser kept whole start none = record {
   of_message = whole.1;
   items = [];
@@ -70,23 +55,23 @@ read_none m parser kept whole start none = record {
   kept_is = none;
 }
 
-pub read_more : (m : List ℕ) (old new : MessageParser) (place : Place) (item : Parsed) (kept more : List SortKey) → ReadSoFar m old kept → parsed_message new ≡ parsed_message old → GivesNext {E = ParseError} old (Some (place, Ok item)) new → more ≡ kept ++ kept_of (item_seen item ∷ []) → ReadSoFar m new more
+pub read_more : (m : List ℕ) (old new : MessageParser) (place : Place) (item : Parsed) (kept more : List Rec) → ReadSoFar m old kept → parsed_message new ≡ parsed_message old → GivesNext {E = ParseError} old (Some (place, Ok item)) new → more ≡ kept ++ kept_of (item_seen item ∷ []) → ReadSoFar m new more
 read_more m old new place item kept more so same given is = record {
   of_message = same ∙ so.of_message;
   items = so.items ++ item_seen item ∷ [];
   read = one_more so.items (item_seen item) (ahead new) ∙ ap (with_items so.items) (sym (gives ParseError old new place item same given)) ∙ so.read;
-  kept_is = is ∙ ap (λ (l : List SortKey). l ++ kept_of (item_seen item ∷ [])) so.kept_is ∙ sym (kept_append so.items (item_seen item ∷ []));
+  kept_is = is ∙ ap (λ (l : List Rec). l ++ kept_of (item_seen item ∷ [])) so.kept_is ∙ sym (kept_append so.items (item_seen item ∷ []));
 }
 
-pub read_fails : (m : List ℕ) (old new : MessageParser) (place : Place) (error : ParseError) (kept : List SortKey) → ReadSoFar m old kept → GivesNext old (Some (place, Err error)) new → BadAt m place.section place.index
+pub read_fails : (m : List ℕ) (old new : MessageParser) (place : Place) (error : ParseError) (kept : List Rec) → ReadSoFar m old kept → GivesNext old (Some (place, Err error)) new → BadAt m place.section place.index
 read_fails m old new place error kept so refused =
     (next_start old, (so.items, sym so.read ∙ ap (with_items so.items) (refuses old new place error refused) ∙ all_stopped so.items place.section place.index (next_start old)))
 
-read_all : (m : List ℕ) (old new : MessageParser) (kept : List SortKey) → ReadSoFar m old kept → GivesNext {E = ParseError} old None new → (rs : List Rec) × Valid m rs × (kept ≡ map sort_key (filter is_kept rs))
+read_all : (m : List ℕ) (old new : MessageParser) (kept : List Rec) → ReadSoFar m old kept → GivesNext {E = ParseError} old None new → (rs : List Rec) × Valid m rs × (kept ≡ filter is_kept rs)
 read_all m old new kept so over =
     (records_among so.items, (so.items, next_start old, sym so.read ∙ ap (with_items so.items) (ends ParseError old new over) ∙ all_whole so.items (next_start old), refl), so.kept_is)
 
 -- where no item is given, all were
-pub read_over : (m : List ℕ) (old new : MessageParser) (kept : List SortKey) (given : Option (Place × Result Parsed ParseError)) → ReadSoFar m old kept → GivesNext old given new → ((x : Place × Result Parsed ParseError) → ¬ (given ≡ Some x)) → (rs : List Rec) × Valid m rs × (kept ≡ map sort_key (filter is_kept rs))
+pub read_over : (m : List ℕ) (old new : MessageParser) (kept : List Rec) (given : Option (Place × Result Parsed ParseError)) → ReadSoFar m old kept → GivesNext old given new → ((x : Place × Result Parsed ParseError) → ¬ (given ≡ Some x)) → (rs : List Rec) × Valid m rs × (kept ≡ filter is_kept rs)
 read_over m old new kept None so over none = read_all m old new kept so over
 read_over m old new kept (Some x) so over none = absurd (none x refl)

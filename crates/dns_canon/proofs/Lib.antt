@@ -4,7 +4,7 @@ pub mod Decoding
 pub mod Digits
 pub mod Exclusive
 pub mod GeneratedRecords
-pub mod Kept
+pub mod HeldLines
 pub mod MadeLemmas
 pub mod Pairs
 pub mod Parting
@@ -15,5 +15,5 @@ pub mod Sorting
 pub mod Transfers
 pub mod Trimming
 pub mod Verdicts
-pub mod Whole
 pub mod WordLemmas
+pub mod Written

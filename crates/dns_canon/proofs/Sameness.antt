@@ -1,17 +1,20 @@
 -- What equal canonical lists tell of two messages.
-use Rattle.std.proofs.Common.{◌≡◌, ℕ, ◌+◌, ◌*◌, ◌-◌, ◌<◌, ◌&&◌, ◌⊎◌, inl, inr, Bool, true, false, cond, List, [], ◌∷◌, ◌++◌, Option, Some, None, codes, refl, sym, ◌∙◌, subst, arith}
-use Rattle.std.specs.Prelude.{◌↔◌, nat_le, nat_eq}
-use Rattle.std.specs.Cmp.Lexicographic.{pointwise, pointwise_decides, bytes_decides}
+use Rattle.std.proofs.Common.{◌≡◌, ℕ, map, ◌+◌, ◌*◌, ◌-◌, ◌<◌, ◌&&◌, ◌⊎◌, inl, inr, Bool, true, false, cond, List, [], ◌∷◌, ◌++◌, Option, Some, None, codes, refl, sym, ◌∙◌, subst, arith}
+use Rattle.std.specs.Prelude.{◌↔◌, nat_le}
+use Rattle.std.specs.Cmp.Lexicographic.{pointwise}
 use Rattle.std.proofs.lemmas.Bool.Decides.{nat_tests}
 use Rattle.dns_wire.specs.Hexadecimal.{Spells, digit_value, pair_before, spelled, trim}
 use Rattle.dns_wire.specs.Reading.{AreOctets}
 use Rattle.dns_message.specs.Messages.{Rec, Valid}
-use Rattle.dns_message.specs.Order.{output}
 use Rattle.dns_message.specs.Same.{Same}
 use Rattle.dns_message.proofs.Octets.{no_octets, one_more}
 use Rattle.dns_message.proofs.Sameness.{message_outputs}
 use Rattle.dns_message.proofs.OneReading.{valid_one}
+use Rattle.std.specs.Ordering.{eq_by_cmp}
+use Rattle.dns_message.specs.Order.{record_cmp, sort_key}
+use Rattle.dns_canon.specs.Ordered.{AreInOrder}
 use Rattle.dns_canon.specs.Parts.{first_text, second_text}
+use Rattle.dns_canon.proofs.Sorting.{keys_tie, same_in_order}
 use Rattle.dns_canon.specs.Run.{Prints, TellsSameness}
 use Rattle.dns_canon.specs.declared.words.Command.TheVariants as command
 
@@ -44,16 +47,19 @@ spelled_octets (c ∷ d ∷ rest) m e = by (digit_value c) (digit_value d) (spel
 
 -- ---- what is told
 
--- the word for two lists is the word for the records of the messages
-pub told : (t u m n : List ℕ) (rs ss : List Rec) (printed : List ℕ) → Spells t m → Spells u n → Valid m rs → Valid n ss
-    → (output rs ≡ output ss → printed ≡ codes "same" ++ 10 ∷ []) → (¬ (output rs ≡ output ss) → printed ≡ codes "different" ++ 10 ∷ []) → TellsSameness rs ss printed
-told t u m n rs ss printed first second valid also same different = by (pointwise (pointwise nat_eq) (output rs) (output ss)) refl
-    (message_outputs m n rs ss (spelled_octets (trim t) m first) (spelled_octets (trim u) n second) valid also) where
-      by : (test : Bool) → pointwise (pointwise nat_eq) (output rs) (output ss) ≡ test → (output rs ≡ output ss) ↔ Same rs ss → TellsSameness rs ss printed
-      by true e are = let equal = (pointwise_decides bytes_decides (output rs) (output ss)).0 e in inl (are.0 equal, same equal)
-      by false e are =
-          let other : ¬ (output rs ≡ output ss) = λ equal. (let yes = (pointwise_decides bytes_decides (output rs) (output ss)).1 equal in let clash : false ≡ true = sym e ∙ yes in absurd cc) in
-          inr (λ s. other (are.1 s), different other)
+-- the word for the records of two messages, in order
+pub told : (t u m n : List ℕ) (rs ss records others : List Rec) (printed : List ℕ) → Spells t m → Spells u n → Valid m rs → Valid n ss → AreInOrder rs records → AreInOrder ss others
+    → (map sort_key records ≡ map sort_key others → printed ≡ codes "same" ++ 10 ∷ []) → (¬ (map sort_key records ≡ map sort_key others) → printed ≡ codes "different" ++ 10 ∷ [])
+    → TellsSameness rs ss printed
+told t u m n rs ss records others printed first second valid also sorted sorted-too same different = by (pointwise (eq_by_cmp record_cmp) records others) refl where
+  are : (map sort_key records ≡ map sort_key others) ↔ Same rs ss
+  are = same_in_order rs ss records others sorted sorted-too (message_outputs m n rs ss (spelled_octets (trim t) m first) (spelled_octets (trim u) n second) valid also)
+
+  by : (test : Bool) → pointwise (eq_by_cmp record_cmp) records others ≡ test → TellsSameness rs ss printed
+  by true e = let equal = (keys_tie records others).0 e in inl (are.0 equal, same equal)
+  by false e =
+      let other : ¬ (map sort_key records ≡ map sort_key others) = λ equal. (let clash : false ≡ true = sym e ∙ (keys_tie records others).1 equal in absurd cc) in
+      inr (λ s. other (are.1 s), different other)
 
 -- ---- in words
 

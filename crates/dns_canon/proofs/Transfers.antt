@@ -1,14 +1,18 @@
 -- What several writes do together.
-use Rattle.std.proofs.Common.{◌≡◌, ℕ, ◌+◌, ◌-◌, length, length-take, length-drop, length-append, arith, Result, Err, suc, [], ◌∷◌, ◌<◌, ◌≤◌, ap, ◌∙◌, get_or, flat_map, take-append-drop, append_assoc, drop-cons, take_all, List, ◌++◌, Bool, take, drop, Some, None, IfSome, Ok, sym, subst, refl}
-use Rattle.std.specs.Prelude.{IsSome}
+use Rattle.std.proofs.Common.{◌≡◌, true, ℕ, ◌+◌, ◌-◌, length, length-take, length-drop, length-append, arith, Result, Err, suc, [], ◌∷◌, ◌<◌, ◌≤◌, ap, ◌∙◌, get_or, flat_map, take-append-drop, append_assoc, drop-cons, take_all, List, ◌++◌, Bool, take, drop, Some, None, IfSome, Ok, sym, subst, refl}
+use Rattle.std.specs.Prelude.{IsSome, IsOk, IsErr, MatchResult}
 use Rattle.std.specs.declared.option.Option.{Option}
 use Rattle.std.proofs.KnownBytes.{Appends-trans, Consumes-trans}
 use Rattle.std.proofs.Math.Seq.{take-add, take-append-add}
 use Rattle.std.proofs.lemmas.List.{take-append-le}
 use Rattle.std.proofs.lemmas.List.Concat.{flat_map-cons}
 use Rattle.std.proofs.lemmas.Grind.{flat_map-append}
-use Rattle.dns_wire.specs.Outside.{WritesFront, Puts}
-use Rattle.dns_canon.specs.Run.{TakesAtMost}
+use Rattle.dns_wire.specs.Outside.{ReadsAll, WritesFront, Puts}
+use Rattle.dns_canon.specs.Run.{TakesAtMost, Prints, WritesText, ended}
+use Rattle.dns_canon.specs.Verdict.{reads, text_read}
+use Rattle.dns_canon.specs.declared.status.Status.{Status}
+use Rattle.dns_canon.specs.declared.status.Status.TheVariants.{WriteFault}
+use Rattle.dns_canon.specs.declared.words.Command.{Command}
 use Rattle.dns_canon.specs.Statuses.{spaced, note_line}
 use Rattle.std.specs.Io.KnownBytes.{Appends, Consumes}
 use Rattle.dns_wire.specs.Outside.{WriteFlag}
@@ -80,3 +84,20 @@ puts_line a b c word nums i r le h j =
 pub front_of_puts : (a b : Option (List ℕ)) (x : List ℕ) (r : Result (Unit {0}) Failed) → Puts a b x r → WritesFront a b x
 front_of_puts a b x (Ok u) h = (length x, omega arith, subst (Appends a b) (sym (take_all (length x) x (omega arith))) h)
 front_of_puts a b x (Err e) h = h
+
+-- ---- what a command prints
+
+-- a text that is put is written by its command
+pub text_put : (command : Command) (text printed : List ℕ) (a b : Option (List ℕ)) (put : Result (Unit {0}) Failed) (result : Result (Unit {0}) Status)
+    → MatchResult result (λ _. IsOk put) (λ status. (status ≡ WriteFault) × IsErr put) → Prints command text printed → Puts a b printed put → WritesText command text a b (ended result)
+text_put command text printed a b (Ok u) (Ok v) came prints puts = (printed, prints, puts)
+text_put command text printed a b (Err e) (Ok v) came prints puts = cc
+text_put command text printed a b (Ok u) (Err status) came prints puts = cc
+text_put command text printed a b (Err e) (Err status) came prints puts = subst (WritesText command text a b) (sym came.0) (printed, prints, puts)
+
+-- and so where the text was read
+pub read_put : (command : Command) (left after : Option (List ℕ)) (text printed : List ℕ) (a b : Option (List ℕ)) (put : Result (Unit {0}) Failed) (result : Result (Unit {0}) Status)
+    → reads (Some command) ≡ true → ReadsAll left after text → MatchResult result (λ _. IsOk put) (λ status. (status ≡ WriteFault) × IsErr put) → Prints command text printed → Puts a b printed put
+    → IfSome (text_read (Some command) left) (λ t. WritesText command t a b (ended result))
+read_put command None after text printed a b put result reading read came prints puts = rw reading tt
+read_put command (Some all) after text printed a b put result reading read came prints puts = rw reading (subst (λ t. WritesText command t a b (ended result)) read.0 (text_put command text printed a b put result came prints puts))

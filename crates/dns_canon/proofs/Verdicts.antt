@@ -3,7 +3,9 @@ use Rattle.std.proofs.Common.{◌≡◌, ℕ, ◌<◌, ◌≤◌, ◌⊎◌, inl
 use Rattle.std.specs.Prelude.{◌↔◌}
 use Rattle.std.proofs.lemmas.Bool.{cases_lt, le-ltb, lt-ltb}
 use Rattle.dns_wire.specs.Hexadecimal.{Spells, SpellsNothing, spelled, trim}
-use Rattle.dns_message.specs.Messages.{Rec, Valid, BadAt, message_reading}
+use Rattle.dns_message.specs.Messages.{Rec, Reading, Valid, BadAt, message_reading}
+use Rattle.dns_message.specs.Messages.Reading.{Short as TooShort, Stopped, Whole}
+use Rattle.dns_canon.specs.Run.{Answers}
 use Rattle.dns_canon.specs.Refusals.{RefusedOrMemory}
 use Rattle.dns_canon.specs.Statuses.{canon_status}
 use Rattle.dns_canon.specs.Verdict.{verdict, first_refusal}
@@ -127,3 +129,16 @@ refuses t m canon.Memory within spells refused = (inr refl, (λ e. cc, (λ e. cc
 -- a refusal of the message that the text spells is the verdict, or memory ran out
 pub message_refused : (t m : List ℕ) (error : CanonError) (status : Status) → length t ≤ 131072 → Spells t m → RefusedOrMemory m error → status ≡ canon_status 0 error → Refuses Canon t status
 message_refused t m error status within spells refused is = subst (Refuses Canon t) (sym is) (refuses t m error within spells refused)
+
+reading_not_usage : (r : Reading) → first_refusal 0 (r ∷ []) ≢ Usage
+reading_not_usage TooShort = λ e. cc
+reading_not_usage (Stopped items section index place) = λ e. cc
+reading_not_usage (Whole items end) = λ e. cc
+
+-- and it answers the text
+pub message_answers : (t m : List ℕ) (error : CanonError) (status : Status) → length t ≤ 131072 → Spells t m → RefusedOrMemory m error → status ≡ canon_status 0 error → Answers (verdict (Some Canon) t) status
+message_answers t m error status within spells refused is = subst (Answers (verdict (Some Canon) t)) (sym is) (by error refused) where
+  by : (e : CanonError) → RefusedOrMemory m e → Answers (verdict (Some Canon) t) (canon_status 0 e)
+  by canon.Short few = sym (short t m within spells few)
+  by (canon.Item s i) bad = sym (bad_item t m s i within spells bad)
+  by canon.Memory none = λ e. reading_not_usage (message_reading m) (sym (on_reading t m within spells) ∙ e)

@@ -2,10 +2,10 @@
 pub mod Errors
 pub mod Generated
 pub mod Making
+pub mod Ordered
 pub mod Parts
 pub mod Refusals
 pub mod Run
-pub mod Seen
 pub mod Statuses
 pub mod Verdict
 pub mod Words

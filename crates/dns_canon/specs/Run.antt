@@ -1,5 +1,5 @@
 -- What a run answers, writes and leaves.
-use Rattle.std.specs.Prelude.{◌≡◌, ◌≢◌, ◌⊎◌, ℕ, ◌≤◌, List, [], ◌∷◌, ◌++◌, codes, length, Option, Some, IfSome}
+use Rattle.std.specs.Prelude.{◌≡◌, ◌≢◌, ◌⊎◌, ℕ, ◌≤◌, List, [], ◌∷◌, ◌++◌, codes, length, Option, Some, IfSome, Result, Ok, Err}
 use Rattle.std.specs.Io.KnownBytes.{Appends, Consumes}
 use Rattle.dns_wire.specs.Hexadecimal.{Spells, lines}
 use Rattle.dns_wire.specs.Outside.{WritesFront}
@@ -22,6 +22,11 @@ Answers verdict ReadFault = verdict ≢ Usage
 Answers verdict WriteFault = verdict ≡ Done
 Answers verdict Memory = verdict ≢ Usage
 Answers verdict answer = answer ≡ verdict
+
+-- how a run ends whose command came to this
+abbrev pub ended : Result (Unit {0}) Status → Status
+ended (Ok u) = Done
+ended (Err status) = status
 
 -- ---- what is written
 

@@ -1,17 +1,16 @@
 //! The canonical list of a message.
 
-ghost use Rattle.std.specs.Prelude.{◌≡◌, ◌≤◌, ◌<◌, ◌^◌, ◌⊎◌, ◌↔◌, ℕ, List, map, length, IfOk, IfErr, OnOk, OnErr, IsNone, IsTrue, slice_get, sum_by};
+ghost use Rattle.std.specs.Prelude.{◌≡◌, ◌≤◌, ◌⊎◌, ◌↔◌, ℕ, List, map, length, IfOk, IfErr, OnErr, IsNone, IsTrue, slice_get};
 ghost use Rattle.std.specs.Option.{option_copied};
-ghost use Rattle.std.specs.List.Sorted.{IsPermutation};
 ghost use Rattle.dns_canon.specs.Refusals.{RefusedAs, RefusedOrMemory};
+ghost use Rattle.dns_message.specs.Canonical.{canon};
 ghost use Rattle.dns_message.specs.Messages.{Rec, Valid};
-ghost use Rattle.dns_message.specs.Order.{output, octets_of_key, sort_key_cmp};
-ghost use Rattle.dns_canon.specs.Seen.{owned_seen};
-ghost use Rattle.dns_message.specs.Sorted.{Ascends};
+ghost use Rattle.dns_message.specs.Order.{output};
 
 use crate::error::CanonError;
-use crate::message::read_message;
-use crate::owned::OwnedRecord;
+use crate::message::sorted_records;
+use dns_message::CanonicalRecord;
+use dns_wire::BuildBytes;
 use std::alloc::{AllocError, Global};
 use std::marker::Model;
 
@@ -76,54 +75,26 @@ impl CanonList {
             None => None,
         }
     }
-
-    /// The number of all their octets.
-    pub(crate) fn octets(&self) -> usize
-        requires { sum_by length self.now < 2 ^ 64 }
-        ensures { result ≡ sum_by length self.now }
-    {
-        self.lists.iter().map(|list| list.len()).sum()
-    }
-
-    /// All of them, in order.
-    pub(crate) fn as_lists(&self) -> &[Vec<u8>]
-        ensures { map (λ list. list.items) result.now ≡ self.now }
-    {
-        self.lists.as_slice()
-    }
 }
 
-/// The canonical octets of a record: owner, type, class, time to live, the number of the data's octets,
-/// and these octets.
-fn record_octets(alloc: Global, record: &OwnedRecord) -> Result<Vec<u8>, AllocError>
-    ensures { IfOk result (λ octets. octets.items ≡ octets_of_key (owned_seen record.now)) }
+/// The canonical octets of a record.
+fn octets_of_record(alloc: Global, found: &CanonicalRecord<'_>) -> Result<Vec<u8>, AllocError>
+    ensures { IfOk result (λ octets. octets.items ≡ canon found.now) }
 {
-    let mut octets = Vec::from_slice(alloc, record.owner.as_bytes())?;
-    octets.extend_from_slice(&record.rtype.to_be_bytes())?;
-    octets.extend_from_slice(&record.class.to_be_bytes())?;
-    octets.extend_from_slice(&record.ttl.to_be_bytes())?;
-    octets.extend_from_slice(&(record.octets.len() as u16).to_be_bytes())?;
-    octets.extend_from_slice(&record.octets)?;
+    let mut octets = vec![in alloc; 0; found.size()]?;
+    found.build_at(&mut octets, 0).unwrap();
     Ok(octets)
 }
 
 /// The canonical octets of the records, in their order.
-fn all_octets(alloc: Global, records: &[OwnedRecord]) -> Result<Vec<Vec<u8>>, AllocError>
-    ensures { IfOk result (λ lists. map (λ list. list.items) lists.items ≡ map octets_of_key (map owned_seen records.now)) }
+fn all_octets(alloc: Global, records: &[CanonicalRecord<'_>]) -> Result<Vec<Vec<u8>>, AllocError>
+    ensures { IfOk result (λ lists. map (λ list. list.items) lists.items ≡ map canon records.now) }
 {
-    let mut lists = Vec::new(alloc);
-    for record in records {
-        lists.push(record_octets(alloc, record)?)?;
+    let mut lists = Vec::with_capacity(alloc, records.len())?;
+    for found in records {
+        lists.push(octets_of_record(alloc, found)?)?;
     }
     Ok(lists)
-}
-
-/// Puts the records in order.
-fn sort_records(records: &mut Vec<OwnedRecord>) -> Result<(), AllocError>
-    ensures same { IsPermutation (map owned_seen records.old.items) (map owned_seen records.new.items) }
-    ensures sorted { OnOk result (Ascends sort_key_cmp (map owned_seen records.new.items)) }
-{
-    records.sort()
 }
 
 /// The canonical list of a message (RFC 4034 section 6): the canonical octets of each record other than
@@ -138,8 +109,7 @@ pub fn canonicalise(alloc: Global, message: &[u8]) -> Result<CanonList, CanonErr
     ensures exactly { (error : CanonError) → RefusedAs message.now error
         → (result ≡ Err error) ⊎ (result ≡ Err CanonError.Memory) }
 {
-    let mut records = read_message(alloc, message)?;
-    sort_records(&mut records)?;
+    let records = sorted_records(alloc, message)?;
     let lists = all_octets(alloc, &records)?;
     Ok(CanonList { lists })
 }

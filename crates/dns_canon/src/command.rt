@@ -1,95 +1,132 @@
 //! From words and a text to an answer.
 
-ghost use Rattle.std.specs.Prelude.{◌↔◌, true, false, ◌≡◌, ◌≢◌, ◌⊎◌, ◌+◌, ◌≤◌, List, [], ◌∷◌, ◌++◌, ℕ, codes, length, Some, None, IfOk, IfErr, IfSome, OnOk};
+ghost use Rattle.std.specs.Prelude.{◌↔◌, true, false, ◌≡◌, ◌≢◌, ◌⊎◌, ◌+◌, ◌≤◌, List, [], ◌∷◌, ◌++◌, ℕ, codes, length, map, Some, None, IfOk, IfErr, IfSome, OnOk, IsOk, IsErr, MatchResult};
 ghost use Rattle.dns_wire.specs.Outside.{Rose, HasCause, BecomesFlag, WritesFront, Puts};
 ghost use Rattle.std.specs.Io.KnownBytes.{Appends};
 ghost use Rattle.dns_message.specs.Messages.{Rec, Valid};
-ghost use Rattle.dns_message.specs.Order.{output};
+ghost use Rattle.dns_message.specs.Order.{sort_key};
+ghost use Rattle.dns_canon.specs.Ordered.{AreInOrder};
 ghost use Rattle.dns_canon.specs.Refusals.{RefusedOrMemory};
-ghost use Rattle.dns_canon.specs.Run.{Answers, Prints, WritesText, TakesAtMost, IsEmptied, Empties};
+ghost use Rattle.dns_canon.specs.Run.{Answers, ended, Prints, WritesText, TakesAtMost, Empties};
 ghost use Rattle.dns_canon.specs.Statuses.{canon_status, note_of};
 ghost use Rattle.dns_canon.specs.Verdict.{reads, text_read, limit_of, verdict};
 ghost use Rattle.dns_canon.specs.Words.{command_of};
 ghost use Rattle.dns_canon.specs.declared.error.CanonError.{CanonError};
 
-use crate::canonical::{CanonList, canonicalise};
+use crate::lines::{LineBuffer, put_records};
 use crate::make::make_text;
-use crate::spelling::{octets_of, parted, text_of};
+use crate::message::sorted_records;
+use crate::spelling::{octets_of, parted};
 use crate::status::Status;
 use crate::transfer::{PIECE, put_line, put_text, read_text};
 use crate::words::{Command, LIMIT, LIMIT_OF_TWO, Words};
+use dns_message::CanonicalRecord;
 use dns_wire::{Failed, Sink, Source};
 use std::alloc::Global;
 
-/// The canonical list of the message of this number.
-pub(crate) fn list_of(alloc: Global, octets: &[u8], message: u8) -> Result<CanonList, Status>
-    ensures ok { IfOk result (λ list. (rs : List Rec) × Valid octets.now rs × (list ≡ output rs)) }
+/// The records of the message of this number, in order.
+pub(crate) fn records_of(
+    alloc: Global,
+    octets: &[u8],
+    message: u8,
+) -> Result<Vec<CanonicalRecord<'_>>, Status>
+    ensures ok { IfOk result (λ records. (rs : List Rec) × Valid octets.now rs × AreInOrder rs records.items) }
     ensures err { IfErr result (λ status. (error : CanonError) × RefusedOrMemory octets.now error × (status ≡ canon_status message error)) }
 {
-    match canonicalise(alloc, octets) {
-        Ok(list) => Ok(list),
+    match sorted_records(alloc, octets) {
+        Ok(records) => Ok(records),
         Err(error) => Err(Status::of_message(message, error)),
     }
 }
 
-/// The word for two canonical lists, and LF.
-fn sameness(list: &CanonList, others: &CanonList) -> &'static [u8]
-    ensures same { (list.now ≡ others.now) → result.now ≡ codes "same" ++ 10 ∷ [] }
-    ensures different { ¬ (list.now ≡ others.now) → result.now ≡ codes "different" ++ 10 ∷ [] }
+/// The word for the records of two messages in order, and LF. Both lists are walked side by side.
+fn sameness(records: &[CanonicalRecord<'_>], others: &[CanonicalRecord<'_>]) -> &'static [u8]
+    ensures same { (map sort_key records.now ≡ map sort_key others.now) → result.now ≡ codes "same" ++ 10 ∷ [] }
+    ensures different { ¬ (map sort_key records.now ≡ map sort_key others.now) → result.now ≡ codes "different" ++ 10 ∷ [] }
 {
-    if list == others {
+    if records == others {
         b"same\n"
     } else {
         b"different\n"
     }
 }
 
-/// The lines for the text of one message.
-fn canon_text(alloc: Global, text: &[u8]) -> Result<Vec<u8>, Status>
-    requires within { length text.now ≤ LIMIT }
-    ensures ok { IfOk result (λ printed. (verdict (Some Command.Canon) text.now ≡ Status.Done) × Prints Command.Canon text.now printed.items) }
-    ensures err { IfErr result (λ status. ((status ≡ verdict (Some Command.Canon) text.now) ⊎ (status ≡ Status.Memory))
-        × ((status ≢ Status.Done) × ((status ≢ Status.ReadFault) × ((status ≢ Status.WriteFault) × (status ≢ Status.Usage))))) }
-{
-    let message = octets_of(alloc, text)?;
-    let list = list_of(alloc, &message, 0)?;
-    Ok(text_of(alloc, &list)?)
-}
-
 /// The line for the text of two messages: `same` where they carry the same records, and else `different`.
-fn same_text(alloc: Global, text: &[u8]) -> Result<Vec<u8>, Status>
+fn same_line(alloc: Global, text: &[u8]) -> Result<&'static [u8], Status>
     requires within { length text.now ≤ LIMIT_OF_TWO }
-    ensures ok { IfOk result (λ printed. (verdict (Some Command.Same) text.now ≡ Status.Done) × Prints Command.Same text.now printed.items) }
+    ensures ok { IfOk result (λ printed. (verdict (Some Command.Same) text.now ≡ Status.Done) × Prints Command.Same text.now printed.now) }
     ensures err { IfErr result (λ status. ((status ≡ verdict (Some Command.Same) text.now) ⊎ (status ≡ Status.Memory))
         × ((status ≢ Status.Done) × ((status ≢ Status.ReadFault) × ((status ≢ Status.WriteFault) × (status ≢ Status.Usage))))) }
 {
     let (first, second) = parted(text);
     let first_message = octets_of(alloc, first)?;
     let second_message = octets_of(alloc, second)?;
-    let first_list = list_of(alloc, &first_message, 0)?;
-    let second_list = list_of(alloc, &second_message, 1)?;
-    Ok(Vec::from_slice(alloc, sameness(&first_list, &second_list))?)
+    let first_records = records_of(alloc, &first_message, 0)?;
+    let second_records = records_of(alloc, &second_message, 1)?;
+    Ok(sameness(&first_records, &second_records))
 }
 
-/// The text that a command prints.
-fn printed<S: Source>(alloc: Global, command: Command, source: &mut S) -> Result<Vec<u8>, Status>
+/// What came of writing.
+fn written(put: Result<(), Failed>) -> Result<(), Status>
+    ensures { MatchResult result (λ _. IsOk put) (λ status. (status ≡ Status.WriteFault) × IsErr put) }
+{
+    match put {
+        Ok(()) => Ok(()),
+        Err(_) => Err(Status::WriteFault),
+    }
+}
+
+/// Writes the lines for the text of one message.
+fn put_canon<K: Sink>(alloc: Global, text: &[u8], sink: &mut K) -> Result<(), Status>
+    requires within { length text.now ≤ LIMIT }
+    ensures ok { OnOk result (verdict (Some Command.Canon) text.now ≡ Status.Done) }
+    ensures err { IfErr result (λ status. Answers (verdict (Some Command.Canon) text.now) status) }
+    ensures refused { (result ≢ Err Status.Done) × (result ≢ Err Status.ReadFault) × (result ≢ Err Status.Usage) }
+    ensures write_fault { result ≡ Err Status.WriteFault → Rose (K.faults sink.old) (K.faults sink.new) }
+    ensures write_steady { (result ≢ Err Status.WriteFault) → K.faults sink.new ≡ K.faults sink.old }
+    ensures written { WritesText Command.Canon text.now (K.written sink.old) (K.written sink.new) (ended result) }
+    ensures unwritten { IfErr result (λ status. (status ≢ Status.WriteFault) → sink.new ≡ sink.old) }
+    ensures flushed { OnOk result (BecomesFlag (K.is_flushed sink.old) (K.is_flushed sink.new) true) }
+{
+    let message = octets_of(alloc, text)?;
+    let records = records_of(alloc, &message, 0)?;
+    let mut lines = LineBuffer::new(alloc)?;
+    written(put_records(sink, &records, &mut lines))
+}
+
+/// Reads the text of the command, and writes what the command prints for it.
+fn carry_out<S: Source, K: Sink>(
+    alloc: Global,
+    command: Command,
+    source: &mut S,
+    sink: &mut K,
+) -> Result<(), Status>
     requires few { (count : ℕ) → command ≡ Command.Make count → count ≤ 1000 }
-    ensures ok { IfOk result (λ printed. IfSome (text_read (Some command) (S.left source.old)) (λ t.
-        (verdict (Some command) t ≡ Status.Done) × Prints command t printed.items)) }
+    ensures ok { OnOk result (IfSome (text_read (Some command) (S.left source.old)) (λ t. verdict (Some command) t ≡ Status.Done)) }
     ensures err { IfErr result (λ status. IfSome (text_read (Some command) (S.left source.old)) (λ t. Answers (verdict (Some command) t) status)) }
-    ensures refused { (result ≢ Err Status.Done) × (result ≢ Err Status.WriteFault) × (result ≢ Err Status.Usage) }
+    ensures refused { (result ≢ Err Status.Done) × (result ≢ Err Status.Usage) }
     ensures read_fault { result ≡ Err Status.ReadFault → Rose (S.faults source.old) (S.faults source.new) }
     ensures read_steady { (result ≢ Err Status.ReadFault) → S.faults source.new ≡ S.faults source.old }
     ensures reading { result ≡ Err Status.ReadFault → reads (Some command) ≡ true }
+    ensures write_fault { result ≡ Err Status.WriteFault → Rose (K.faults sink.old) (K.faults sink.new) }
+    ensures write_steady { (result ≢ Err Status.WriteFault) → K.faults sink.new ≡ K.faults sink.old }
+    ensures written { IfSome (text_read (Some command) (S.left source.old)) (λ t. WritesText command t (K.written sink.old) (K.written sink.new) (ended result)) }
+    ensures unwritten { IfErr result (λ status. (status ≢ Status.WriteFault) → sink.new ≡ sink.old) }
+    ensures flushed { OnOk result (BecomesFlag (K.is_flushed sink.old) (K.is_flushed sink.new) true) }
     ensures unread { reads (Some command) ≡ false → source.new ≡ source.old }
-    ensures emptied { reads (Some command) ≡ true → OnOk result (IsEmptied (S.left source.old) (S.left source.new)) }
-    ensures emptied_err { reads (Some command) ≡ true → IfErr result (λ status. Empties status (S.left source.old) (S.left source.new)) }
+    ensures emptied { reads (Some command) ≡ true → Empties (ended result) (S.left source.old) (S.left source.new) }
     ensures taken { TakesAtMost (S.left source.old) (S.left source.new) (limit_of command + PIECE) }
 {
     match command {
-        Command::Canon => canon_text(alloc, &read_text(alloc, source, LIMIT)?),
-        Command::Same => same_text(alloc, &read_text(alloc, source, LIMIT_OF_TWO)?),
-        Command::Make { count } => make_text(alloc, count),
+        Command::Canon => put_canon(alloc, &read_text(alloc, source, LIMIT)?, sink),
+        Command::Same => {
+            let line = same_line(alloc, &read_text(alloc, source, LIMIT_OF_TWO)?)?;
+            written(put_text(sink, line))
+        }
+        Command::Make { count } => {
+            let line = make_text(alloc, count)?;
+            written(put_text(sink, &line))
+        }
     }
 }
 
@@ -113,11 +150,8 @@ fn answer<S: Source, K: Sink>(alloc: Global, words: &Words, source: &mut S, sink
     let Some(command) = words.command() else {
         return Status::Usage;
     };
-    match printed(alloc, command, source) {
-        Ok(text) => match put_text(sink, &text) {
-            Ok(()) => Status::Done,
-            Err(_) => Status::WriteFault,
-        },
+    match carry_out(alloc, command, source, sink) {
+        Ok(()) => Status::Done,
         Err(status) => status,
     }
 }

@@ -2,13 +2,12 @@
 #![tactic(auto)]
 
 mod canonical;
-mod canonical_data;
 mod command;
 mod error;
 mod laws;
+mod lines;
 mod make;
 mod message;
-mod owned;
 mod spelling;
 mod status;
 mod transfer;

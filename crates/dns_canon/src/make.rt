@@ -1,16 +1,17 @@
 //! The message of generated records.
 
-ghost use Rattle.std.specs.Prelude.{◌≡◌, ◌≤◌, ◌<◌, ◌+◌, ◌/◌, ◌%◌, [], ◌∷◌, IfOk, OnOk, IfErr};
+ghost use Rattle.std.specs.Prelude.{◌≡◌, ◌≤◌, ◌<◌, ◌+◌, ◌/◌, ◌%◌, ◌^◌, [], ◌∷◌, length, map, sum_by, IfOk, OnOk, IfErr};
+ghost use Rattle.dns_message.specs.Canonical.{canon};
 ghost use Rattle.dns_record.specs.CharStrs.{charstr_wire};
 ghost use Rattle.dns_rdata.specs.Data.{type_number};
 ghost use Rattle.dns_message.specs.Seen.{data_seen};
 ghost use Rattle.dns_canon.specs.Generated.{generated_owner, generated_server, generated_exchange, generated_string, generated_type, generated_content, made_line};
 ghost use Rattle.dns_canon.specs.Making.{HasMade};
 
-use crate::command::list_of;
+use crate::command::records_of;
 use crate::status::Status;
 use dns_basic::{Mx, Ns};
-use dns_message::{HeaderFlags, MessageBuilder};
+use dns_message::{CanonicalRecord, HeaderFlags, MessageBuilder};
 use dns_name::NameBuf;
 use dns_num::U16;
 use dns_plain::{A, Txt};
@@ -35,14 +36,22 @@ pub(crate) fn make_text(alloc: Global, count: u16) -> Result<Vec<u8>, Status>
     let mut builder = MessageBuilder::new(&mut buffer, &mut compressor, id, flags);
     push_records(alloc, &mut builder, count)?;
     let message = builder.message().as_bytes();
-    let list = list_of(alloc, message, 0)?;
+    let records = records_of(alloc, message, 0)?;
     let line = format!(in alloc;
         "records {} octets {} message {}\n",
-        list.len(),
-        list.octets(),
+        records.len(),
+        octets_in(&records),
         message.len()
     )?;
     Ok(line.into_bytes())
+}
+
+/// The number of canonical octets of all the records.
+fn octets_in(records: &[CanonicalRecord<'_>]) -> usize
+    requires { sum_by length (map canon records.now) < 2 ^ 64 }
+    ensures { result ≡ sum_by length (map canon records.now) }
+{
+    records.iter().map(|found| found.size()).sum()
 }
 
 /// Adds the records of the numbers below `count` as answers.

@@ -1,66 +1,31 @@
-//! Reading all the items of a message.
+//! The records of a message, in order.
 
-ghost use Rattle.std.specs.Prelude.{◌≡◌, ◌++◌, [], ◌∷◌, List, OnOk, IfOk, IfErr, map, filter};
+ghost use Rattle.std.specs.Prelude.{◌≡◌, List, IfOk, IfErr, filter};
+ghost use Rattle.dns_canon.specs.Ordered.{AreInOrder};
 ghost use Rattle.dns_canon.specs.Refusals.{RefusedOrMemory};
-ghost use Rattle.dns_canon.specs.Seen.{owned_seen};
 ghost use Rattle.dns_message.specs.Canonical.{is_kept};
-ghost use Rattle.dns_message.specs.Messages.{Rec, records_among, Valid};
-ghost use Rattle.dns_message.specs.Order.{sort_key};
-ghost use Rattle.dns_message.specs.Seen.{AreSound, HasSoundData, item_seen, record_told};
+ghost use Rattle.dns_message.specs.Messages.{Rec, Valid};
 
 use crate::error::CanonError;
-use crate::owned::OwnedRecord;
-use dns_message::{MessageItem, MessageParser, ParsedMessageItem};
-use dns_name::NameBuf;
-use dns_rdata::RecordData;
-use dns_record::{RType, Record};
-use std::alloc::{AllocError, Global};
+use dns_message::{CanonicalRecord, MessageParser};
+use std::alloc::Global;
 
-/// Keeps the parts of a record of another type than OPT, which is a record in form alone (RFC 6891 section 6.1.1).
-fn keep_record(
-    alloc: Global,
-    found: &Record<NameBuf, RecordData<'_, NameBuf>>,
-    records: &mut Vec<OwnedRecord>,
-) -> Result<(), AllocError>
-    requires { AreSound found.now }
-    ensures { OnOk result (map owned_seen records.new.items ≡ map owned_seen records.old.items
-        ++ map sort_key (filter is_kept (record_told found.now ∷ []))) }
-{
-    if found.rtype == RType::OPT {
-        return Ok(());
-    }
-    records.push(OwnedRecord::of(alloc, found)?)?;
-    Ok(())
-}
+/// The fewest octets of a record: a root, and ten octets behind it (RFC 1035 section 3.2.1).
+const FEWEST_OCTETS: usize = 11;
 
-/// Keeps the parts of an item that is a record of another type than OPT.
-fn keep(
-    alloc: Global,
-    item: &ParsedMessageItem<'_>,
-    records: &mut Vec<OwnedRecord>,
-) -> Result<(), AllocError>
-    requires { HasSoundData item.now }
-    ensures { OnOk result (map owned_seen records.new.items ≡ map owned_seen records.old.items
-        ++ map sort_key (filter is_kept (records_among (item_seen item.now ∷ [])))) }
-{
-    match item {
-        MessageItem::Answer(found)
-        | MessageItem::Authority(found)
-        | MessageItem::Additional(found) => keep_record(alloc, found, records),
-        MessageItem::Question(_) | MessageItem::Edns(_) => Ok(()),
-    }
-}
-
-/// Reads a whole message, and keeps its records but those of type OPT, in the message's order.
-pub(crate) fn read_message(alloc: Global, message: &[u8]) -> Result<Vec<OwnedRecord>, CanonError>
-    ensures read { IfOk result (λ records. (rs : List Rec) × Valid message.now rs
-        × (map owned_seen records.items ≡ map sort_key (filter is_kept rs))) }
+/// Reads a whole message, and keeps its records but those of type OPT, in the message's order. Their data are lent by the
+/// message, and memory is taken once, for as many as the header counts and the contents can hold.
+fn read_records(alloc: Global, message: &[u8]) -> Result<Vec<CanonicalRecord<'_>>, CanonError>
+    ensures read { IfOk result (λ records. (rs : List Rec) × Valid message.now rs × (records.items ≡ filter is_kept rs)) }
     ensures refused { IfErr result (RefusedOrMemory message.now) }
 {
     let Ok(mut parser) = MessageParser::new(message) else {
         return Err(CanonError::Short);
     };
-    let mut records = Vec::new(alloc);
+    let [_, answers, authorities, additional] = parser.header().counts.as_array();
+    let counted = usize::from(answers) + usize::from(authorities) + usize::from(additional);
+    let held = parser.message().contents().len() / FEWEST_OCTETS;
+    let mut records = Vec::with_capacity(alloc, counted.min(held))?;
     while let Some((place, item)) = parser.next_item() {
         let Ok(item) = item else {
             return Err(CanonError::Item {
@@ -68,7 +33,22 @@ pub(crate) fn read_message(alloc: Global, message: &[u8]) -> Result<Vec<OwnedRec
                 index: place.index,
             });
         };
-        keep(alloc, &item, &mut records)?;
+        if let Some(found) = CanonicalRecord::of(item) {
+            records.push(found)?;
+        }
     }
+    Ok(records)
+}
+
+/// The records of a message but those of type OPT, in canonical order (RFC 4034 section 6).
+pub(crate) fn sorted_records(
+    alloc: Global,
+    message: &[u8],
+) -> Result<Vec<CanonicalRecord<'_>>, CanonError>
+    ensures sorted { IfOk result (λ records. (rs : List Rec) × Valid message.now rs × AreInOrder rs records.items) }
+    ensures refused { IfErr result (RefusedOrMemory message.now) }
+{
+    let mut records = read_records(alloc, message)?;
+    records.sort_unstable();
     Ok(records)
 }

@@ -1,12 +1,11 @@
 //! Octets as hexadecimal text (RFC 4648 section 8).
 
-ghost use Rattle.std.specs.Prelude.{◌≡◌, IfOk, IsErrOf, map};
-ghost use Rattle.dns_wire.specs.Hexadecimal.{Spells, SpellsNothing, trim, is_blank, lines};
+ghost use Rattle.std.specs.Prelude.{◌≡◌, IfOk, IsErrOf};
+ghost use Rattle.dns_wire.specs.Hexadecimal.{Spells, SpellsNothing, trim, is_blank};
 ghost use Rattle.dns_canon.specs.Parts.{first_text, second_text};
 
-use crate::canonical::CanonList;
 use crate::error::SpellingError;
-use std::alloc::{AllocError, Global};
+use std::alloc::Global;
 
 /// Whether an octet is a space, a tab, CR or LF.
 fn is_blank(octet: u8) -> bool
@@ -51,17 +50,4 @@ pub(crate) fn octets_of(alloc: Global, text: &[u8]) -> Result<Vec<u8>, SpellingE
 {
     let octets = hex::decode(alloc, trimmed(text))?;
     Ok(octets)
-}
-
-/// A line for each record of the list.
-pub(crate) fn text_of(alloc: Global, list: &CanonList) -> Result<Vec<u8>, AllocError>
-    ensures { IfOk result (λ text. text.items ≡ lines list.now) }
-{
-    let mut text = Vec::new(alloc);
-    for octets in list.as_lists() {
-        let line = hex::encode(alloc, octets.as_slice())?;
-        text.extend_from_slice(line.as_bytes())?;
-        text.push(b'\n')?;
-    }
-    Ok(text)
 }

@@ -26,7 +26,7 @@ pub(crate) fn read_text<S: Source>(
     ensures steady { (result ≢ Err TextError.ReadFault) → S.faults source.new ≡ S.faults source.old }
     ensures taken { TakesAtMost (S.left source.old) (S.left source.new) (limit + PIECE) }
 {
-    let mut text = Vec::new(alloc);
+    let mut text = Vec::with_capacity(alloc, limit)?;
     let mut buffer = [0u8; PIECE];
     loop {
         let count = source.read(&mut buffer)?;
@@ -41,7 +41,7 @@ pub(crate) fn read_text<S: Source>(
 }
 
 /// Writes the whole text.
-fn put_all<K: Sink>(sink: &mut K, text: &[u8]) -> Result<(), Failed>
+pub(crate) fn put_all<K: Sink>(sink: &mut K, text: &[u8]) -> Result<(), Failed>
     ensures puts { Puts (K.written sink.old) (K.written sink.new) text.now result }
     ensures flag { IfSome (K.is_flushed sink.old) (λ _. IsSome (K.is_flushed sink.new)) }
     ensures cause { HasCause (K.faults sink.old) (K.faults sink.new) result }

@@ -1,9 +1,8 @@
 use Rattle.std.proofs.Common.{◌∙◌, ap, map, inl, inr, Err}
 use Rattle.std.proofs.lemmas.Result.{err_from_is_err_and}
-use Rattle.dns_message.specs.Order.{octets_of_key}
-use Rattle.dns_canon.specs.Seen.{owned_seen}
+use Rattle.dns_message.specs.Canonical.{canon}
 use Rattle.dns_canon.proofs.Exclusive.{memory_alone, that_or_memory, refused_not_valid}
-use Rattle.dns_message.proofs.Sorting.{output_sorted}
+use Rattle.dns_canon.proofs.Sorting.{octets_in_order}
 use Rattle.dns_canon.proofs.canonical.canonicalise.Goals as goal
 
 pub returns-in_err-records-clause-valid : goal.returns-in_err-records-clause-valid
@@ -18,8 +17,8 @@ returns-in_err-records-clause-exactly c =
 
 pub returns-clause-ok : goal.returns-clause-ok
 returns-clause-ok c =
-    let read = c.in_ok-records.ensures.read in
-    (read.0, read.1, c.in_ok-lists.ensures ∙ ap (λ items. map octets_of_key (map owned_seen items)) c.deref.ensures.value ∙ output_sorted read.0 _ _ read.2 c.in_ok-sort_records.ensures.same c.in_ok-sort_records.ensures.sorted)
+    let read = c.in_ok-records.ensures.sorted in
+    (read.0, read.1, c.in_ok-lists.ensures ∙ ap (map canon) c.deref.ensures.value ∙ octets_in_order read.0 _ read.2)
 
 pub returns-clause-exactly : goal.returns-clause-exactly
-returns-clause-exactly c = λ error refused. absurd (refused_not_valid c.args.message.now _ error c.in_ok-records.ensures.read.1 refused)
+returns-clause-exactly c = λ error refused. absurd (refused_not_valid c.args.message.now _ error c.in_ok-records.ensures.sorted.1 refused)

@@ -1,6 +1,9 @@
-use Rattle.std.proofs.Common.{ap, subst, sym, ◌∙◌, arith, length}
+use Rattle.std.proofs.Common.{ap, subst, sym, ◌∙◌, arith, length, map}
+use Rattle.std.proofs.lemmas.List.{length-map}
 use Rattle.std.specs.Prelude.{sum_by}
 use Rattle.std.proofs.lemmas.Result.{err_from_is_err_and}
+use Rattle.dns_message.specs.Canonical.{canon}
+use Rattle.dns_canon.proofs.Sorting.{octets_in_order}
 use Rattle.dns_message.specs.Headers.{header_bits}
 use Rattle.dns_message.specs.Messages.{Valid}
 use Rattle.dns_canon.specs.Statuses.{canon_status}
@@ -13,26 +16,28 @@ push_records-requires-clause-none c =
     none_made c.new-builder.result c.new-id.result.value (header_bits c.from_bits-flags.result) (ap (λ d. d.header) c.new-builder.ensures) (ap (λ d. d.contents) c.new-builder.ensures)
     (ap (λ d. d.size) c.new-builder.ensures ∙ c.deref_mut.ensures.len ∙ c.in_ok-buffer.ensures.len) (ap (λ d. d.places) c.new-builder.ensures)
 
-pub returns-in_err-list-clause-err : goal.returns-in_err-list-clause-err
-returns-in_err-list-clause-err c =
-    let p = err_from_is_err_and c.from_residual-in_err-list.result c.from_residual-in_err-list.ensures.1 in
-    let refused = c.in_err-list.ensures.err in
+pub returns-in_err-records-clause-err : goal.returns-in_err-records-clause-err
+returns-in_err-records-clause-err c =
+    let p = err_from_is_err_and c.from_residual-in_err-records.result c.from_residual-in_err-records.ensures.1 in
+    let refused = c.in_err-records.ensures.err in
     let octets = c.as_bytes-message.ensures ∙ c.message.ensures.octets in
     let valid = valid_made c.args.count c.push_records.new.builder c.in_ok-push_records.ensures in
     let memory = memory_alone c.as_bytes-message.result.now valid.0 refused.0 (subst (λ m. Valid m valid.0) (sym octets) valid.1) refused.1 in
     rw (p.1, p.2) (refused.2 ∙ ap (canon_status 0) memory)
 
-pub octets-requires : goal.octets-requires
-octets-requires c =
-    let found = c.in_ok-list.ensures.ok in
+pub octets_in-requires : goal.octets_in-requires
+octets_in-requires c =
+    let found = c.in_ok-records.ensures.ok in
     let octets = c.as_bytes-message.ensures ∙ c.message.ensures.octets in
     let all = all_made c.args.count c.push_records.new.builder found.0 c.in_ok-push_records.ensures (subst (λ m. Valid m found.0) octets found.1) in
-    omega (arith, ap (sum_by length) (found.2 ∙ all.0), output_short c.args.count c.requires)
+    omega (arith, ap (sum_by length) (ap (map canon) c.deref.ensures.value ∙ octets_in_order found.0 _ found.2 ∙ all.0), output_short c.args.count c.requires)
 
 pub returns-clause-ok : goal.returns-clause-ok
 returns-clause-ok c =
-    let found = c.in_ok-list.ensures.ok in
+    let found = c.in_ok-records.ensures.ok in
     let octets = c.as_bytes-message.ensures ∙ c.message.ensures.octets in
     let all = all_made c.args.count c.push_records.new.builder found.0 c.in_ok-push_records.ensures (subst (λ m. Valid m found.0) octets found.1) in
-    let list = found.2 ∙ all.0 in
-    ap (λ v. v.items) c.into_bytes.ensures.value ∙ c.in_ok-line.ensures.ok ∙ printed_so c.args.count c.len.result c.octets.result (length c.as_bytes-message.result.now) (c.len.ensures ∙ ap length list) (c.octets.ensures ∙ ap (sum_by length) list) (ap length octets ∙ all.1)
+    let list = octets_in_order found.0 c.in_ok-records.records.items found.2 ∙ all.0 in
+    ap (λ v. v.items) c.into_bytes.ensures.value ∙ c.in_ok-line.ensures.ok ∙ printed_so c.args.count c.len.result c.octets_in.result (length c.as_bytes-message.result.now)
+    (omega (arith, c.len.ensures, c.in_ok-records.records.ok, length-map c.in_ok-records.records.items canon, ap length list))
+    (c.octets_in.ensures ∙ ap (sum_by length) (ap (map canon) c.deref.ensures.value ∙ list)) (ap length octets ∙ all.1)

@@ -1,0 +1,85 @@
+-- Lines that are held one behind another.
+use Rattle.std.proofs.Common.{◌≡◌, Bool, Some, None, IfSome, subst, take-append-drop, take_all, ℕ, ◌+◌, ◌*◌, ◌<◌, ◌≤◌, List, [], ◌∷◌, ◌++◌, length, map, take, drop, Result, Ok, Err, refl, sym, ap, ◌∙◌, arith, get_or, flat_map, append_assoc, append-nil}
+use Rattle.std.specs.Prelude.{⊤, IsOk, IsSome, slice_set}
+use Rattle.std.specs.declared.option.Option.{Option}
+use Rattle.std.proofs.KnownBytes.{Appends-trans}
+use Rattle.dns_wire.specs.Outside.{WritesFront, Puts}
+use Rattle.dns_wire.specs.declared.outside.Failed.{Failed}
+use Rattle.dns_canon.proofs.Transfers.{front_behind, front_longer, puts_behind}
+use Rattle.std.specs.Io.KnownBytes.{Appends}
+use Rattle.std.proofs.lemmas.Grind.{take-set_at, flat_map-append}
+use Rattle.std.proofs.lemmas.List.{length-append, length-take-le, map-append, take_at, take_more}
+use Rattle.std.proofs.lemmas.List.Concat.{flat_map-cons}
+use Rattle.hex.specs.Hex.{encode_lower}
+use Rattle.dns_wire.specs.Building.{Builds}
+use Rattle.dns_wire.specs.Hexadecimal.{shown, line, lines}
+use Rattle.dns_canon.proofs.Decoding.{encoded}
+
+-- ---- octets in front of others
+
+pub written_front : {E : Type 0} (octets old new : List ℕ) (result : Result ℕ E) → length octets ≤ length old → Builds ⊤ octets old 0 new result → IsOk result × (take (length octets) new ≡ octets)
+written_front octets old new (Ok end) room built =
+    let stands = built.ok.1 in
+    (refl, ap (take (length octets)) stands.new_is ∙ take_at octets (drop end old) (length octets) refl)
+written_front octets old new (Err e) room built = absurd (omega (arith, built.err.2 tt, room))
+
+-- ---- a line behind others
+
+shown_long : (octets : List ℕ) → length (flat_map shown octets) ≡ 2 * length octets
+shown_long [] = refl
+shown_long (b ∷ rest) = ap length (flat_map-cons shown b rest) ∙ omega (arith, shown_long rest, length-append (shown b) (flat_map shown rest))
+
+pub line_long : (octets : List ℕ) → length (line octets) ≡ 2 * length octets + 1
+line_long octets = length-append (flat_map shown octets) (10 ∷ []) ∙ omega (arith, shown_long octets)
+
+-- digits that are written over as many, and LF behind them
+pub line_written : (text octets digits back : List ℕ) (start end : ℕ) → start ≤ length text → end ≡ start + 2 * length octets → digits ≡ encode_lower octets → 0 < length back
+    → take (start + 2 * length octets + 1) (slice_set (take start text ++ (digits ++ back)) end 10) ≡ take start text ++ line octets
+line_written text octets digits back start end within end-is digits-are room =
+    let shown-is : digits ≡ flat_map shown octets = digits-are ∙ encoded octets in
+    let long : length (take start text ++ digits) ≡ end = omega (arith, length-append (take start text) digits, length-take-le start text within, ap length shown-is, shown_long octets, end-is) in
+    let one-more : start + 2 * length octets + 1 ≡ end + 1 = omega (arith, end-is) in
+    ap (λ (l : List ℕ). take (start + 2 * length octets + 1) (slice_set l end 10)) (sym (append_assoc (take start text) digits back))
+    ∙ take-set_at ((take start text ++ digits) ++ back) end (start + 2 * length octets + 1) 10 one-more (omega (arith, long, length-append (take start text ++ digits) back, room))
+    ∙ ap (λ (l : List ℕ). l ++ 10 ∷ []) (take_at (take start text ++ digits) back end long)
+    ∙ append_assoc (take start text) digits (10 ∷ []) ∙ ap (λ (l : List ℕ). take start text ++ (l ++ 10 ∷ [])) shown-is
+
+-- ---- lines one behind another
+
+pub lines_more : {X : Type 0} (vs : List X) (f : X → List ℕ) (i : ℕ) (v : X) → i < length vs → v ≡ get_or vs i v → lines (map f (take (i + 1) vs)) ≡ lines (map f (take i vs)) ++ line (f v)
+lines_more {X = X} vs f i v within is =
+    let grown : map f (take (i + 1) vs) ≡ map f (take i vs) ++ f v ∷ [] =
+    ap (map f) (take_more vs i v within ∙ ap (λ (x : X). take i vs ++ x ∷ []) (sym is)) ∙ map-append f (take i vs) (v ∷ []) in
+    ap lines grown ∙ flat_map-append line (map f (take i vs)) (f v ∷ [])
+    ∙ ap (λ (l : List ℕ). lines (map f (take i vs)) ++ l) (flat_map-cons line (f v) [] ∙ append-nil (line (f v)))
+
+module _ {X : Type 0} (vs : List X) (f : X → List ℕ) (a : Option (List ℕ)) where
+  -- what is written and what is held are the lines so far; one more line is held
+  pub holds_more : (b : Option (List ℕ)) (sent held next : List ℕ) (i : ℕ) (v : X) → i < length vs → v ≡ get_or vs i v → Appends a b sent → sent ++ held ≡ lines (map f (take i vs)) → next ≡ held ++ line (f v)
+      → (x : List ℕ) × Appends a b x × (x ++ next ≡ lines (map f (take (i + 1) vs)))
+  holds_more b sent held next i v within v-is h so next-is =
+      (sent, h, ap (λ (l : List ℕ). sent ++ l) next-is ∙ sym (append_assoc sent held (line (f v))) ∙ ap (λ (l : List ℕ). l ++ line (f v)) so ∙ sym (lines_more vs f i v within v-is))
+
+  -- what was held is written, and one more line is held
+  pub holds_one : (b c : Option (List ℕ)) (sent held next : List ℕ) (i : ℕ) (v : X) → i < length vs → v ≡ get_or vs i v → Appends a b sent → sent ++ held ≡ lines (map f (take i vs)) → Appends b c held → next ≡ line (f v)
+      → (x : List ℕ) × Appends a c x × (x ++ next ≡ lines (map f (take (i + 1) vs)))
+  holds_one b c sent held next i v within v-is h so written next-is =
+      holds_more c (sent ++ held) [] next i v within v-is (Appends-trans a b c sent held h written) (append-nil (sent ++ held) ∙ so) next-is
+
+  -- a write of what is held that fails
+  pub lines_front : (b c : Option (List ℕ)) (sent held : List ℕ) (i : ℕ) → Appends a b sent → sent ++ held ≡ lines (map f (take i vs)) → WritesFront b c held → WritesFront a c (lines (map f vs))
+  lines_front b c sent held i h so failed =
+      let whole : (sent ++ held) ++ lines (map f (drop i vs)) ≡ lines (map f vs) =
+      ap (λ (l : List ℕ). l ++ lines (map f (drop i vs))) so ∙ sym (flat_map-append line (map f (take i vs)) (map f (drop i vs))) ∙ ap lines (sym (map-append f (take i vs) (drop i vs))) ∙ ap (λ l. lines (map f l)) (take-append-drop i vs) in
+      subst (WritesFront a c) whole (front_longer a c (sent ++ held) (lines (map f (drop i vs))) (front_behind a b c sent held h failed))
+
+  -- the last write
+  pub lines_put : (b c : Option (List ℕ)) (sent held : List ℕ) (i : ℕ) (r : Result (Unit {0}) Failed) → length vs ≤ i → Appends a b sent → sent ++ held ≡ lines (map f (take i vs)) → Puts b c held r → Puts a c (lines (map f vs)) r
+  lines_put b c sent held i r over h so put =
+      subst (λ (l : List ℕ). Puts a c l r) (so ∙ ap (λ l. lines (map f l)) (take_all i vs over)) (puts_behind a b c sent held r h put)
+
+-- a flag that is told is told still
+pub still_told : (a b c : Option Bool) → IfSome a (λ _. IsSome b) → IfSome b (λ _. IsSome c) → IfSome a (λ _. IsSome c)
+still_told None b c p q = tt
+still_told (Some x) None c p q = cc
+still_told (Some x) (Some y) c p q = q

@@ -1,0 +1,125 @@
+//! The lines of canonical records, on their way to a sink.
+
+ghost use Rattle.std.specs.Prelude.{◌≡◌, ◌≤◌, ◌<◌, ◌+◌, ◌-◌, ◌*◌, [], ◌++◌, length, map, take, true, IfOk, OnOk};
+ghost use Rattle.dns_wire.specs.Hexadecimal.{line, lines};
+ghost use Rattle.dns_wire.specs.Outside.{HasCause, BecomesFlag, Puts};
+ghost use Rattle.dns_message.specs.Canonical.{canon};
+
+use crate::transfer::{put_all, put_text};
+use dns_message::CanonicalRecord;
+use dns_wire::{BuildBytes, Failed, Sink};
+use std::alloc::{AllocError, Global};
+use std::marker::Model;
+
+/// The most canonical octets of a record: an owner of 255, ten octets, and data of 65,535.
+const MOST_OCTETS: usize = 65_800;
+
+/// The most octets of a line: two digits for each of those, and LF.
+const MOST_LINE: usize = 131_601;
+
+/// Writes the canonical octets of a record to the front of some octets, of which there are enough.
+fn write_octets(found: &CanonicalRecord<'_>, octets: &mut [u8])
+    requires { length (canon found.now) ≤ length octets.old }
+    ensures { take (length (canon found.now)) octets.new ≡ canon found.now }
+{
+    found.build_at(octets, 0).unwrap();
+}
+
+/// Writes the line of some octets behind what stands before a place of the text, where there is room for it.
+fn write_line(text: &mut [u8], start: usize, octets: &[u8])
+    requires { start + 2 * length octets.now < length text.old }
+    ensures { take (start + 2 * length octets.now + 1) text.new ≡ take start text.old ++ line octets.now }
+{
+    let end = start + 2 * octets.len();
+    hex::encode_to_slice(octets, &mut text[start..end]).unwrap();
+    text[end] = b'\n';
+}
+
+/// Lines that are to be written, one behind another. All its memory is taken when it is made.
+#[derive(Drop)]
+pub(crate) struct LineBuffer {
+    /// Room for the canonical octets of one record.
+    octets: Vec<u8>,
+    /// Room for lines.
+    text: Vec<u8>,
+    /// How many octets of the text are held.
+    filled: usize,
+}
+
+impl Model for LineBuffer {
+    ghost use Rattle.std.specs.Prelude.{◌≡◌, ◌≤◌, ℕ, List, length, take};
+
+    ghost Value = { List ℕ };
+
+    ghost view = { λ b. take b.filled b.text.items };
+
+    ghost invariant = { λ b. (length b.octets.items ≡ 65800) × (length b.text.items ≡ 131601) × (b.filled ≤ 131601) };
+}
+
+impl LineBuffer {
+    /// No lines.
+    pub fn new(alloc: Global) -> Result<LineBuffer, AllocError>
+        ensures { IfOk result (λ held. held ≡ []) }
+    {
+        let octets = vec![in alloc; 0; MOST_OCTETS]?;
+        let text = vec![in alloc; 0; MOST_LINE]?;
+        Ok(LineBuffer {
+            octets,
+            text,
+            filled: 0,
+        })
+    }
+
+    /// How many octets there is still room for.
+    fn room(&self) -> usize
+        ensures { result ≡ 131601 - length self.now }
+    {
+        MOST_LINE - self.filled
+    }
+
+    /// The lines that are held.
+    fn held(&self) -> &[u8]
+        ensures { result.now ≡ self.now }
+    {
+        &self.text[..self.filled]
+    }
+
+    /// Holds the line of one more record.
+    fn hold(&mut self, found: &CanonicalRecord<'_>)
+        requires { length self.old + 2 * length (canon found.now) < 131601 }
+        ensures { self.new ≡ self.old ++ line (canon found.now) }
+    {
+        let size = found.size();
+        write_octets(found, &mut self.octets);
+        write_line(&mut self.text, self.filled, &self.octets[..size]);
+        self.filled += 2 * size + 1;
+    }
+
+    /// Holds no lines any more.
+    fn clear(&mut self)
+        ensures { self.new ≡ [] }
+    {
+        self.filled = 0;
+    }
+}
+
+/// Writes a line for each record, as many lines at once as the buffer holds, and sees to it that all of them arrive.
+pub(crate) fn put_records<K: Sink>(
+    sink: &mut K,
+    records: &[CanonicalRecord<'_>],
+    buffer: &mut LineBuffer,
+) -> Result<(), Failed>
+    requires { buffer.old ≡ [] }
+    ensures puts { Puts (K.written sink.old) (K.written sink.new) (lines (map canon records.now)) result }
+    ensures flushed { OnOk result (BecomesFlag (K.is_flushed sink.old) (K.is_flushed sink.new) true) }
+    ensures cause { HasCause (K.faults sink.old) (K.faults sink.new) result }
+{
+    for found in records {
+        if buffer.room() <= 2 * found.size() {
+            put_all(sink, buffer.held())?;
+            buffer.clear();
+        }
+        buffer.hold(found);
+    }
+    put_text(sink, buffer.held())
+}
