@@ -16,10 +16,10 @@ const SINGLE: &[u8] = b"\x06single\x07example\x03org\0\0\x01\0\x01\0\0\x01\x2c\0
 fn record_of(message: &[u8], number: usize) -> Result<Option<CanonicalRecord<'_>>, Fail> {
     let mut parser = MessageParser::new(message)?;
     for _ in 0..number {
-        let _ = parser.next();
+        let _ = parser.next_item();
     }
-    match parser.next() {
-        Some(item) => Ok(CanonicalRecord::of(item?)),
+    match parser.next_item() {
+        Some((_, item)) => Ok(CanonicalRecord::of(item?)),
         None => Ok(None),
     }
 }
