@@ -1,11 +1,11 @@
 -- The crate's own lemmas.
+pub mod Agreeing
 pub mod AtPlaces
 pub mod Alike
 pub mod Backward
 pub mod Cells
 pub mod Cutting
 pub mod Digits
-pub mod Ended
 pub mod Following
 pub mod Lent
 pub mod Listed

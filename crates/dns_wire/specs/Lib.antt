@@ -1,4 +1,5 @@
 -- What the wire layer's contracts cite.
+pub mod Agreement
 pub mod Building
 pub mod Compression
 pub mod Devices

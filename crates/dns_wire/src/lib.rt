@@ -3,6 +3,7 @@
 #![tactic(auto)]
 
 mod adapters;
+mod agreement;
 mod as_bytes;
 mod build;
 mod builders;
@@ -23,6 +24,7 @@ mod storage;
 mod text;
 
 pub use adapters::{ReadSource, WriteSink};
+pub use agreement::{agreement_from_end, agreement_from_front};
 pub use as_bytes::AsBytes;
 pub use build::{BuildBytes, put};
 pub use compression::{

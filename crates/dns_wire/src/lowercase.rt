@@ -6,6 +6,7 @@ ghost use Rattle.std.specs.Ordering.{nat_cmp};
 ghost use Rattle.std.specs.Cmp.Lexicographic.{slice_cmp};
 ghost use Rattle.dns_wire.specs.Building.{Builds};
 
+use crate::agreement::agreement_from_front;
 use crate::build::BuildBytes;
 use crate::error::TruncationError;
 use std::cmp::Ordering;
@@ -29,13 +30,9 @@ pub fn build_lowercase<T: BuildBytes>(
 pub fn compare_lowercase(a: &[u8], b: &[u8]) -> Ordering
     ensures { result ≡ slice_cmp nat_cmp (str_to_ascii_lowercase a.now) (str_to_ascii_lowercase b.now) }
 {
-    let mut at = 0;
-    while at < a.len() && at < b.len() {
-        let order = a[at].to_ascii_lowercase().cmp(&b[at].to_ascii_lowercase());
-        if order.is_ne() {
-            return order;
-        }
-        at += 1;
+    let at = agreement_from_front(a, b);
+    if at < a.len() && at < b.len() {
+        return a[at].to_ascii_lowercase().cmp(&b[at].to_ascii_lowercase());
     }
     a.len().cmp(&b.len())
 }

@@ -1,5 +1,6 @@
 //! Each public call once.
 
+mod agreement;
 mod builders;
 mod devices;
 mod in_message;

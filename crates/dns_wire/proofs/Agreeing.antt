@@ -1,0 +1,213 @@
+-- How far two lists of octets agree.
+use lib.Count.{count_trailing_zeros}
+use lib.Seq.{take-add}
+use Rattle.std.proofs.Common.{nat_eq, get_or, w8, length-take-le, length-drop, take_all, ◌≡◌, ◌≤◌, ◌+◌, ◌-◌, ◌<◌, ◌%◌, ◌⊎◌, ℕ, Bool, true, false, List, [], ◌∷◌, ◌++◌, length, take, drop, map, reverse, suc, not, cond, eqb, refl, sym, ap, ◌∙◌, arith, inl, inr, nat_cmp}
+use Rattle.std.specs.Char.{to_ascii_lowercase, eq_ignore_ascii_case}
+use Rattle.std.specs.Cmp.Lexicographic.{slice_cmp}
+use Rattle.std.specs.List.{prefix_len}
+use Rattle.std.specs.Str.{str_to_ascii_lowercase}
+use Rattle.std.specs.Simd.Lanes.{zip2, mask_l, top}
+use Rattle.std.specs.Ordering.{ordering_then}
+use Rattle.std.specs.declared.cmp.Ordering.{Ordering}
+use Rattle.std.specs.declared.cmp.Ordering.TheVariants.{Less, Equal, Greater}
+use Rattle.std.proofs.lemmas.Bool.{eq-eqb, ne_eqb, eqb-true, eqb-false, cases_order}
+use Rattle.std.proofs.lemmas.Bool.Decides.{nat_tests}
+use Rattle.std.proofs.lemmas.List.{get_or-reverse, get_or-take, reverse-append, length-map, length-reverse, append_assoc, take_at, drop_at, take-append-drop, take-take, map-id}
+use Rattle.std.proofs.lemmas.List.Sums.{prefix_len-le-length, common_prefix_len-drop_no}
+use Rattle.std.proofs.lemmas.Slice.Eq.{bytes_eq-Decides}
+use Rattle.std.specs.Cmp.Lexicographic.{pointwise}
+use Rattle.std.proofs.lemmas.Simd.{tops_compared, mask_l-mod, first_set_mask_l, length-zip2}
+use Rattle.dns_wire.specs.Agreement.{agreeing_front, agreeing_end}
+
+-- ---- octets that are equal are passed over
+
+letter_same : (x : ℕ) → eq_ignore_ascii_case x x ≡ true
+letter_same x = eq-eqb (to_ascii_lowercase x) (to_ascii_lowercase x) refl
+
+front_same : (p xs ys : List ℕ) → agreeing_front (p ++ xs) (p ++ ys) ≡ length p + agreeing_front xs ys
+front_same [] xs ys = omega arith
+front_same (x ∷ p) xs ys = ap (λ s. cond s (1 + agreeing_front (p ++ xs) (p ++ ys)) 0) (letter_same x) ∙ omega (arith, front_same p xs ys)
+
+pub front_from : (n : ℕ) (xs ys : List ℕ) → n ≤ length xs → take n xs ≡ take n ys → agreeing_front xs ys ≡ n + agreeing_front (drop n xs) (drop n ys)
+front_from n xs ys within same =
+    ap (λ l. agreeing_front l ys) (sym (take-append-drop n xs))
+    ∙ ap (λ l. agreeing_front (take n xs ++ drop n xs) l) (sym (take-append-drop n ys) ∙ ap (λ l. l ++ drop n ys) (sym same))
+    ∙ front_same (take n xs) (drop n xs) (drop n ys)
+    ∙ ap (λ k. k + agreeing_front (drop n xs) (drop n ys)) (length-take-le n xs within)
+
+end_same : (xs ys p : List ℕ) → agreeing_end (xs ++ p) (ys ++ p) ≡ length p + agreeing_end xs ys
+end_same xs ys p =
+    ap (λ l. agreeing_front l (reverse (ys ++ p))) (reverse-append xs p)
+    ∙ ap (agreeing_front (reverse p ++ reverse xs)) (reverse-append ys p)
+    ∙ front_same (reverse p) (reverse xs) (reverse ys)
+    ∙ ap (λ k. k + agreeing_end xs ys) (length-reverse p)
+
+pub end_from : (m n : ℕ) (xs ys : List ℕ) → m ≤ length xs → drop m xs ≡ drop n ys → agreeing_end xs ys ≡ (length xs - m) + agreeing_end (take m xs) (take n ys)
+end_from m n xs ys within same =
+    ap (λ l. agreeing_end l ys) (sym (take-append-drop m xs))
+    ∙ ap (λ l. agreeing_end (take m xs ++ drop m xs) l) (sym (take-append-drop n ys) ∙ ap (λ l. take n ys ++ l) (sym same))
+    ∙ end_same (take m xs) (take n ys) (drop m xs)
+    ∙ ap (λ k. k + agreeing_end (take m xs) (take n ys)) (length-drop m xs)
+
+-- ---- sixteen octets at once
+
+abbrev differ : ℕ → ℕ → Bool
+differ a b = not (eqb a b)
+
+-- the mask of the lanes that differ
+abbrev differing : List ℕ → List ℕ → ℕ
+differing xs ys = mask_l (map (top 7) (zip2 (λ a b. cond (differ a b) 255 0) xs ys)) % 18446744073709551616
+
+mask_differing : (xs ys : List ℕ) → length xs ≡ 16 → length ys ≡ 16 → differing xs ys ≡ mask_l (map (λ b. b) (zip2 differ xs ys))
+mask_differing xs ys long short =
+    ap (λ ms. mask_l ms % 18446744073709551616) (tops_compared w8 differ xs ys ∙ sym (map-id (zip2 differ xs ys)))
+    ∙ mask_l-mod (map (λ b. b) (zip2 differ xs ys)) 64 (omega (arith, length-map (zip2 differ xs ys) (λ b. b), length-zip2 differ xs ys (long ∙ sym short), long))
+
+-- so many lanes before the first that differ are the same
+abbrev lanes : List ℕ → List ℕ → ℕ
+lanes xs ys = prefix_len (λ (x : Bool). not x) (zip2 differ xs ys)
+
+same_lanes : (xs ys : List ℕ) → take (lanes xs ys) xs ≡ take (lanes xs ys) ys
+same_lanes [] [] = refl
+same_lanes [] (y ∷ ys) = refl
+same_lanes (x ∷ xs) [] = refl
+same_lanes (x ∷ xs) (y ∷ ys) = step (eqb x y) refl (same_lanes xs ys) where
+  step : (s : Bool) → eqb x y ≡ s → take (lanes xs ys) xs ≡ take (lanes xs ys) ys → take (cond (not (not s)) (1 + lanes xs ys) 0) (x ∷ xs) ≡ take (cond (not (not s)) (1 + lanes xs ys) 0) (y ∷ ys)
+  step true e same =
+      let more : 1 + lanes xs ys ≡ suc (lanes xs ys) = omega arith in
+      rw (more, eqb-true x y e, same) refl
+  step false e same = refl
+
+counted : (xs ys : List ℕ) → length xs ≡ 16 → length ys ≡ 16 → cond (eqb (differing xs ys) 0) 16 (count_trailing_zeros 64 (differing xs ys)) ≡ lanes xs ys
+counted xs ys long short =
+    ap (λ m. cond (eqb m 0) 16 (count_trailing_zeros 64 m)) (mask_differing xs ys long short)
+    ∙ first_set_mask_l (λ (b : Bool). b) (zip2 differ xs ys) 16 (length-zip2 differ xs ys (long ∙ sym short) ∙ long) (omega arith)
+
+-- where no lane differs, all are the same
+pub none_differ : (xs ys : List ℕ) → length xs ≡ 16 → length ys ≡ 16 → differing xs ys ≡ 0 → xs ≡ ys
+none_differ xs ys long short none =
+    let all : lanes xs ys ≡ 16 = sym (counted xs ys long short) ∙ ap (λ s. cond s 16 (count_trailing_zeros 64 (differing xs ys))) (eq-eqb (differing xs ys) 0 none) in
+    sym (take_all 16 xs (omega (arith, long))) ∙ ap (λ n. take n xs) (sym all) ∙ same_lanes xs ys ∙ ap (λ n. take n ys) all ∙ take_all 16 ys (omega (arith, short))
+
+-- those before the first lane that differs
+pub some_differ : (xs ys : List ℕ) → length xs ≡ 16 → length ys ≡ 16 → (differing xs ys ≡ 0 → ⊥) → (count_trailing_zeros 64 (differing xs ys) ≤ 16) × (take (count_trailing_zeros 64 (differing xs ys)) xs ≡ take (count_trailing_zeros 64 (differing xs ys)) ys)
+some_differ xs ys long short some =
+    let count : count_trailing_zeros 64 (differing xs ys) ≡ lanes xs ys = sym (ap (λ s. cond s 16 (count_trailing_zeros 64 (differing xs ys))) (ne_eqb (differing xs ys) 0 some)) ∙ counted xs ys long short in
+    let small : count_trailing_zeros 64 (differing xs ys) ≤ 16 = rw (count) few in
+    let same : take (count_trailing_zeros 64 (differing xs ys)) xs ≡ take (count_trailing_zeros 64 (differing xs ys)) ys = rw (count) (same_lanes xs ys) in
+    (small, same) where
+      few : lanes xs ys ≤ 16
+      few = omega (arith, prefix_len-le-length (λ (x : Bool). not x) (zip2 differ xs ys), length-zip2 differ xs ys (long ∙ sym short), long)
+
+-- ---- one block after another
+
+pub block_same : (m n : ℕ) (xs ys : List ℕ) → take m xs ≡ take m ys → take n (drop m xs) ≡ take n (drop m ys) → take (m + n) xs ≡ take (m + n) ys
+block_same m n xs ys e d = take-add m n xs ∙ ap (λ l. l ++ take n (drop m xs)) e ∙ ap (λ l. take m ys ++ l) d ∙ sym (take-add m n ys)
+
+pub block_of : (at : ℕ) (xs : List ℕ) → at + 16 ≤ length xs → length (take 16 (drop at xs)) ≡ 16
+block_of at xs within = length-take-le 16 (drop at xs) (omega (arith, length-drop at xs))
+
+pub some_in_block : (at : ℕ) (xs ys : List ℕ) (n : ℕ) → (n ≤ 16) × (take n (take 16 (drop at xs)) ≡ take n (take 16 (drop at ys))) → take n (drop at xs) ≡ take n (drop at ys)
+some_in_block at xs ys n (few, same) = sym (take-take n 16 (drop at xs) few) ∙ same ∙ take-take n 16 (drop at ys) few
+
+-- ---- eight octets at once, from the last back
+
+split_back : (a left front x : List ℕ) → take (length left) a ≡ left → left ≡ front ++ x → a ≡ front ++ (x ++ drop (length left) a)
+split_back a left front x e split = sym (take-append-drop (length left) a) ∙ ap (λ l. l ++ drop (length left) a) (e ∙ split) ∙ append_assoc front x (drop (length left) a)
+
+front_left : (a front rest : List ℕ) → a ≡ front ++ rest → (drop (length front) a ≡ rest) × (take (length front) a ≡ front)
+front_left a front rest e = (ap (drop (length front)) e ∙ drop_at front rest (length front) refl, ap (take (length front)) e ∙ take_at front rest (length front) refl)
+
+pub back_left : (a left front x : List ℕ) → take (length left) a ≡ left → left ≡ front ++ x → (drop (length front) a ≡ x ++ drop (length left) a) × (take (length front) a ≡ front)
+back_left a left front x e split = front_left a front (x ++ drop (length left) a) (split_back a left front x e split)
+
+pub cut_back : (left front x : List ℕ) (at : ℕ) → front ≡ take at left → x ≡ drop at left → left ≡ front ++ x
+cut_back left front x at e d = sym (take-append-drop at left) ∙ ap (λ l. l ++ drop at left) (sym e) ∙ ap (λ l. front ++ l) (sym d)
+
+pub equal_chunks : (xs ys : List ℕ) → false ≡ not (pointwise nat_eq xs ys) → xs ≡ ys
+equal_chunks xs ys e = (bytes_eq-Decides xs ys).0 (is (pointwise nat_eq xs ys) e) where
+  is : (s : Bool) → false ≡ not s → s ≡ true
+  is true e = refl
+  is false e = e
+
+-- ---- where it ends
+
+pub end_left : (xs ys : List ℕ) (m : ℕ) → m ≡ 0 → agreeing_end (take m xs) ys ≡ 0
+end_left xs ys m e = ap (λ k. agreeing_end (take k xs) ys) e
+
+pub end_right : (xs ys : List ℕ) (n : ℕ) → n ≡ 0 → agreeing_end xs (take n ys) ≡ 0
+end_right xs ys n e = ap (λ k. agreeing_end xs (take k ys)) e ∙ none (reverse xs) where
+  none : (l : List ℕ) → agreeing_front l [] ≡ 0
+  none [] = refl
+  none (x ∷ l) = refl
+
+last_of : (m : ℕ) (xs : List ℕ) → 0 < m → m ≤ length xs → get_or (reverse (take m xs)) 0 0 ≡ get_or xs (m - 1) 0
+last_of m xs some within =
+    let long : length (take m xs) ≡ m = length-take-le m xs within in
+    let at : length (take m xs) - 1 - 0 ≡ m - 1 = omega (arith, long) in
+    get_or-reverse (take m xs) 0 0 (omega (arith, long, some)) ∙ ap (λ k. get_or (take m xs) k 0) at ∙ get_or-take m xs (m - 1) 0 (omega (arith, some))
+
+pub end_differs : (m n : ℕ) (xs ys : List ℕ) → 0 < m → m ≤ length xs → 0 < n → n ≤ length ys → eq_ignore_ascii_case (get_or xs (m - 1) 0) (get_or ys (n - 1) 0) ≡ false → agreeing_end (take m xs) (take n ys) ≡ 0
+end_differs m n xs ys some within more fits differ =
+    common_prefix_len-drop_no eq_ignore_ascii_case (reverse (take m xs)) (reverse (take n ys)) 0 0 0 (omega (arith, some, length-reverse (take m xs), length-take-le m xs within)) (omega (arith, more, length-reverse (take n ys), length-take-le n ys fits))
+    (ap (λ k. eq_ignore_ascii_case k (get_or (reverse (take n ys)) 0 0)) (last_of m xs some within) ∙ ap (eq_ignore_ascii_case (get_or xs (m - 1) 0)) (last_of n ys more fits) ∙ differ)
+
+pub front_ended : (at : ℕ) (xs ys : List ℕ) → at ≤ length xs → length ys ≤ at → agreeing_front (drop at xs) (drop at ys) ≡ 0
+front_ended at xs ys within past = none (drop at xs) (drop at ys) (omega (arith, length-drop at ys, past)) where
+  none : (l k : List ℕ) → length k ≡ 0 → agreeing_front l k ≡ 0
+  none [] k e = refl
+  none (x ∷ l) [] e = refl
+  none (x ∷ l) (y ∷ k) e = absurd (omega (arith, e))
+
+-- ---- the order is decided where they cease to agree
+
+equal_then : (a b : ℕ) (rest : Ordering) → a ≡ b → ordering_then (nat_cmp a b) rest ≡ rest
+equal_then a b rest e = ap (λ o. ordering_then o rest) (tie a b e) where
+  tie : (a b : ℕ) → a ≡ b → nat_cmp a b ≡ Equal
+  tie a b e = grind (arith, nat_tests)
+
+differ_then : (a b : ℕ) (rest : Ordering) → (a ≡ b → ⊥) → ordering_then (nat_cmp a b) rest ≡ nat_cmp a b
+differ_then a b rest ne = elim (cases_order a b) [ inl e ↦ absurd (ne e) | inr (inl l) ↦ step Less refl (less a b l) | inr (inr g) ↦ step Greater refl (greater a b g) ] where
+  less : (a b : ℕ) → a < b → nat_cmp a b ≡ Less
+  less a b l = grind (arith, nat_tests)
+
+  greater : (a b : ℕ) → b < a → nat_cmp a b ≡ Greater
+  greater a b g = grind (arith, nat_tests)
+
+  step : (o : Ordering) → ordering_then o rest ≡ o → nat_cmp a b ≡ o → ordering_then (nat_cmp a b) rest ≡ nat_cmp a b
+  step o d e = ap (λ t. ordering_then t rest) e ∙ d ∙ sym e
+
+pub decided : (xs ys : List ℕ) (at : ℕ) → at ≡ agreeing_front xs ys → at < length xs → at < length ys → slice_cmp nat_cmp (str_to_ascii_lowercase xs) (str_to_ascii_lowercase ys) ≡ nat_cmp (to_ascii_lowercase (get_or xs at 0)) (to_ascii_lowercase (get_or ys at 0))
+decided [] ys at e l r = absurd (omega (arith, l))
+decided (x ∷ xs) [] at e l r = absurd (omega (arith, r))
+decided (x ∷ xs) (y ∷ ys) at e l r = by (eq_ignore_ascii_case x y) refl (decided xs ys) e where
+  by : (s : Bool) → eq_ignore_ascii_case x y ≡ s → ((at : ℕ) → at ≡ agreeing_front xs ys → at < length xs → at < length ys → slice_cmp nat_cmp (str_to_ascii_lowercase xs) (str_to_ascii_lowercase ys) ≡ nat_cmp (to_ascii_lowercase (get_or xs at 0)) (to_ascii_lowercase (get_or ys at 0))) → at ≡ cond s (1 + agreeing_front xs ys) 0 → slice_cmp nat_cmp (str_to_ascii_lowercase (x ∷ xs)) (str_to_ascii_lowercase (y ∷ ys)) ≡ nat_cmp (to_ascii_lowercase (get_or (x ∷ xs) at 0)) (to_ascii_lowercase (get_or (y ∷ ys) at 0))
+  by true same ih d =
+      let next : at ≡ suc (agreeing_front xs ys) = omega (arith, d) in
+      equal_then (to_ascii_lowercase x) (to_ascii_lowercase y) _ (eqb-true _ _ same)
+      ∙ ih (agreeing_front xs ys) refl (omega (arith, l, next)) (omega (arith, r, next))
+      ∙ ap (λ k. nat_cmp (to_ascii_lowercase (get_or (x ∷ xs) k 0)) (to_ascii_lowercase (get_or (y ∷ ys) k 0))) (sym next)
+  by false other ih d =
+      differ_then (to_ascii_lowercase x) (to_ascii_lowercase y) _ (eqb-false _ _ other)
+      ∙ ap (λ k. nat_cmp (to_ascii_lowercase (get_or (x ∷ xs) k 0)) (to_ascii_lowercase (get_or (y ∷ ys) k 0))) (sym d)
+
+same_less : (n m : ℕ) → nat_cmp n m ≡ nat_cmp (suc n) (suc m)
+same_less n m = grind (arith, nat_tests)
+
+pub undecided : (xs ys : List ℕ) (at : ℕ) → at ≡ agreeing_front xs ys → (length xs ≤ at) ⊎ (length ys ≤ at) → slice_cmp nat_cmp (str_to_ascii_lowercase xs) (str_to_ascii_lowercase ys) ≡ nat_cmp (length xs) (length ys)
+undecided [] [] at e past = refl
+undecided [] (y ∷ ys) at e past = sym (below 0 (length (y ∷ ys)) (omega arith)) where
+  below : (n m : ℕ) → n < m → nat_cmp n m ≡ Less
+  below n m h = grind (arith, nat_tests)
+undecided (x ∷ xs) [] at e past = sym (above 0 (length (x ∷ xs)) (omega arith)) where
+  above : (n m : ℕ) → n < m → nat_cmp m n ≡ Greater
+  above n m h = grind (arith, nat_tests)
+undecided (x ∷ xs) (y ∷ ys) at e past = by (eq_ignore_ascii_case x y) refl (undecided xs ys) e where
+  by : (s : Bool) → eq_ignore_ascii_case x y ≡ s → ((at : ℕ) → at ≡ agreeing_front xs ys → (length xs ≤ at) ⊎ (length ys ≤ at) → slice_cmp nat_cmp (str_to_ascii_lowercase xs) (str_to_ascii_lowercase ys) ≡ nat_cmp (length xs) (length ys)) → at ≡ cond s (1 + agreeing_front xs ys) 0 → slice_cmp nat_cmp (str_to_ascii_lowercase (x ∷ xs)) (str_to_ascii_lowercase (y ∷ ys)) ≡ nat_cmp (length (x ∷ xs)) (length (y ∷ ys))
+  by true same ih d =
+      equal_then (to_ascii_lowercase x) (to_ascii_lowercase y) _ (eqb-true _ _ same)
+      ∙ ih (agreeing_front xs ys) refl (elim past [ inl p ↦ inl (omega (arith, p, d)) | inr p ↦ inr (omega (arith, p, d)) ])
+      ∙ same_less (length xs) (length ys)
+  by false other ih d = absurd (elim past [ inl p ↦ some xs (omega (arith, p, d)) | inr p ↦ some ys (omega (arith, p, d)) ]) where
+    some : (l : List ℕ) → 1 + length l ≤ 0 → ⊥
+    some l h = omega (arith, h)
