@@ -68,7 +68,7 @@ HeadIs contents start at (Pointer target) = (192 ≤ slice_index contents at) ×
 same_some : {A : Type 0} (x y : A) (P : A → Type 0) → Some x ≡ Some y → P x → P y
 same_some x y P e p = let h : x ≡ y = cc in subst P h p
 
-head_is : (contents : List ℕ) (start at : ℕ) (head : Head) → head_at contents start at ≡ Some head → HeadIs contents start at head
+pub head_is : (contents : List ℕ) (start at : ℕ) (head : Head) → head_at contents start at ≡ Some head → HeadIs contents start at head
 unfolding head_at
 head_is contents start at head e =
     elim (chosen (leb (length contents) at) _ _ _ e) [
