@@ -3,10 +3,9 @@ use Rattle.std.specs.Prelude.{ℕ, List, length}
 use Rattle.std.specs.Ordering.{nat_cmp, ordering_then}
 use Rattle.std.specs.Str.{str_to_ascii_lowercase}
 use Rattle.std.specs.declared.cmp.Ordering.{Ordering}
-use Rattle.dns_label.specs.Order.{label_cmp}
 use Rattle.dns_name.specs.Composed.{octets_cmp}
 use Rattle.dns_name.specs.declared.row_order.LabelOrder.{LabelOrder}
-use Rattle.dns_name.specs.declared.row_order.LabelOrder.TheVariants.{Canonical, Composed, LowercaseComposed}
+use Rattle.dns_name.specs.declared.row_order.LabelOrder.TheVariants.{Composed, LowercaseComposed}
 
 -- labels by their lengths, and those as long by their octets
 abbrev pub head_cmp : List ℕ → List ℕ → Ordering
@@ -14,6 +13,5 @@ head_cmp a b = ordering_then (nat_cmp (length a) (length b)) (octets_cmp a b)
 
 -- two labels in one of the orders
 abbrev pub ordered_by : LabelOrder → List ℕ → List ℕ → Ordering
-ordered_by Canonical a b = label_cmp a b
 ordered_by Composed a b = head_cmp a b
 ordered_by LowercaseComposed a b = head_cmp (str_to_ascii_lowercase a) (str_to_ascii_lowercase b)

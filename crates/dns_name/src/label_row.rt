@@ -25,6 +25,13 @@ impl<'a> LabelRow<'a> {
         Some((label, LabelRow { slice: rest }))
     }
 
+    /// How many octets they have, at most 254.
+    pub fn len(&self) -> usize
+        ensures { result ≡ length self.now.slice.now }
+    {
+        self.slice.len()
+    }
+
     /// How many labels there are, at most 127.
     pub fn count(&self) -> usize
         ensures count { result ≡ length (row_labels self.now.slice.now) }

@@ -72,6 +72,7 @@ impl<'a> Name<'a> {
     /// The labels, from the first to the last.
     pub(crate) fn row(&self) -> LabelRow<'a>
         ensures labels { row_labels result.slice.now ≡ name_labels self.now.slice.now }
+        ensures octets { length self.now.slice.now ≡ length result.slice.now + 1 }
         ensures short { length result.slice.now ≤ 254 }
     {
         let octets = self.as_bytes();

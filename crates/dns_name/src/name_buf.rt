@@ -1,18 +1,20 @@
 //! A name with its octets.
 
-ghost use Rattle.std.specs.Prelude.{◌≡◌, ◌+◌, ◌≤◌, ℕ, List, ◌++◌, length, take, Some, IfOk, OnErr, ⊤};
+ghost use Rattle.std.specs.Prelude.{◌≡◌, ◌+◌, ◌<◌, ◌≤◌, ℕ, List, ◌++◌, length, take, Some, IfOk, OnErr, ⊤};
 ghost use Rattle.dns_wire.specs.Reading.{Gives, all_of, all_at};
 ghost use Rattle.dns_wire.proofs.NamesLeft.{plain_name_leaves, name_ends, plain_name_names, name_at_names};
 ghost use Rattle.dns_wire.specs.Names.{plain_name, name_labels};
-ghost use Rattle.dns_wire.specs.Pointers.{NameAt, name_at};
+ghost use Rattle.dns_wire.specs.Pointers.{NameAt, name_at, head_count};
 
 use crate::name::Name;
+use crate::steps::Steps;
 use dns_wire::{
     BuildBytes, Head, NameCursor, ParseBytes, ParseError, ParseMessageBytes, SplitBytes,
     SplitMessageBytes, TruncationError, whole_message,
 };
 use std::alloc::AllocError;
-use std::marker::Model;
+use std::marker::{Brand, Model};
+use std::sync::ledger::{Blank, Ledger};
 
 /// A name that owns its octets, and is seen as its labels. It takes no memory.
 #[derive(Debug, Drop)]
@@ -76,16 +78,23 @@ pub(crate) fn copy_at(octets: &[u8], buffer: &mut [u8], at: usize)
 }
 
 /// Reads the name at the place, its pointers followed, and gives the place where it ends. Each label is
-/// copied once, and the first that leaves no room for the root ends the reading.
-fn read_name(contents: &[u8], start: usize) -> Result<(NameBuf, usize), ParseError>
+/// copied once, and the first that leaves no room for the root ends the reading. Each head is a step.
+fn read_name<L: Ledger>(
+    contents: &[u8],
+    start: usize,
+    steps: &mut Steps<L>,
+) -> Result<(NameBuf, usize), ParseError>
     ensures exact { Gives (λ x. (x.0, x.1)) result (name_at contents.now start) }
     ensures within { IfOk result (λ x. (start ≤ x.1) × (x.1 ≤ length contents.now)) }
+    ensures heads { IfOk result (λ x. (found : NameAt contents.now start x.0 x.1) → steps.new ≡ steps.old + head_count found.reads) }
+    ensures bound { steps.new ≤ steps.old + (129 + start) }
 {
     let mut buffer = [0; Name::MAX_SIZE];
     let mut size = 0;
     let mut cursor = NameCursor::new(start);
     loop {
         let at = cursor.at;
+        steps.add(1);
         match cursor.next_head(contents)? {
             Head::Root => {
                 copy_at(&[0], &mut buffer, size);
@@ -101,6 +110,42 @@ fn read_name(contents: &[u8], start: usize) -> Result<(NameBuf, usize), ParseErr
             }
             Head::Pointer(_) => {}
         }
+    }
+}
+
+/// Reads the name at the place, where nobody counts.
+fn read_uncounted<L: Ledger>(
+    contents: &[u8],
+    start: usize,
+    blank: Blank,
+) -> Result<(NameBuf, usize), ParseError>
+    requires name { blank.name ≡ L.name }
+    requires parts { blank.parts ≡ L.parts }
+    requires some { 0 < blank.parts }
+    ensures exact { Gives (λ x. (x.0, x.1)) result (name_at contents.now start) }
+    ensures within { IfOk result (λ x. (start ≤ x.1) × (x.1 ≤ length contents.now)) }
+{
+    let mut steps: Steps<L> = Steps::new(blank);
+    read_name(contents, start, &mut steps)
+}
+
+impl NameBuf {
+    /// Reads the name at the place as `split_message_bytes` does, and counts: each label's head, each pointer
+    /// and the root's head is a step. Whatever the pointers, there are at most 129 and one for each octet
+    /// before the place.
+    pub fn split_counted<L: Ledger>(
+        contents: &[u8],
+        start: usize,
+        steps: &mut Steps<L>,
+    ) -> Result<(NameBuf, usize), ParseError>
+        ensures exact { Gives (λ x. (x.0, x.1)) result (name_at contents.now start) }
+        ensures within { IfOk result (λ x. (start ≤ x.1) × (x.1 ≤ length contents.now)) }
+        ensures follows { IfOk result (λ x. NameAt contents.now start x.0 x.1) }
+        ensures refused { OnErr result ((labels : List (List ℕ)) (end : ℕ) → ¬ NameAt contents.now start labels end) }
+        ensures heads { IfOk result (λ x. (found : NameAt contents.now start x.0 x.1) → steps.new ≡ steps.old + head_count found.reads) }
+        ensures bound { steps.new ≤ steps.old + (129 + start) }
+    {
+        read_name(contents, start, steps)
     }
 }
 
@@ -153,7 +198,10 @@ impl<'a> ParseMessageBytes<'a> for NameBuf {
         ensures follows { IfOk result (λ v. NameAt contents.now start v (length contents.now)) }
         ensures refused { OnErr result ((labels : List (List ℕ)) → ¬ NameAt contents.now start labels (length contents.now)) }
     {
-        whole_message(read_name(contents, start), contents)
+        whole_message(
+            read_uncounted::<Brand>(contents, start, Blank::new(1)),
+            contents,
+        )
     }
 }
 
@@ -166,7 +214,7 @@ impl<'a> SplitMessageBytes<'a> for NameBuf {
         ensures follows { IfOk result (λ x. NameAt contents.now start x.0 x.1) }
         ensures refused { OnErr result ((labels : List (List ℕ)) (end : ℕ) → ¬ NameAt contents.now start labels end) }
     {
-        read_name(contents, start)
+        read_uncounted::<Brand>(contents, start, Blank::new(1))
     }
 }
 

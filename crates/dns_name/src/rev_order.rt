@@ -13,24 +13,25 @@ ghost use Rattle.dns_name.specs.Order.{key, key_cmp};
 use crate::label_row::LabelRow;
 use crate::rev_name::RevName;
 use crate::rev_name_buf::RevNameBuf;
-use dns_wire::compare_lowercase;
+use dns_wire::{agreement_from_front, compare_lowercase};
 use std::cmp::Ordering;
 
 /// The order of labels one after another, each in small letters. The first that differ decide, and fewer
-/// labels come first.
+/// labels come first. Labels that lie whole within the octets that agree are passed over.
 fn compare_rows(a: LabelRow<'_>, b: LabelRow<'_>) -> Ordering
     ensures { result ≡ key_cmp (lowered (row_labels a.entry.slice.now)) (lowered (row_labels b.entry.slice.now)) }
 {
+    let mut agreed = agreement_from_front(a.slice, b.slice);
     let mut left = a;
     let mut right = b;
     while let Some((label, next)) = left.split_first() {
         let Some((other, last)) = right.split_first() else {
             return Ordering::Greater;
         };
-        let order = compare_lowercase(label, other);
-        if order.is_ne() {
-            return order;
+        if agreed <= label.len() {
+            return compare_lowercase(label, other);
         }
+        agreed -= 1 + label.len();
         left = next;
         right = last;
     }
@@ -48,7 +49,9 @@ impl PartialEq for RevName<'_> {
 
     /// Whether the labels are the same, ASCII case aside.
     fn eq(&self, other: &Self) -> bool {
-        self.as_bytes().eq_ignore_ascii_case(other.as_bytes())
+        let octets = self.as_bytes();
+        let others = other.as_bytes();
+        octets.len() == others.len() && agreement_from_front(octets, others) == octets.len()
     }
 }
 

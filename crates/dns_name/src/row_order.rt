@@ -13,8 +13,6 @@ use std::cmp::Ordering;
 /// How two labels are compared.
 #[derive(Clone, Copy)]
 pub(crate) enum LabelOrder {
-    /// By their octets in small letters.
-    Canonical,
     /// By their lengths, and those as long by their octets.
     Composed,
     /// By their lengths, and those as long by their octets in small letters.
@@ -26,7 +24,6 @@ fn compare_labels(a: &[u8], b: &[u8], by: LabelOrder) -> Ordering
     ensures { result ≡ ordered_by by a.now b.now }
 {
     match by {
-        LabelOrder::Canonical => compare_lowercase(a, b),
         LabelOrder::Composed => a.len().cmp(&b.len()).then(a.cmp(&b)),
         LabelOrder::LowercaseComposed => a.len().cmp(&b.len()).then(compare_lowercase(a, b)),
     }

@@ -4,6 +4,7 @@ mod canonical_name;
 mod in_message;
 mod json;
 mod reversed;
+mod steps;
 mod text;
 mod unparsed_name;
 

@@ -1,11 +1,12 @@
 use Rattle.std.proofs.Common.{length, take, ◌+◌, ◌-◌, ◌≡◌, ◌<◌}
+use Rattle.dns_name.proofs.Counted.{Counted}
 use Rattle.dns_name.proofs.Followed.{Followed}
 use Rattle.dns_name.proofs.name_buf.read_name.Given as goal
 
 -- the labels so far stand in the buffer
 abbrev pub invariant-loop-buffer : goal.invariant-loop-buffer
-invariant-loop-buffer l = record { array : length l.buffer ≡ 255; room : l.size < 255; followed : Followed l.contents l.start l.cursor.start l.cursor.at l.cursor.end (take l.size l.buffer) }
+invariant-loop-buffer g l = record { array : length l.buffer ≡ 255; room : l.size < 255; followed : Followed l.contents l.start l.cursor.start l.cursor.at l.cursor.end (take l.size l.buffer); counted : Counted l.contents l.start l.cursor.start l.cursor.at l.fn.steps l.steps l.size }
 
 -- a label takes room, and a pointer leads back
 abbrev pub decreases-loop-buffer : goal.decreases-loop-buffer
-decreases-loop-buffer l = (255 - l.size) + l.cursor.start
+decreases-loop-buffer g l = (255 - l.size) + l.cursor.start

@@ -5,7 +5,7 @@ use Rattle.dns_name.proofs.name_buf.NameBufParseMessageBytes.parse_message_bytes
 
 pub returns : goal.returns
 returns c =
-    let exact : Gives (λ v. v) c.whole_message.result (all_at c.args.contents.now (name_at c.args.contents.now c.args.start)) = rw c.whole_message.ensures (gives_whole c.args.contents.now c.read_name.result _ c.read_name.ensures.exact) in
+    let exact : Gives (λ v. v) c.whole_message.result (all_at c.args.contents.now (name_at c.args.contents.now c.args.start)) = rw c.whole_message.ensures (gives_whole c.args.contents.now c.read_uncounted.result _ c.read_uncounted.ensures.exact) in
     record {
       exact = exact;
       follows = whole_follows c.args.contents.now c.args.start c.whole_message.result exact;
