@@ -1,10 +1,10 @@
 -- Going over a message item by item. What is seen of a parser is its message, how many items it gave, where in the contents the
 -- next one begins, and whether it has ended.
-use Rattle.std.specs.Prelude.{◌≡◌, ℕ, suc, List, [], ◌∷◌, drop, Bool, true, Option, Some, None, Result, Ok, Err, if◌then◌else◌}
+use Rattle.std.specs.Prelude.{◌≡◌, ℕ, suc, List, [], ◌∷◌, drop, Bool, true, Option, Some, None, Result, Ok, Err, IfOk, if◌then◌else◌}
 use Rattle.dns_edns.specs.declared.opt.Opt.{Opt}
 use Rattle.dns_rdata.specs.declared.record_data.RecordData.{RecordData}
 use Rattle.dns_message.specs.Messages.{Reading, item_at, counted_slots, reading_from}
-use Rattle.dns_message.specs.Seen.{item_seen}
+use Rattle.dns_message.specs.Seen.{item_seen, HasSoundData}
 use Rattle.dns_message.specs.declared.item.MessageItem.{MessageItem}
 use Rattle.dns_message.specs.declared.parser.MessageParser.{MessageParser}
 use Rattle.dns_message.specs.declared.parser.Place.{Place}
@@ -51,7 +51,7 @@ GivesNext old (Some (place, Err error)) new =
     × (item_at place.section (drop 12 (parsed_message old)) (next_start old) ≡ None)
     × (slots_ahead new ≡ []) × (has_ended new ≡ true) × (next_start new ≡ next_start old) × (given_count new ≡ given_count old)
 
--- the same without the place
+-- the same without the place. The data of an item that is read are sound, as all that is read is
 abbrev pub GivesItem : {E : Type 0} → MessageParser → Option (Result Parsed E) → MessageParser → Type 0
 GivesItem {E = E} old None new = GivesNext {E = E} old None new
-GivesItem old (Some item) new = (place : Place) × GivesNext old (Some (place, item)) new
+GivesItem old (Some item) new = IfOk item HasSoundData × ((place : Place) × GivesNext old (Some (place, item)) new)

@@ -148,7 +148,7 @@ impl PartialEq for CanonicalRecord<'_> {
 
     ghost laws = { Prim.search (comparing, rules) depth 9 };
 
-    /// Whether the canonical octets are the same.
+    /// Whether neither comes before the other. Then the canonical octets are the same.
     fn eq(&self, other: &Self) -> bool {
         self.cmp(other).is_eq()
     }
