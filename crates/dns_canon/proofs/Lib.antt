@@ -1,6 +1,7 @@
 -- The crate's own lemmas.
 pub mod Chained
 pub mod Decoding
+pub mod DigitTable
 pub mod Digits
 pub mod Exclusive
 pub mod GeneratedRecords

@@ -6,12 +6,11 @@ use Rattle.std.specs.List.{list_any, range_with_len}
 use Rattle.std.proofs.lemmas.List.{length-append, map-append}
 use Rattle.std.proofs.lemmas.List.Recursion.{is_sum_by}
 use Rattle.dns_wire.specs.Compression.{FitsIn, Pressing}
-use Rattle.dns_wire.specs.Names.{wire, lowered}
+use Rattle.dns_wire.specs.Names.{wire}
 use Rattle.dns_wire.specs.Pieces.{list_presses}
 use Rattle.dns_wire.specs.Told.{list_presses-one, list_presses-append}
-use Rattle.dns_wire.proofs.Lowered.{lowered_long}
-use Rattle.dns_record.specs.Fields.{fields_octets, canonical_fields}
-use Rattle.dns_record.proofs.Sizes.{canonical_long}
+use Rattle.dns_record.specs.Fields.{fields_octets}
+use Rattle.dns_message.proofs.Lengths.{canon_long}
 use Rattle.dns_message.specs.Building.{Draft, drafted, count_in, has_later, pushed, HasRoom, PushAnswers}
 use Rattle.dns_message.specs.Built.{built}
 use Rattle.dns_message.specs.Canonical.{fold, canon, is_kept, record_octets}
@@ -159,18 +158,11 @@ valid_made n draft is = (records_among is.items, (is.items, length draft.content
 
 -- ---- the octets of the canonical list
 
-canon_long : (r : Rec) → length (canon r) ≡ length (record_octets r)
-canon_long r =
-    let small = fields_octets (canonical_fields r.rtype r.content) in
+record_long : (r : Rec) → length (canon r) ≡ length (record_octets r)
+record_long r =
     let body = fields_octets r.content in
     let numbers = to_be_bytes w16 r.rtype ++ (to_be_bytes w16 r.class ++ to_be_bytes w32 r.ttl) in
-    omega (
-      arith,
-      canonical_long r.rtype r.content,
-      lowered_long r.owner,
-      length-append (wire (lowered r.owner)) (numbers ++ (to_be_bytes w16 (length small) ++ small)),
-      length-append (wire r.owner) (numbers ++ (to_be_bytes w16 (length body) ++ body)),
-    )
+    omega (arith, canon_long r, length-append (wire r.owner) (numbers ++ (to_be_bytes w16 (length body) ++ body)))
 
 canon_short : (n first : ℕ) → first + n ≤ 1000 → times length (map canon (filter is_kept (map generated_record (range_with_len first n)))) ≤ 65 * n
 canon_short zero first few = omega arith
@@ -179,7 +171,7 @@ canon_short (suc n) first few = by (is_kept (generated_record first)) (canon_sho
   later = filter is_kept (map generated_record (range_with_len (first + 1) n))
 
   by : (kept : Bool) → times length (map canon later) ≤ 65 * n → times length (map canon (cond kept (generated_record first ∷ later) later)) ≤ 65 * suc n
-  by true short = omega (arith, short, canon_long (generated_record first), generated_short first (omega (arith, few)))
+  by true short = omega (arith, short, record_long (generated_record first), generated_short first (omega (arith, few)))
   by false short = omega (arith, short)
 
 pub output_short : (n : ℕ) → n ≤ 1000 → sum_by length (output (generated n)) ≤ 65000

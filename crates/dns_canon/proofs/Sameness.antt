@@ -13,6 +13,8 @@ use Rattle.dns_message.proofs.OneReading.{valid_one}
 use Rattle.std.specs.Ordering.{eq_by_cmp}
 use Rattle.dns_message.specs.Order.{record_cmp, sort_key}
 use Rattle.dns_canon.specs.Ordered.{AreInOrder}
+use Rattle.std.specs.Prelude.{filter}
+use Rattle.dns_message.specs.Canonical.{is_kept}
 use Rattle.dns_canon.specs.Parts.{first_text, second_text}
 use Rattle.dns_canon.proofs.Sorting.{keys_tie, same_in_order}
 use Rattle.dns_canon.specs.Run.{Prints, TellsSameness}
@@ -48,7 +50,7 @@ spelled_octets (c ∷ d ∷ rest) m e = by (digit_value c) (digit_value d) (spel
 -- ---- what is told
 
 -- the word for the records of two messages, in order
-pub told : (t u m n : List ℕ) (rs ss records others : List Rec) (printed : List ℕ) → Spells t m → Spells u n → Valid m rs → Valid n ss → AreInOrder rs records → AreInOrder ss others
+pub told : (t u m n : List ℕ) (rs ss records others : List Rec) (printed : List ℕ) → Spells t m → Spells u n → Valid m rs → Valid n ss → AreInOrder (filter is_kept rs) records → AreInOrder (filter is_kept ss) others
     → (map sort_key records ≡ map sort_key others → printed ≡ codes "same" ++ 10 ∷ []) → (¬ (map sort_key records ≡ map sort_key others) → printed ≡ codes "different" ++ 10 ∷ [])
     → TellsSameness rs ss printed
 told t u m n rs ss records others printed first second valid also sorted sorted-too same different = by (pointwise (eq_by_cmp record_cmp) records others) refl where

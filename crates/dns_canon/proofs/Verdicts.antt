@@ -121,15 +121,6 @@ long_words t = (λ e. from (called t) e, too_long t) where
 abbrev pub Refuses : Command → List ℕ → Status → Type 0
 Refuses command t status = ((status ≡ verdict (Some command) t) ⊎ (status ≡ Memory)) × ((status ≢ Done) × ((status ≢ ReadFault) × ((status ≢ WriteFault) × (status ≢ Usage))))
 
-refuses : (t m : List ℕ) (error : CanonError) → length t ≤ 131072 → Spells t m → RefusedOrMemory m error → Refuses Canon t (canon_status 0 error)
-refuses t m canon.Short within spells refused = (inl (sym (short t m within spells refused)), (λ e. cc, (λ e. cc, (λ e. cc, λ e. cc))))
-refuses t m (canon.Item s i) within spells refused = (inl (sym (bad_item t m s i within spells refused)), (λ e. cc, (λ e. cc, (λ e. cc, λ e. cc))))
-refuses t m canon.Memory within spells refused = (inr refl, (λ e. cc, (λ e. cc, (λ e. cc, λ e. cc))))
-
--- a refusal of the message that the text spells is the verdict, or memory ran out
-pub message_refused : (t m : List ℕ) (error : CanonError) (status : Status) → length t ≤ 131072 → Spells t m → RefusedOrMemory m error → status ≡ canon_status 0 error → Refuses Canon t status
-message_refused t m error status within spells refused is = subst (Refuses Canon t) (sym is) (refuses t m error within spells refused)
-
 reading_not_usage : (r : Reading) → first_refusal 0 (r ∷ []) ≢ Usage
 reading_not_usage TooShort = λ e. cc
 reading_not_usage (Stopped items section index place) = λ e. cc

@@ -1,5 +1,4 @@
 -- What the contracts of the canonical list and of the top call cite.
-pub mod Errors
 pub mod Generated
 pub mod Making
 pub mod Ordered

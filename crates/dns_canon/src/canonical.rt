@@ -8,7 +8,7 @@ ghost use Rattle.dns_message.specs.Messages.{Rec, Valid};
 ghost use Rattle.dns_message.specs.Order.{output};
 
 use crate::error::CanonError;
-use crate::message::sorted_records;
+use crate::message::{in_order, read_records};
 use dns_message::CanonicalRecord;
 use dns_wire::BuildBytes;
 use std::alloc::{AllocError, Global};
@@ -87,8 +87,8 @@ fn octets_of_record(alloc: Global, found: &CanonicalRecord<'_>) -> Result<Vec<u8
 }
 
 /// The canonical octets of the records, in their order.
-fn all_octets(alloc: Global, records: &[CanonicalRecord<'_>]) -> Result<Vec<Vec<u8>>, AllocError>
-    ensures { IfOk result (λ lists. map (λ list. list.items) lists.items ≡ map canon records.now) }
+fn all_octets(alloc: Global, records: &[&CanonicalRecord<'_>]) -> Result<Vec<Vec<u8>>, AllocError>
+    ensures { IfOk result (λ lists. map (λ list. list.items) lists.items ≡ map (λ r. canon r.now) records.now) }
 {
     let mut lists = Vec::with_capacity(alloc, records.len())?;
     for found in records {
@@ -109,7 +109,8 @@ pub fn canonicalise(alloc: Global, message: &[u8]) -> Result<CanonList, CanonErr
     ensures exactly { (error : CanonError) → RefusedAs message.now error
         → (result ≡ Err error) ⊎ (result ≡ Err CanonError.Memory) }
 {
-    let records = sorted_records(alloc, message)?;
-    let lists = all_octets(alloc, &records)?;
+    let records = read_records(alloc, message)?;
+    let order = in_order(alloc, &records)?;
+    let lists = all_octets(alloc, &order)?;
     Ok(CanonList { lists })
 }

@@ -5,7 +5,8 @@ ghost use Rattle.dns_wire.specs.Outside.{Rose, HasCause, BecomesFlag, WritesFron
 ghost use Rattle.std.specs.Io.KnownBytes.{Appends};
 ghost use Rattle.dns_message.specs.Messages.{Rec, Valid};
 ghost use Rattle.dns_message.specs.Order.{sort_key};
-ghost use Rattle.dns_canon.specs.Ordered.{AreInOrder};
+ghost use Rattle.std.specs.Prelude.{filter};
+ghost use Rattle.dns_message.specs.Canonical.{is_kept};
 ghost use Rattle.dns_canon.specs.Refusals.{RefusedOrMemory};
 ghost use Rattle.dns_canon.specs.Run.{Answers, ended, Prints, WritesText, TakesAtMost, Empties};
 ghost use Rattle.dns_canon.specs.Statuses.{canon_status, note_of};
@@ -15,7 +16,7 @@ ghost use Rattle.dns_canon.specs.declared.error.CanonError.{CanonError};
 
 use crate::lines::{LineBuffer, put_records};
 use crate::make::make_text;
-use crate::message::sorted_records;
+use crate::message::{in_order, read_records};
 use crate::spelling::{octets_of, parted};
 use crate::status::Status;
 use crate::transfer::{PIECE, put_line, put_text, read_text};
@@ -24,25 +25,25 @@ use dns_message::CanonicalRecord;
 use dns_wire::{Failed, Sink, Source};
 use std::alloc::Global;
 
-/// The records of the message of this number, in order.
+/// The records of the message of this number.
 pub(crate) fn records_of(
     alloc: Global,
     octets: &[u8],
     message: u8,
 ) -> Result<Vec<CanonicalRecord<'_>>, Status>
-    ensures ok { IfOk result (λ records. (rs : List Rec) × Valid octets.now rs × AreInOrder rs records.items) }
+    ensures ok { IfOk result (λ records. (rs : List Rec) × Valid octets.now rs × (records.items ≡ filter is_kept rs)) }
     ensures err { IfErr result (λ status. (error : CanonError) × RefusedOrMemory octets.now error × (status ≡ canon_status message error)) }
 {
-    match sorted_records(alloc, octets) {
+    match read_records(alloc, octets) {
         Ok(records) => Ok(records),
         Err(error) => Err(Status::of_message(message, error)),
     }
 }
 
 /// The word for the records of two messages in order, and LF. Both lists are walked side by side.
-fn sameness(records: &[CanonicalRecord<'_>], others: &[CanonicalRecord<'_>]) -> &'static [u8]
-    ensures same { (map sort_key records.now ≡ map sort_key others.now) → result.now ≡ codes "same" ++ 10 ∷ [] }
-    ensures different { ¬ (map sort_key records.now ≡ map sort_key others.now) → result.now ≡ codes "different" ++ 10 ∷ [] }
+fn sameness(records: &[&CanonicalRecord<'_>], others: &[&CanonicalRecord<'_>]) -> &'static [u8]
+    ensures same { (map (λ r. sort_key r.now) records.now ≡ map (λ r. sort_key r.now) others.now) → result.now ≡ codes "same" ++ 10 ∷ [] }
+    ensures different { ¬ (map (λ r. sort_key r.now) records.now ≡ map (λ r. sort_key r.now) others.now) → result.now ≡ codes "different" ++ 10 ∷ [] }
 {
     if records == others {
         b"same\n"
@@ -63,7 +64,9 @@ fn same_line(alloc: Global, text: &[u8]) -> Result<&'static [u8], Status>
     let second_message = octets_of(alloc, second)?;
     let first_records = records_of(alloc, &first_message, 0)?;
     let second_records = records_of(alloc, &second_message, 1)?;
-    Ok(sameness(&first_records, &second_records))
+    let first_order = in_order(alloc, &first_records)?;
+    let second_order = in_order(alloc, &second_records)?;
+    Ok(sameness(&first_order, &second_order))
 }
 
 /// What came of writing.
@@ -90,8 +93,9 @@ fn put_canon<K: Sink>(alloc: Global, text: &[u8], sink: &mut K) -> Result<(), St
 {
     let message = octets_of(alloc, text)?;
     let records = records_of(alloc, &message, 0)?;
+    let order = in_order(alloc, &records)?;
     let mut lines = LineBuffer::new(alloc)?;
-    written(put_records(sink, &records, &mut lines))
+    written(put_records(sink, &order, &mut lines))
 }
 
 /// Reads the text of the command, and writes what the command prints for it.

@@ -3,7 +3,6 @@
 ghost use Rattle.std.specs.Prelude.{◌≡◌};
 
 use dns_wire::Failed;
-use hex::FromHexError;
 use std::alloc::{AllocError, AllocFailed};
 
 /// Why a message has no canonical list.
@@ -73,15 +72,12 @@ pub(crate) enum SpellingError {
     Memory,
 }
 
-impl From<FromHexError> for SpellingError {
-    ghost use Rattle.dns_canon.specs.Errors.{spelling_error};
+impl From<AllocError> for SpellingError {
+    ghost use Rattle.dns_canon.specs.declared.error.SpellingError.TheVariants.{Memory};
 
-    ghost from_gives = { λ error e. e ≡ spelling_error error };
+    ghost from_gives = { λ _ e. e ≡ Memory };
 
-    fn from(error: FromHexError) -> SpellingError {
-        match error {
-            FromHexError::OutOfMemory => SpellingError::Memory,
-            _ => SpellingError::BadHex,
-        }
+    fn from(_error: AllocError) -> SpellingError {
+        SpellingError::Memory
     }
 }

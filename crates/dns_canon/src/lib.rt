@@ -3,6 +3,7 @@
 
 mod canonical;
 mod command;
+mod digit_pairs;
 mod error;
 mod laws;
 mod lines;

@@ -106,11 +106,11 @@ impl LineBuffer {
 /// Writes a line for each record, as many lines at once as the buffer holds, and sees to it that all of them arrive.
 pub(crate) fn put_records<K: Sink>(
     sink: &mut K,
-    records: &[CanonicalRecord<'_>],
+    records: &[&CanonicalRecord<'_>],
     buffer: &mut LineBuffer,
 ) -> Result<(), Failed>
     requires { buffer.old ≡ [] }
-    ensures puts { Puts (K.written sink.old) (K.written sink.new) (lines (map canon records.now)) result }
+    ensures puts { Puts (K.written sink.old) (K.written sink.new) (lines (map (λ r. canon r.now) records.now)) result }
     ensures flushed { OnOk result (BecomesFlag (K.is_flushed sink.old) (K.is_flushed sink.new) true) }
     ensures cause { HasCause (K.faults sink.old) (K.faults sink.new) result }
 {

@@ -1,6 +1,6 @@
-//! The records of a message, in order.
+//! The records of a message, and their order.
 
-ghost use Rattle.std.specs.Prelude.{◌≡◌, List, IfOk, IfErr, filter};
+ghost use Rattle.std.specs.Prelude.{◌≡◌, List, IfOk, IfErr, filter, map};
 ghost use Rattle.dns_canon.specs.Ordered.{AreInOrder};
 ghost use Rattle.dns_canon.specs.Refusals.{RefusedOrMemory};
 ghost use Rattle.dns_message.specs.Canonical.{is_kept};
@@ -8,14 +8,17 @@ ghost use Rattle.dns_message.specs.Messages.{Rec, Valid};
 
 use crate::error::CanonError;
 use dns_message::{CanonicalRecord, MessageParser};
-use std::alloc::Global;
+use std::alloc::{AllocError, Global};
 
 /// The fewest octets of a record: a root, and ten octets behind it (RFC 1035 section 3.2.1).
 const FEWEST_OCTETS: usize = 11;
 
 /// Reads a whole message, and keeps its records but those of type OPT, in the message's order. Their data are lent by the
 /// message, and memory is taken once, for as many as the header counts and the contents can hold.
-fn read_records(alloc: Global, message: &[u8]) -> Result<Vec<CanonicalRecord<'_>>, CanonError>
+pub(crate) fn read_records(
+    alloc: Global,
+    message: &[u8],
+) -> Result<Vec<CanonicalRecord<'_>>, CanonError>
     ensures read { IfOk result (λ records. (rs : List Rec) × Valid message.now rs × (records.items ≡ filter is_kept rs)) }
     ensures refused { IfErr result (RefusedOrMemory message.now) }
 {
@@ -40,15 +43,17 @@ fn read_records(alloc: Global, message: &[u8]) -> Result<Vec<CanonicalRecord<'_>
     Ok(records)
 }
 
-/// The records of a message but those of type OPT, in canonical order (RFC 4034 section 6).
-pub(crate) fn sorted_records(
+/// The records in canonical order (RFC 4034 section 6). They stay where they are, since each takes some hundred octets.
+pub(crate) fn in_order<'r, 'a>(
     alloc: Global,
-    message: &[u8],
-) -> Result<Vec<CanonicalRecord<'_>>, CanonError>
-    ensures sorted { IfOk result (λ records. (rs : List Rec) × Valid message.now rs × AreInOrder rs records.items) }
-    ensures refused { IfErr result (RefusedOrMemory message.now) }
+    records: &'r [CanonicalRecord<'a>],
+) -> Result<Vec<&'r CanonicalRecord<'a>>, AllocError>
+    ensures { IfOk result (λ order. AreInOrder records.now (map (λ r. r.now) order.items)) }
 {
-    let mut records = read_records(alloc, message)?;
-    records.sort_unstable();
-    Ok(records)
+    let mut order = Vec::with_capacity(alloc, records.len())?;
+    for found in records {
+        order.push(found)?;
+    }
+    order.sort_unstable();
+    Ok(order)
 }

@@ -4,6 +4,7 @@ ghost use Rattle.std.specs.Prelude.{◌≡◌, IfOk, IsErrOf};
 ghost use Rattle.dns_wire.specs.Hexadecimal.{Spells, SpellsNothing, trim, is_blank};
 ghost use Rattle.dns_canon.specs.Parts.{first_text, second_text};
 
+use crate::digit_pairs::put_octets;
 use crate::error::SpellingError;
 use std::alloc::Global;
 
@@ -48,6 +49,14 @@ pub(crate) fn octets_of(alloc: Global, text: &[u8]) -> Result<Vec<u8>, SpellingE
     ensures ok { IfOk result (λ octets. Spells text.now octets.items) }
     ensures bad_hex { IsErrOf result SpellingError.BadHex → SpellsNothing text.now }
 {
-    let octets = hex::decode(alloc, trimmed(text))?;
-    Ok(octets)
+    let digits = trimmed(text);
+    if digits.len() % 2 == 1 {
+        return Err(SpellingError::BadHex);
+    }
+    let mut octets = vec![in alloc; 0; digits.len() / 2]?;
+    if put_octets(digits, &mut octets) {
+        Ok(octets)
+    } else {
+        Err(SpellingError::BadHex)
+    }
 }

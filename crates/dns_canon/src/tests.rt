@@ -1,6 +1,8 @@
 //! The program's answers to known texts, also where a device fails in mid-stream.
 
 mod again;
+mod faults;
+mod hostile;
 mod make;
 mod messages;
 mod pairs;
@@ -261,63 +263,6 @@ fn keeps_its_limit(rt: HostRuntime) -> Result<(), Fail> {
         let answer = run(alloc, &words, &mut source, &mut NullSink, &mut notes);
         assert_eq!(rt; answer, status, "{count}");
         assert_eq!(rt; notes.written(), line.as_bytes(), "{count}");
-    }
-    Ok(())
-}
-
-/// Failing at each call in turn, until a run has too few calls to fail: reading the text in pieces of 40
-/// octets takes five calls, and the last one finds the end.
-#[test]
-fn answers_a_source_that_fails(rt: HostRuntime) -> Result<(), Fail> {
-    let alloc = rt.alloc();
-    let words = words_of(alloc, &["canon"])?;
-    for call in 0..6u64 {
-        let failing = [call];
-        let mut source = TextSource::new(ORDINARY_REPLY.as_bytes(), 40, &failing);
-        let (mut lines, mut line) = ([0u8; 200], [0u8; 100]);
-        let mut sink = TextSink::new(&mut lines, 64, &[]);
-        let mut notes = TextSink::new(&mut line, 64, &[]);
-        let status = run(alloc, &words, &mut source, &mut sink, &mut notes);
-        if call < 5 {
-            assert_eq!(rt; status, Status::ReadFault, "{call}");
-            assert!(rt; sink.written().is_empty(), "{call}");
-            assert_eq!(rt; notes.written(), b"read fault\n".as_slice(), "{call}");
-        } else {
-            assert_eq!(rt; status, Status::Done);
-            assert_eq!(rt; sink.written(), ORDINARY_REPLY_LINES.as_bytes());
-            assert!(rt; notes.written().is_empty());
-        }
-    }
-    Ok(())
-}
-
-/// Failing at each call in turn, until a run has too few calls to fail: writing 152 octets in pieces of
-/// eight takes nineteen calls, and the twentieth flushes.
-#[test]
-fn answers_a_sink_that_fails(rt: HostRuntime) -> Result<(), Fail> {
-    let alloc = rt.alloc();
-    let words = words_of(alloc, &["canon"])?;
-    for call in 0..21u64 {
-        let failing = [call];
-        let mut source = PlainSource::new(ORDINARY_REPLY.as_bytes());
-        let (mut lines, mut line) = ([0u8; 200], [0u8; 100]);
-        let mut sink = TextSink::new(&mut lines, 8, &failing);
-        let mut notes = TextSink::new(&mut line, 64, &[]);
-        let status = run(alloc, &words, &mut source, &mut sink, &mut notes);
-        let count = ORDINARY_REPLY_LINES.len().min(8 * call as usize);
-        assert_eq!(rt;
-            sink.written(),
-            &ORDINARY_REPLY_LINES.as_bytes()[..count],
-            "{call}"
-        );
-        if call < 20 {
-            assert_eq!(rt; status, Status::WriteFault, "{call}");
-            assert_eq!(rt; notes.written(), b"write fault\n".as_slice(), "{call}");
-        } else {
-            assert_eq!(rt; status, Status::Done);
-            assert!(rt; sink.flushed());
-            assert!(rt; notes.written().is_empty());
-        }
     }
     Ok(())
 }

@@ -1,5 +1,5 @@
-use Rattle.std.proofs.Common.{refl, sym, subst}
-use Rattle.dns_canon.specs.Ordered.{AreInOrder}
+use Rattle.std.proofs.Common.{refl, sym, map, ◌∙◌}
+use Rattle.dns_canon.proofs.Sorting.{kept_in_order, keys_lent}
 use Rattle.std.proofs.lemmas.Result.{err_from_is_err_and}
 use Rattle.dns_canon.specs.Parts.{first_text, second_text}
 use Rattle.dns_canon.specs.declared.status.Status.TheVariants.{Done}
@@ -33,7 +33,10 @@ returns-clause-ok c =
     c.deref.ensures.value c.deref-2.ensures.value c.in_ok-first_message.ensures.ok c.in_ok-second_message.ensures.ok in
     let valid = c.in_ok-first_records.ensures.ok in
     let also = c.in_ok-second_records.ensures.ok in
-    let sorted = subst (AreInOrder valid.0) (sym c.deref-3.ensures.value) valid.2 in
-    let sorted-too = subst (AreInOrder also.0) (sym c.deref-4.ensures.value) also.2 in
-    let word = told (first_text t) (second_text t) m n valid.0 also.0 c.deref-3.result.now c.deref-4.result.now c.sameness.result.now both.1 both.2 valid.1 also.1 sorted sorted-too c.sameness.ensures.same c.sameness.ensures.different in
+    let first = c.deref-5.result.now in
+    let second = c.deref-6.result.now in
+    let sorted = kept_in_order valid.0 _ c.deref-3.result.now _ first valid.2 c.deref-3.ensures.value c.in_ok-first_order.ensures c.deref-5.ensures.value in
+    let sorted-too = kept_in_order also.0 _ c.deref-4.result.now _ second also.2 c.deref-4.ensures.value c.in_ok-second_order.ensures c.deref-6.ensures.value in
+    let word = told (first_text t) (second_text t) m n valid.0 also.0 (map (λ r. r.now) first) (map (λ r. r.now) second) c.sameness.result.now both.1 both.2 valid.1 also.1 sorted sorted-too
+    (λ e. c.sameness.ensures.same (sym (keys_lent first) ∙ e ∙ keys_lent second)) (λ other. c.sameness.ensures.different (λ e. other (keys_lent first ∙ e ∙ sym (keys_lent second)))) in
     (called t Done (m, n, valid.0, also.0, both, valid.1, also.1), (m, n, valid.0, also.0, both.1, both.2, valid.1, also.1, word))
