@@ -3,6 +3,7 @@
 
 use dns_canon::{Status, Words, run};
 use dns_wire::{ReadSource, WriteSink};
+use std::io::Write;
 use std::process::ExitCode;
 use std::{env, io};
 
@@ -18,10 +19,14 @@ fn words_of(rt: &HostRuntime) -> io::Result<Words> {
     Ok(Words::new(words))
 }
 
-/// The code for an error with which the words could not be had.
-fn code_of(error: &io::Error) -> u8 {
+/// The code for an error with which the words could not be had. Want of memory is told as elsewhere, by a line that
+/// takes none; where that can't be written, the code stays.
+fn tell_no_words(rt: &HostRuntime, error: &io::Error) -> u8 {
     match error.kind() {
-        io::ErrorKind::OutOfMemory => Status::Memory.code(),
+        io::ErrorKind::OutOfMemory => {
+            let _told = rt.stderr().write_all(b"out of memory\n");
+            Status::Memory.code()
+        }
         _ => NO_WORDS,
     }
 }
@@ -29,7 +34,7 @@ fn code_of(error: &io::Error) -> u8 {
 fn main(rt: HostRuntime) -> ExitCode {
     let words = match words_of(&rt) {
         Ok(words) => words,
-        Err(error) => return ExitCode::from(code_of(&error)),
+        Err(error) => return ExitCode::from(tell_no_words(&rt, &error)),
     };
     let status = run(
         rt.alloc(),
