@@ -1,0 +1,56 @@
+"""What is given to the library and to the program, and what must come of it: from samples/, README.md and docs/FORMATS.md."""
+
+from pathlib import Path
+
+HERE = Path(__file__).resolve().parent
+ROOT = HERE.parent
+
+
+def text(name):
+    return (ROOT / "samples" / f"{name}.hex").read_bytes()
+
+
+def message(name):
+    return bytes.fromhex(text(name).decode())
+
+
+def lines(name):
+    return (ROOT / "samples" / f"{name}.lines").read_bytes()
+
+
+def data_of(line):
+    """The digits of the data in the line of a record: they stand behind the owner and ten octets."""
+    octets = bytes.fromhex(line.decode())
+    end = 0
+    while octets[end]:
+        end += 1 + octets[end]
+    return octets[end + 11 :].hex().encode()
+
+
+# README.md says that these two messages carry the same records.
+TWO_ALIKE = text("edns-resolver-alias") + text("edns-resolver-alias-with-cookie")
+
+# What docs/FORMATS.md says of 1 and 4 generated records, and README.md of 1,000. The message of one has a header of 12 octets
+# and its record of 29.
+MADE_1 = b"records 1 octets 29 message 41\n"
+MADE_4 = b"records 4 octets 135 message 112\n"
+MADE_1000 = b"records 1000 octets 35113 message 19257\n"
+
+
+# A thousand equal records, and their lines.
+RECORD_ALIKE = b"016100000100010000003c0004c0000201"
+THOUSAND_ALIKE = b"12348180000003e800000000" + 1000 * RECORD_ALIKE
+THOUSAND_LINES = 1000 * (RECORD_ALIKE + b"\n")
+
+
+def long_message():
+    """The text of a message of 600 addresses whose owners are one name of 255 octets, and its lines, as docs/FORMATS.md tells
+    them. They are more octets than the program writes at once, and than a pipe holds."""
+    owner = b"".join(bytes([size]) + b"a" * size for size in (63, 63, 63, 61)) + b"\0"
+    behind = bytes.fromhex("0001 0001 0000003c 0004")
+    addresses = [bytes([192, 0, number // 256, number % 256]) for number in range(600)]
+    header = bytes.fromhex("0000 8400 0000 0258 0000 0000")
+    # The first record has the owner in full, and the others a pointer to octet 12.
+    records = owner + behind + addresses[0] + b"".join(b"\xc0\x0c" + behind + address for address in addresses[1:])
+    lines = b"".join((owner + behind + address).hex().encode() + b"\n" for address in addresses)
+    return (header + records).hex().encode(), lines
