@@ -97,6 +97,16 @@ def chain():
     return message("a.example", [record(pointer(12), 65280, steps)] + [record(last, 1, struct.pack(">I", i)) for i in range(100)])
 
 
+def full_of_chains():
+    """The longest chain of pointers that can be reached, and as many NS records as 64 KB hold, whose owners and servers lead to its
+    end: what takes the most steps for its size."""
+    steps = b"".join(pointer(23 + (2 * i - 1 if i else 0)) for i in range(8180))
+    end = pointer(24 + 2 * 8179)
+    chain = record(b"\0", 65280, b"\0" + steps)
+    records = [chain] + [record(end, 2, end)] * ((65535 - 12 - len(chain)) // 14)
+    return struct.pack(">6H", 0x1234, 0x8180, 0, len(records), 0, 0) + b"".join(records)
+
+
 def main():
     folder = Path(sys.argv[1])
     folder.mkdir(parents=True, exist_ok=True)
@@ -108,6 +118,7 @@ def main():
         "long-suffix": long_suffix(),
         "signed-zone": signed_zone(),
         "chain": chain(),
+        "full-of-chains": full_of_chains(),
     }
     for title, octets in made.items():
         (folder / f"{title}.hex").write_text(octets.hex() + "\n")
