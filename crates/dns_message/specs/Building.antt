@@ -35,16 +35,24 @@ section_number Additional = 3
 abbrev pub count_in : ℕ → List ℕ → ℕ
 count_in section header = slice_index (counts_of header) section
 
+-- one of the counts is above 0
+abbrev pub has_items : List ℕ → Bool
+has_items counts = list_any (λ count. nat_lt 0 count) counts
+
 -- a section behind this one has an item
 abbrev pub has_later : ℕ → List ℕ → Bool
-has_later section header = list_any (λ count. nat_lt 0 count) (drop (section + 1) (counts_of header))
+has_later section header = has_items (drop (section + 1) (counts_of header))
 
--- how many items a section has with one more, or why it can have no more
+-- how many items a section has with one more, of these counts, or why it can have no more
+abbrev pub count_after : ℕ → List ℕ → Result ℕ MessageBuildError
+count_after section counts =
+    if has_items (drop (section + 1) counts) then Err Misplaced
+    else if slice_index counts section == 65535 then Err TooMany
+    else Ok (slice_index counts section + 1)
+
+-- the same of a header
 abbrev pub next_count : ℕ → List ℕ → Result ℕ MessageBuildError
-next_count section header =
-    if has_later section header then Err Misplaced
-    else if count_in section header == 65535 then Err TooMany
-    else Ok (count_in section header + 1)
+next_count section header = count_after section (counts_of header)
 
 -- the header with another count of a section, whose two octets stand behind id, flags and the counts of those before it
 abbrev pub with_count : ℕ → ℕ → List ℕ → List ℕ

@@ -8,7 +8,7 @@ ghost use Rattle.dns_wire.specs.Pieces.{whole_presses};
 ghost use Rattle.dns_rdata.specs.Edns.{edns_octets};
 ghost use Rattle.dns_message.specs.Headers.{header_bits};
 ghost use Rattle.dns_message.specs.Messages.{counts_of};
-ghost use Rattle.dns_message.specs.Building.{Draft, drafted, section_number, question_pressed, record_pressed, record_fits_in, count_in, has_later, next_count, with_count, pushed, PushAnswers};
+ghost use Rattle.dns_message.specs.Building.{Draft, drafted, section_number, question_pressed, record_pressed, record_fits_in, count_in, has_items, has_later, count_after, next_count, with_count, pushed, PushAnswers};
 
 use crate::build_error::MessageBuildError;
 use crate::header::HeaderFlags;
@@ -192,13 +192,7 @@ impl<'b> MessageBuilder<'b> {
     fn counts(&self) -> [u16; 4]
         ensures { result ≡ counts_of self.now.header }
     {
-        let counts = self.message().header().counts;
-        [
-            counts.questions.get(),
-            counts.answers.get(),
-            counts.authorities.get(),
-            counts.additional.get(),
-        ]
+        counts_in(&self.message())
     }
 
     /// How many items the section has with one more.
@@ -206,15 +200,43 @@ impl<'b> MessageBuilder<'b> {
         requires { section < 4 }
         ensures { result ≡ next_count section self.now.header }
     {
-        let counts = self.counts();
-        if counts[section + 1..].iter().any(|count| *count > 0) {
-            return Err(MessageBuildError::Misplaced);
-        }
-        match counts[section] {
-            u16::MAX => Err(MessageBuildError::TooMany),
-            count => Ok(count + 1),
-        }
+        count_after(self.counts(), section)
     }
+}
+
+/// How many items each section of the message has.
+fn counts_in(message: &Message<'_>) -> [u16; 4]
+    ensures { result ≡ counts_of message.now.slice.now }
+{
+    let counts = message.header().counts;
+    [
+        counts.questions.get(),
+        counts.answers.get(),
+        counts.authorities.get(),
+        counts.additional.get(),
+    ]
+}
+
+/// How many items the section has with one more, of these counts.
+fn count_after(counts: [u16; 4], section: usize) -> Result<u16, MessageBuildError>
+    requires { section < 4 }
+    ensures { result ≡ count_after section counts }
+{
+    let count = counts[section];
+    if has_items(&counts[section + 1..]) {
+        Err(MessageBuildError::Misplaced)
+    } else if count == u16::MAX {
+        Err(MessageBuildError::TooMany)
+    } else {
+        Ok(count + 1)
+    }
+}
+
+/// Whether one of the counts is above 0.
+fn has_items(counts: &[u16]) -> bool
+    ensures { result ≡ has_items counts.now }
+{
+    counts.iter().any(|count| *count > 0)
 }
 
 /// Puts a header without items in front.

@@ -2,8 +2,11 @@
 
 ghost use Rattle.std.specs.Prelude.{◌≡◌, ◌↔◌, ◌≤◌, length, drop, IfOk, IsTrue};
 ghost use Rattle.dns_wire.specs.Reading.{Gives};
+ghost use Rattle.dns_wire.specs.Pointers.{name_at};
+ghost use Rattle.dns_record.specs.Data.{data_in};
+ghost use Rattle.dns_record.specs.Records.{record_in};
 ghost use Rattle.dns_message.specs.Messages.{item_at};
-ghost use Rattle.dns_message.specs.Seen.{BeginsEdns, item_seen, HasSoundData, IsOfSection};
+ghost use Rattle.dns_message.specs.Seen.{AreSound, BeginsEdns, item_seen, record_told, HasSoundData, IsOfSection};
 
 use dns_edns::Opt;
 use dns_name::{NameBuf, RevNameBuf};
@@ -27,6 +30,9 @@ pub enum MessageItem<N, D, E> {
     Edns(EdnsRecord<E>),
 }
 
+/// A record that was read, as the items below have it.
+type ParsedRecord<'a> = Record<RevNameBuf, RecordData<'a, NameBuf>>;
+
 /// An item that was read, with names of its own: its data are lent by the message, and its owner is kept from the root on, as
 /// owners are compared.
 pub type ParsedMessageItem<'a> = MessageItem<RevNameBuf, RecordData<'a, NameBuf>, Opt<'a>>;
@@ -38,8 +44,18 @@ fn begins_edns(octets: &[u8]) -> bool
     octets.starts_with(&[0, 0, 41])
 }
 
+/// Reads the record at a place, and gives the place where it ends.
+#[tactic(auto, using(crate::proofs::Sound::short_data))]
+fn read_record(contents: &[u8], start: usize) -> Result<(ParsedRecord<'_>, usize), ParseError>
+    ensures exact { Gives (λ x. (record_told x.0, x.1)) result (record_in name_at (data_in name_at) contents.now start) }
+    ensures within { IfOk result (λ x. (start ≤ x.1) × (x.1 ≤ length contents.now)) }
+    ensures sound { IfOk result (λ x. AreSound x.0) }
+{
+    Record::split_message_bytes(contents, start)
+}
+
 /// Reads the additional item at a place, and gives the place where it ends.
-#[tactic(auto, using(crate::proofs::Sound::short_data), unfolding(crate::specs::Messages::item_at))]
+#[tactic(auto, unfolding(crate::specs::Messages::item_at))]
 fn read_additional(
     contents: &[u8],
     start: usize,
@@ -49,9 +65,7 @@ fn read_additional(
     ensures sound { IfOk result (λ x. HasSoundData x.0) }
     ensures kind { IfOk result (λ x. IsOfSection 3 (drop start contents.now) x.0) }
 {
-    let (form, end) = Record::<RevNameBuf, RecordData<'_, NameBuf>>::split_message_bytes(
-        contents, start,
-    )?;
+    let (form, end) = read_record(contents, start)?;
     if begins_edns(&contents[start..]) {
         let edns = EdnsRecord::try_from(form)?;
         Ok((MessageItem::Edns(edns), end))
@@ -62,7 +76,7 @@ fn read_additional(
 
 /// Reads the item of a section at a place, and gives the place where it ends. Section 0 has the questions, and the later ones
 /// have records. `ParseError` comes exactly where no such item stands there.
-#[tactic(auto, using(crate::proofs::Sound::short_data), unfolding(crate::specs::Messages::item_at))]
+#[tactic(auto, unfolding(crate::specs::Messages::item_at))]
 pub(crate) fn read_item(
     contents: &[u8],
     section: usize,
@@ -80,11 +94,11 @@ pub(crate) fn read_item(
             Ok((MessageItem::Question(question), end))
         }
         1 => {
-            let (answer, end) = Record::split_message_bytes(contents, start)?;
+            let (answer, end) = read_record(contents, start)?;
             Ok((MessageItem::Answer(answer), end))
         }
         2 => {
-            let (authority, end) = Record::split_message_bytes(contents, start)?;
+            let (authority, end) = read_record(contents, start)?;
             Ok((MessageItem::Authority(authority), end))
         }
         _ => read_additional(contents, start),

@@ -1,21 +1,26 @@
 -- Data in which no name may have pointers are the same whatever the names of other data are seen as.
-use Rattle.std.proofs.Common.{◌≡◌, ℕ, Bool, true, false, cond, ltb, List, [], ◌∷◌, length, drop, ◌-◌, Option, Some, None, refl, ap, ◌∙◌}
-use Rattle.std.specs.Prelude.{map, option_map, unwrap_or, is_some, ◌==◌}
+use Rattle.std.proofs.Common.{◌≡◌, ℕ, ◌<◌, ◌≤◌, Bool, true, false, cond, ltb, List, [], ◌∷◌, length, drop, ◌-◌, Option, Some, None, Result, Ok, Err, refl, sym, ap, ◌∙◌}
+use Rattle.std.specs.Prelude.{map, option_map, unwrap_or, is_some, ◌==◌, ◌&&◌, ◌||◌, MatchResult, IsOkAnd, IfOk}
 use Rattle.std.specs.Cmp.{first_so, second_so}
+use Rattle.std.proofs.lemmas.Bool.{eqb-true, lt-ltb}
+use Rattle.dns_wire.proofs.AtPlaces.{all_from}
 use Rattle.dns_wire.specs.Names.{plain_name}
-use Rattle.dns_wire.specs.Reading.{LeavesRest, octet, octets, number, plain_at, all_of, all_at, with_end}
+use Rattle.dns_wire.specs.Reading.{Gives, LeavesRest, octet, octets, number, plain_at, all_of, all_at, with_end}
 use Rattle.dns_wire.specs.Steps.{◌>>=◌, first_to}
 use Rattle.dns_record.specs.Data.{data_as, data_in}
-use Rattle.dns_record.specs.Fields.{Field, FieldOf}
-use Rattle.dns_record.specs.Fields.FieldOf.{Bare, Raw, Sized, Byte, Number}
-use Rattle.dns_record.specs.Kinds.{Kind, field_of, fields_of, no_name}
+use Rattle.dns_record.specs.Fields.{Field, FieldOf, named_by}
+use Rattle.dns_record.specs.Fields.FieldOf.{Named, Bare, Raw, Sized, Byte, Number}
+use Rattle.dns_record.specs.Kinds.{Kind, field_of, fields_of, fields_in, no_name}
 use Rattle.dns_record.specs.Kinds.Kind.{OneByte, OneNumber, SoMany, Pointed, Plain, Text, Texts, Options, Windows, SomeWindows, Rest}
+use Rattle.dns_record.specs.Left.{bare_leave}
 use Rattle.dns_record.specs.Options.{options}
 use Rattle.dns_record.specs.Rows.{row, rows, row_under, row_unknown, has_row}
 use Rattle.dns_record.specs.Texts.{text, texts}
 use Rattle.dns_record.specs.Windows.{bitmap, some_bitmap}
 use Rattle.dns_record.proofs.Bare.{is_bare, all_bare, is_bare_row, all_placed}
-use Rattle.dns_rdata.specs.Data.{as_plain}
+use Rattle.dns_rdata.specs.Data.{as_plain, data_fields, IsDataOf}
+use Rattle.dns_rdata.specs.Plain.{is_plain_type, no_pointed, ReadsPlain}
+use Rattle.dns_rdata.specs.declared.record_data.RecordData.{RecordData}
 
 -- ---- kinds that have no name with pointers
 
@@ -100,6 +105,79 @@ data_placed {N} place number rtype contents at is bare =
     ∙ all_at_plain (map as_plain) contents (ltb (length contents) at) (fields_of no_name (row number) (drop at contents))
     )
 
+-- where no name with pointers is among the kinds, they are read of octets whatever such names are seen as
+pub seen_plain : {N S : Type 0} (seen : N → S) (name : List ℕ → Option (S × List ℕ)) (rtype : ℕ) (bytes : List ℕ) → is_plain_type rtype ≡ true
+    → data_as name rtype bytes ≡ option_map (map (named_by seen)) (data_as {N = N} no_pointed rtype bytes)
+unfolding is_plain_type
+seen_plain {N} {S} seen name rtype bytes plain =
+    data_plain name rtype rtype bytes refl plain
+    ∙ sym (ap (option_map (map (named_by seen))) (data_plain {N = N} no_pointed rtype rtype bytes refl plain) ∙ same (all_of (fields_of no_name (row rtype) bytes)))
+  where
+    each : (fields : List Field) → map (named_by seen) (map as_plain fields) ≡ map as_plain fields
+    each [] = refl
+    each (Named labels ∷ fields) = ap (λ (l : List (FieldOf S)). Bare labels ∷ l) (each fields)
+    each (Bare labels ∷ fields) = ap (λ (l : List (FieldOf S)). Bare labels ∷ l) (each fields)
+    each (Raw octets ∷ fields) = ap (λ (l : List (FieldOf S)). Raw octets ∷ l) (each fields)
+    each (Sized octets ∷ fields) = ap (λ (l : List (FieldOf S)). Sized octets ∷ l) (each fields)
+    each (Byte b ∷ fields) = ap (λ (l : List (FieldOf S)). Byte b ∷ l) (each fields)
+    each (Number w n ∷ fields) = ap (λ (l : List (FieldOf S)). Number w n ∷ l) (each fields)
+
+    same : (read : Option (List Field)) → option_map (map (named_by seen)) (option_map (map as_plain) read) ≡ option_map (map as_plain) read
+    same None = refl
+    same (Some fields) = ap Some (each fields)
+
+-- and in a message of the octets from their place on
+pub seen_placed : {N : Type 0} (place : List ℕ → ℕ → Option (N × ℕ)) (name : List ℕ → Option (N × List ℕ)) (rtype : ℕ) (contents : List ℕ) (at : ℕ) → is_plain_type rtype ≡ true → at ≤ length contents
+    → data_in place rtype contents at ≡ data_as name rtype (drop at contents)
+unfolding is_plain_type
+seen_placed place name rtype contents at plain within =
+    data_placed place rtype rtype contents at refl plain
+    ∙ ap (option_map (map as_plain)) (all_from (fields_of no_name (row rtype)) contents at (bare_leave (row rtype)) within)
+    ∙ sym (data_plain name rtype rtype (drop at contents) refl plain)
+
+-- behind the end there are none
+pub none_placed : {N : Type 0} (place : List ℕ → ℕ → Option (N × ℕ)) (rtype : ℕ) (contents : List ℕ) (at : ℕ) → is_plain_type rtype ≡ true → length contents < at → data_in place rtype contents at ≡ None
+unfolding is_plain_type
+none_placed place rtype contents at plain behind =
+    let past : ltb (length contents) at ≡ true = lt-ltb _ _ behind in
+    data_placed place rtype rtype contents at refl plain ∙ rw past refl
+
+-- ---- types by their numbers
+
+-- the types with names that pointers may lead through: NS, CNAME, SOA, PTR, MX and RP
+abbrev is_named_type : ℕ → Bool
+is_named_type n = n == 2 || n == 5 || n == 6 || n == 12 || n == 15 || n == 17
+
+abbrev all_rows_so : List (ℕ × List Kind) → Bool
+all_rows_so [] = true
+all_rows_so (first ∷ others) = (is_named_type first.0 || is_bare_row first.1) && all_rows_so others
+
+bare_unless : (b : Bool) (kinds : List Kind) → b ≡ false → (b || is_bare_row kinds) ≡ true → is_bare_row kinds ≡ true
+bare_unless true kinds not so = absurd cc
+bare_unless false kinds not so = so
+
+found_bare : (table : List (ℕ × List Kind)) (n : ℕ) → all_rows_so table ≡ true → is_named_type n ≡ false → is_bare_row (unwrap_or (row_under table n) row_unknown) ≡ true
+found_bare [] n all other = refl
+found_bare (first ∷ others) n all other = by (n == first.0) refl (found_bare others n (second_so _ _ all) other) where
+  by : (b : Bool) → (n == first.0) ≡ b → is_bare_row (unwrap_or (row_under others n) row_unknown) ≡ true → is_bare_row (unwrap_or (cond b (Some first.1) (row_under others n)) row_unknown) ≡ true
+  by true is later = bare_unless (is_named_type first.0) first.1 (ap is_named_type (sym (eqb-true n first.0 is)) ∙ other) (first_so _ _ all)
+  by false is later = later
+
+pub plain_unless_named : (n : ℕ) → is_named_type n ≡ false → is_plain_type n ≡ true
+unfolding is_plain_type
+plain_unless_named n other = found_bare rows n refl other
+
+-- a plain type is none of those
+pub plain_is_not : (n named : ℕ) → is_plain_type n ≡ true → is_plain_type named ≡ false → (n == named) ≡ false
+plain_is_not n named plain not = by (n == named) refl where
+  by : (b : Bool) → (n == named) ≡ b → b ≡ false
+  by false is = refl
+  by true is = let both : is_plain_type n ≡ false = ap is_plain_type (eqb-true n named is) ∙ not in absurd cc
+
+pub named_types : (is_plain_type 2 ≡ false) × (is_plain_type 5 ≡ false) × (is_plain_type 6 ≡ false) × (is_plain_type 12 ≡ false) × (is_plain_type 15 ≡ false) × (is_plain_type 17 ≡ false)
+unfolding is_plain_type
+named_types = (refl, refl, refl, refl, refl, refl)
+
 -- ---- types without a row
 
 no_row : (rtype : ℕ) → has_row rtype ≡ false → row rtype ≡ row_unknown
@@ -111,3 +189,41 @@ no_row rtype none = by (row_under rows rtype) none where
 pub unknown_read : {N : Type 0} (name : List ℕ → Option (N × List ℕ)) (rtype : ℕ) (bytes : List ℕ) → has_row rtype ≡ false → data_as name rtype bytes ≡ Some (Raw bytes ∷ [])
 unfolding data_as
 unknown_read name rtype bytes none = rw (no_row rtype none) refl
+
+-- ---- what was read as data of one type, as data of any type
+
+pub plain_made : {N X E : Type 0} (make : X → RecordData N) (fields : X → List Field) (number rtype : ℕ) (bytes : List ℕ) (read : Result X E) (made : Result (RecordData N) E) → rtype ≡ number → is_bare_row (row number) ≡ true
+    → ((v : X) → (data_fields (make v) ≡ map as_plain (fields v)) × IsDataOf (make v) number)
+    → Gives fields read (all_of (fields_of no_name (row number) bytes)) → MatchResult read (λ v. IsOkAnd made (λ w. w ≡ make v)) (λ e. made ≡ Err e) → ReadsPlain made rtype bytes
+plain_made make fields number rtype bytes (Ok v) (Ok w) is bare so gives by = (
+  data_plain no_pointed number rtype bytes is bare ∙ ap (option_map (map as_plain)) gives ∙ ap Some (sym (so v).0 ∙ sym (ap data_fields by)),
+  rw (by, is) (so v).1,
+)
+plain_made make fields number rtype bytes (Ok v) (Err e) is bare so gives by = absurd by
+plain_made make fields number rtype bytes (Err e) made is bare so gives by =
+    rw by (data_plain no_pointed number rtype bytes is bare ∙ ap (option_map (map as_plain)) gives)
+
+-- the clauses of reading
+abbrev IsRead : {N S E : Type 0} → (N → S) → Result (RecordData N) E → ℕ → Option (List (FieldOf S)) → Type 0
+IsRead seen made rtype found = Gives (λ v. map (named_by seen) (data_fields v)) made found × IfOk made (λ v. IsDataOf v rtype)
+
+pub named_made : {N S X E : Type 0} (seen : N → S) (make : X → RecordData N) (fields : X → List (FieldOf N)) (number rtype : ℕ) (reads : ℕ → Option (List (FieldOf S))) (found : Option (List (FieldOf S))) (read : Result X E) (made : Result (RecordData N) E) → rtype ≡ number → reads number ≡ found
+    → ((v : X) → (data_fields (make v) ≡ fields v) × IsDataOf (make v) number)
+    → Gives (λ v. map (named_by seen) (fields v)) read found → MatchResult read (λ v. IsOkAnd made (λ w. w ≡ make v)) (λ e. made ≡ Err e) → IsRead seen made rtype (reads rtype)
+named_made {N} seen make fields number rtype reads found (Ok v) (Ok w) is same so gives by =
+    rw (is, by) (same ∙ gives ∙ ap (λ (fs : List (FieldOf N)). Some (map (named_by seen) fs)) (sym (so v).0), (so v).1)
+named_made seen make fields number rtype reads found (Ok v) (Err e) is same so gives by = absurd by
+named_made seen make fields number rtype reads found (Err e) made is same so gives by = rw (is, by) (same ∙ gives, tt)
+
+pub plain_read : {N S E : Type 0} (seen : N → S) (name : List ℕ → Option (S × List ℕ)) (rtype : ℕ) (bytes : List ℕ) (made : Result (RecordData N) E) → is_plain_type rtype ≡ true → ReadsPlain made rtype bytes → IsRead seen made rtype (data_as name rtype bytes)
+plain_read seen name rtype bytes (Ok v) plain reads = (seen_plain seen name rtype bytes plain ∙ ap (option_map (map (named_by seen))) reads.0, reads.1)
+plain_read seen name rtype bytes (Err e) plain reads = (seen_plain seen name rtype bytes plain ∙ ap (option_map (map (named_by seen))) reads, tt)
+
+-- data with names are read by their row as it stands
+pub named_read : {N : Type 0} (name : List ℕ → Option (N × List ℕ)) (number : ℕ) (bytes : List ℕ) → data_as name number bytes ≡ all_of (fields_of name (row number) bytes)
+unfolding data_as
+named_read name number bytes = refl
+
+pub named_placed : {N : Type 0} (place : List ℕ → ℕ → Option (N × ℕ)) (number : ℕ) (contents : List ℕ) (at : ℕ) → data_in place number contents at ≡ all_at contents (fields_in place (row number) contents at)
+unfolding data_in
+named_placed place number contents at = refl

@@ -7,6 +7,7 @@ pub mod EdnsForms
 pub mod EdnsLeft
 pub mod Kept
 pub mod Mapping
+pub mod Plain
 pub mod Sameness
 pub mod Shapes
 pub mod Spelled

@@ -1,6 +1,6 @@
 -- What a function makes of the names in data. It is called on them in the order of the fields, and each call may leave it in
 -- another state.
-use Rattle.std.specs.Prelude.{◌≡◌, ⊤}
+use Rattle.std.specs.Prelude.{◌≡◌, ⊤, Option, Some, None}
 use Rattle.dns_rdata.specs.declared.record_data.RecordData.{RecordData}
 use Rattle.dns_rdata.specs.declared.record_data.RecordData.TheVariants.{A, Ns, CName, Soa, Ptr, HInfo, Mx, Txt, Rp, Srv, Aaaa, DName, Opt, Ds, Rrsig, Nsec, DNSKey, Nsec3, Nsec3Param, ZoneMD, Unknown}
 
@@ -46,3 +46,22 @@ HoldsGiven calls f (Nsec3 v) result = result ≡ Nsec3 v
 HoldsGiven calls f (Nsec3Param v) result = result ≡ Nsec3Param v
 HoldsGiven calls f (ZoneMD v) result = result ≡ ZoneMD v
 HoldsGiven calls f (Unknown rtype v) result = result ≡ Unknown rtype v
+
+-- data without names that pointers may lead through, as data with names of another type
+abbrev pub without_names : {N R : Type 0} → RecordData N → Option (RecordData R)
+without_names (A v) = Some (A v)
+without_names (HInfo v) = Some (HInfo v)
+without_names (Txt v) = Some (Txt v)
+without_names (Srv v) = Some (Srv v)
+without_names (Aaaa v) = Some (Aaaa v)
+without_names (DName v) = Some (DName v)
+without_names (Opt v) = Some (Opt v)
+without_names (Ds v) = Some (Ds v)
+without_names (Rrsig v) = Some (Rrsig v)
+without_names (Nsec v) = Some (Nsec v)
+without_names (DNSKey v) = Some (DNSKey v)
+without_names (Nsec3 v) = Some (Nsec3 v)
+without_names (Nsec3Param v) = Some (Nsec3Param v)
+without_names (ZoneMD v) = Some (ZoneMD v)
+without_names (Unknown rtype v) = Some (Unknown rtype v)
+without_names v = None

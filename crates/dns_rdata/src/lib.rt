@@ -7,6 +7,7 @@ mod edns_conversion;
 mod edns_laws;
 mod edns_record;
 mod laws;
+mod plain_data;
 mod record_data;
 mod typed_record;
 mod unknown;
@@ -22,6 +23,3 @@ pub use laws::{
 pub use record_data::RecordData;
 pub use typed_record::{old_new, old_new_box};
 pub use unknown::UnknownRecordData;
-
-#[cfg(test)]
-mod tests;

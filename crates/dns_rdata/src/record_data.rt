@@ -13,9 +13,10 @@ ghost use Rattle.dns_rdata.specs.Written.{as_many};
 ghost use Rattle.dns_record.specs.Rows.{has_row};
 ghost use Rattle.dns_record.specs.Told.{told_fields};
 ghost use Rattle.std.specs.Fn.{CalledAt, TakesAt};
-ghost use Rattle.dns_rdata.specs.Mapping.{TakesNames, HoldsGiven};
+ghost use Rattle.dns_rdata.specs.Mapping.{TakesNames, HoldsGiven, without_names};
 ghost use Rattle.dns_rdata.specs.Data.{data_fields, type_number, IsProper, IsDataOf, NamesFit, written_fields};
 
+use crate::plain_data::{as_data, read_plain};
 use crate::unknown::UnknownRecordData;
 use dns_basic::{CName, Mx, Ns, Ptr, Rp, Soa};
 use dns_edns::Opt;
@@ -28,6 +29,7 @@ use dns_wire::{
     BuildBytes, BuildInMessage, NameCompressor, ParseBytes, ParseError, ParseMessageBytes,
     ParseName, SplitMessageBytes, TruncationError,
 };
+use std::alloc::AllocError;
 use std::cmp::Ordering;
 
 /// Whether the type has a row of its own.
@@ -60,7 +62,7 @@ fn has_row(rtype: RType) -> bool
 }
 
 /// Record data, by their type. `N` is the type of the names that in a message may have pointers.
-#[derive(Clone, Debug, PartialEq, Eq, Hash, Drop)]
+#[derive(Debug, PartialEq, Eq, Hash, Drop)]
 pub enum RecordData<'a, N> {
     /// An address (RFC 1035 section 3.4.1).
     A(A),
@@ -106,6 +108,25 @@ pub enum RecordData<'a, N> {
     Unknown(RType, UnknownRecordData<'a>),
 }
 
+/// Names as their type clones them, and all else as it is.
+impl<N: Clone> Clone for RecordData<'_, N> {
+    ghost is_clone = { HoldsGiven (λ _ name given _. N.is_clone name given) (tt {0}) };
+
+    ghost is_infallible = { NamesFit N.is_infallible };
+
+    fn clone(&self) -> Result<Self, AllocError> {
+        match self {
+            RecordData::Ns(v) => Ok(RecordData::Ns(v.clone()?)),
+            RecordData::CName(v) => Ok(RecordData::CName(v.clone()?)),
+            RecordData::Soa(v) => Ok(RecordData::Soa(v.clone()?)),
+            RecordData::Ptr(v) => Ok(RecordData::Ptr(v.clone()?)),
+            RecordData::Mx(v) => Ok(RecordData::Mx(v.clone()?)),
+            RecordData::Rp(v) => Ok(RecordData::Rp(v.clone()?)),
+            plain => Ok(plain.without_names().unwrap()),
+        }
+    }
+}
+
 impl<'a, N> RecordData<'a, N> {
     /// The type of the data.
     pub fn rtype(&self) -> RType
@@ -146,6 +167,30 @@ impl<'a, N> RecordData<'a, N> {
         }
     }
 
+    /// The data as data with names of another type, where they have none that pointers may lead through.
+    fn without_names<R>(&self) -> Option<RecordData<'a, R>>
+        ensures { result ≡ without_names self.now }
+    {
+        match self {
+            RecordData::A(v) => Some(RecordData::A(*v)),
+            RecordData::HInfo(v) => Some(RecordData::HInfo(*v)),
+            RecordData::Txt(v) => Some(RecordData::Txt(*v)),
+            RecordData::Srv(v) => Some(RecordData::Srv(*v)),
+            RecordData::Aaaa(v) => Some(RecordData::Aaaa(*v)),
+            RecordData::DName(v) => Some(RecordData::DName(*v)),
+            RecordData::Opt(v) => Some(RecordData::Opt(*v)),
+            RecordData::Ds(v) => Some(RecordData::Ds(*v)),
+            RecordData::Rrsig(v) => Some(RecordData::Rrsig(*v)),
+            RecordData::Nsec(v) => Some(RecordData::Nsec(*v)),
+            RecordData::DNSKey(v) => Some(RecordData::DNSKey(*v)),
+            RecordData::Nsec3(v) => Some(RecordData::Nsec3(*v)),
+            RecordData::Nsec3Param(v) => Some(RecordData::Nsec3Param(*v)),
+            RecordData::ZoneMD(v) => Some(RecordData::ZoneMD(*v)),
+            RecordData::Unknown(rtype, v) => Some(RecordData::Unknown(*rtype, *v)),
+            _ => None,
+        }
+    }
+
     /// The data with what the function makes of their names, called on them in the order of the fields.
     pub fn map_names<R, F: FnMut(N) -> R>(self, f: F) -> RecordData<'a, R>
         requires { TakesNames F.pre F.step f self }
@@ -182,27 +227,13 @@ impl<'a, N> RecordData<'a, N> {
         ensures { HoldsGiven (CalledAt F.FnMut) f self.now result }
     {
         match self {
-            RecordData::A(v) => RecordData::A(*v),
             RecordData::Ns(v) => RecordData::Ns(v.map_name_by_ref(f)),
             RecordData::CName(v) => RecordData::CName(v.map_name_by_ref(f)),
             RecordData::Soa(v) => RecordData::Soa(v.map_names_by_ref(f)),
             RecordData::Ptr(v) => RecordData::Ptr(v.map_name_by_ref(f)),
-            RecordData::HInfo(v) => RecordData::HInfo(*v),
             RecordData::Mx(v) => RecordData::Mx(v.map_name_by_ref(f)),
-            RecordData::Txt(v) => RecordData::Txt(*v),
             RecordData::Rp(v) => RecordData::Rp(v.map_names_by_ref(f)),
-            RecordData::Srv(v) => RecordData::Srv(*v),
-            RecordData::Aaaa(v) => RecordData::Aaaa(*v),
-            RecordData::DName(v) => RecordData::DName(*v),
-            RecordData::Opt(v) => RecordData::Opt(*v),
-            RecordData::Ds(v) => RecordData::Ds(*v),
-            RecordData::Rrsig(v) => RecordData::Rrsig(*v),
-            RecordData::Nsec(v) => RecordData::Nsec(*v),
-            RecordData::DNSKey(v) => RecordData::DNSKey(*v),
-            RecordData::Nsec3(v) => RecordData::Nsec3(*v),
-            RecordData::Nsec3Param(v) => RecordData::Nsec3Param(*v),
-            RecordData::ZoneMD(v) => RecordData::ZoneMD(*v),
-            RecordData::Unknown(rtype, v) => RecordData::Unknown(*rtype, *v),
+            plain => plain.without_names().unwrap(),
         }
     }
 }
@@ -218,71 +249,37 @@ impl<'a, N: ParseName<'a>> ParseRecordDataBytes<'a> for RecordData<'a, N> {
 
     ghost is_of = { IsDataOf };
 
-    #[tactic(auto, unfolding(dns_record::specs::Data::data_as, dns_record::specs::Rows::row))]
     fn parse_record_data_bytes(
         bytes: &'a [u8],
         rtype: RType,
     ) -> Result<RecordData<'a, N>, ParseError> {
         match rtype {
-            RType::A => Ok(RecordData::A(A::parse_bytes(bytes)?)),
-            RType::NS => Ok(RecordData::Ns(Ns::parse_bytes(bytes)?)),
-            RType::CNAME => Ok(RecordData::CName(CName::parse_bytes(bytes)?)),
-            RType::SOA => Ok(RecordData::Soa(Soa::parse_bytes(bytes)?)),
-            RType::PTR => Ok(RecordData::Ptr(Ptr::parse_bytes(bytes)?)),
-            RType::HINFO => Ok(RecordData::HInfo(HInfo::parse_bytes(bytes)?)),
-            RType::MX => Ok(RecordData::Mx(Mx::parse_bytes(bytes)?)),
-            RType::TXT => Ok(RecordData::Txt(Txt::parse_bytes(bytes)?)),
-            RType::RP => Ok(RecordData::Rp(Rp::parse_bytes(bytes)?)),
-            RType::SRV => Ok(RecordData::Srv(Srv::parse_bytes(bytes)?)),
-            RType::AAAA => Ok(RecordData::Aaaa(Aaaa::parse_bytes(bytes)?)),
-            RType::DNAME => Ok(RecordData::DName(DName::parse_bytes(bytes)?)),
-            RType::OPT => Ok(RecordData::Opt(Opt::parse_bytes(bytes)?)),
-            RType::DS => Ok(RecordData::Ds(Ds::parse_bytes(bytes)?)),
-            RType::RRSIG => Ok(RecordData::Rrsig(Rrsig::parse_bytes(bytes)?)),
-            RType::NSEC => Ok(RecordData::Nsec(Nsec::parse_bytes(bytes)?)),
-            RType::DNSKEY => Ok(RecordData::DNSKey(DNSKey::parse_bytes(bytes)?)),
-            RType::NSEC3 => Ok(RecordData::Nsec3(Nsec3::parse_bytes(bytes)?)),
-            RType::NSEC3PARAM => Ok(RecordData::Nsec3Param(Nsec3Param::parse_bytes(bytes)?)),
-            RType::ZONEMD => Ok(RecordData::ZoneMD(ZoneMD::parse_bytes(bytes)?)),
-            _ => Ok(RecordData::Unknown(rtype, UnknownRecordData { octets: bytes })),
+            RType::NS => as_data(Ns::parse_bytes(bytes)),
+            RType::CNAME => as_data(CName::parse_bytes(bytes)),
+            RType::SOA => as_data(Soa::parse_bytes(bytes)),
+            RType::PTR => as_data(Ptr::parse_bytes(bytes)),
+            RType::MX => as_data(Mx::parse_bytes(bytes)),
+            RType::RP => as_data(Rp::parse_bytes(bytes)),
+            _ => read_plain(bytes, rtype),
         }
     }
 }
 
 impl<'a, N: ParseName<'a> + SplitMessageBytes<'a>> ParseRecordData<'a> for RecordData<'a, N> {
-    #[tactic(auto, unfolding(dns_record::specs::Data::data_in, dns_record::specs::Rows::row))]
     fn parse_record_data(
         contents: &'a [u8],
         start: usize,
         rtype: RType,
     ) -> Result<RecordData<'a, N>, ParseError> {
         match rtype {
-            RType::A => Ok(RecordData::A(A::parse_message_bytes(contents, start)?)),
-            RType::NS => Ok(RecordData::Ns(Ns::parse_message_bytes(contents, start)?)),
-            RType::CNAME => Ok(RecordData::CName(CName::parse_message_bytes(contents, start)?)),
-            RType::SOA => Ok(RecordData::Soa(Soa::parse_message_bytes(contents, start)?)),
-            RType::PTR => Ok(RecordData::Ptr(Ptr::parse_message_bytes(contents, start)?)),
-            RType::HINFO => Ok(RecordData::HInfo(HInfo::parse_message_bytes(contents, start)?)),
-            RType::MX => Ok(RecordData::Mx(Mx::parse_message_bytes(contents, start)?)),
-            RType::TXT => Ok(RecordData::Txt(Txt::parse_message_bytes(contents, start)?)),
-            RType::RP => Ok(RecordData::Rp(Rp::parse_message_bytes(contents, start)?)),
-            RType::SRV => Ok(RecordData::Srv(Srv::parse_message_bytes(contents, start)?)),
-            RType::AAAA => Ok(RecordData::Aaaa(Aaaa::parse_message_bytes(contents, start)?)),
-            RType::DNAME => Ok(RecordData::DName(DName::parse_message_bytes(contents, start)?)),
-            RType::OPT => Ok(RecordData::Opt(Opt::parse_message_bytes(contents, start)?)),
-            RType::DS => Ok(RecordData::Ds(Ds::parse_message_bytes(contents, start)?)),
-            RType::RRSIG => Ok(RecordData::Rrsig(Rrsig::parse_message_bytes(contents, start)?)),
-            RType::NSEC => Ok(RecordData::Nsec(Nsec::parse_message_bytes(contents, start)?)),
-            RType::DNSKEY => Ok(RecordData::DNSKey(DNSKey::parse_message_bytes(contents, start)?)),
-            RType::NSEC3 => Ok(RecordData::Nsec3(Nsec3::parse_message_bytes(contents, start)?)),
-            RType::NSEC3PARAM => Ok(RecordData::Nsec3Param(Nsec3Param::parse_message_bytes(
-                contents, start,
-            )?)),
-            RType::ZONEMD => Ok(RecordData::ZoneMD(ZoneMD::parse_message_bytes(contents, start)?)),
-            _ => {
-                let octets = ParseMessageBytes::parse_message_bytes(contents, start)?;
-                Ok(RecordData::Unknown(rtype, UnknownRecordData { octets }))
-            }
+            RType::NS => as_data(Ns::parse_message_bytes(contents, start)),
+            RType::CNAME => as_data(CName::parse_message_bytes(contents, start)),
+            RType::SOA => as_data(Soa::parse_message_bytes(contents, start)),
+            RType::PTR => as_data(Ptr::parse_message_bytes(contents, start)),
+            RType::MX => as_data(Mx::parse_message_bytes(contents, start)),
+            RType::RP => as_data(Rp::parse_message_bytes(contents, start)),
+            _ if contents.len() < start => Err(ParseError),
+            _ => read_plain(&contents[start..], rtype),
         }
     }
 }

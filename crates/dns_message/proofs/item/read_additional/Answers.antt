@@ -12,5 +12,5 @@ returns-in_err-edns-clause-exact c =
     let whole : take (length c.args.contents.now - c.args.start) rest ≡ rest = take_all _ rest (omega (arith, length-drop c.args.start c.args.contents.now)) in
     let begins : BeginsEdns rest = subst BeginsEdns whole (c.begins_edns.ensures.0 c.if-begins_edns.true) in
     let head = headed c.args.contents.now c.args.start (record_told k.form) k.end read begins in
-    let there = edns_there k.form head.0 head.1 k.ensures.typed in
+    let there = edns_there k.form head.0 head.1 k.ensures.sound.0 in
     let none = sym c.in_err-edns.ensures ∙ there.1 in absurd cc

@@ -1,4 +1,4 @@
-use Rattle.std.proofs.Common.{◌≡◌, List, [], ap}
+use Rattle.std.proofs.Common.{List, [], ap}
 use Rattle.std.specs.Prelude.{Option, unwrap_or}
 use Rattle.dns_wire.specs.Compression.{name_presses}
 use Rattle.dns_wire.specs.Names.{name_labels}
