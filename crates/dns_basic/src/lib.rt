@@ -23,6 +23,3 @@ pub use type_laws::{
     names_that_are_read_are_written, names_that_are_read_in_messages_are_written,
     types_are_canonical_by_number, types_are_read_by_number, types_are_read_by_number_in_messages,
 };
-
-#[cfg(test)]
-mod tests;

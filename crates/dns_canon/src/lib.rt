@@ -21,6 +21,3 @@ pub use laws::{answers_on_sameness, parted_texts, verdicts_in_words, words_of_co
 pub use status::Status;
 pub use transfer::PIECE;
 pub use words::{Command, LIMIT, LIMIT_OF_TWO, MOST_RECORDS, Words};
-
-#[cfg(test)]
-mod tests;

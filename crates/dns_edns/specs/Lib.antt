@@ -9,7 +9,6 @@ pub mod Flags
 pub mod Left
 pub mod Options
 pub mod Seen
-pub mod SipHash
 pub mod Suiting
 pub mod SuitingLeft
 pub mod Types

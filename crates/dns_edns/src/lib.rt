@@ -40,6 +40,3 @@ pub use type_laws::{
 };
 pub use unknown_option::UnknownOptionData;
 pub use unparsed_option::UnparsedEdnsOption;
-
-#[cfg(test)]
-mod tests;

@@ -17,6 +17,3 @@ pub use label_buf::{LabelBuf, label_of};
 pub use laws::{labels_fill, one_label, order_of_labels};
 pub use text_error::{LabelParseError, LabelSplitError};
 pub use text_laws::{label_texts, plain_texts_are_printed, printed_labels_are_read};
-
-#[cfg(test)]
-mod tests;

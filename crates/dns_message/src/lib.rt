@@ -35,6 +35,3 @@ pub use read_again::{
     built_questions_are_read, built_records_are_no_longer, built_records_are_read,
     edns_records_are_built, prefixed_pieces_are_read, records_are_built, told_pieces_are_read,
 };
-
-#[cfg(test)]
-mod tests;

@@ -41,6 +41,3 @@ pub use steps::Steps;
 pub use text_error::{NameParseError, NameSplitError};
 pub use text_laws::{name_texts, plain_names_are_printed, printed_names_are_read};
 pub use unparsed_name::UnparsedName;
-
-#[cfg(test)]
-mod tests;

@@ -27,6 +27,3 @@ pub use type_iter::TypeIter;
 pub use type_laws::{
     types_are_canonical_by_number, types_are_read_by_number, types_are_read_by_number_in_messages,
 };
-
-#[cfg(test)]
-mod tests;

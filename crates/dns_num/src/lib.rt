@@ -19,6 +19,3 @@ pub use number64::U64;
 pub use one_bit::octet_with_bit;
 pub use size_prefix::SizePrefix;
 pub use size_prefixed::SizePrefixed;
-
-#[cfg(test)]
-mod tests;

@@ -153,6 +153,3 @@ impl Hash for CharStr<'_> {
         state.write(lowered.wire_bytes());
     }
 }
-
-#[cfg(test)]
-mod tests;

@@ -36,6 +36,3 @@ pub use rtype::RType;
 pub use serial::Serial;
 pub use ttl::TTL;
 pub use unparsed::UnparsedRecordData;
-
-#[cfg(test)]
-mod tests;

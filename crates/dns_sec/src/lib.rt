@@ -30,6 +30,3 @@ pub use type_laws::{
 pub use zonemd::ZoneMD;
 pub use zonemd_hash_alg::ZoneMDHashAlg;
 pub use zonemd_scheme::ZoneMDScheme;
-
-#[cfg(test)]
-mod tests;

@@ -48,6 +48,3 @@ pub use parse::{
 pub use read_value::{ReadMessageValue, ReadPlainValue, ReadValue};
 pub use sizes::{HEADER_SIZE, LAST_PLACE, MAX_LABEL_SIZE, MAX_PLACES, POINTER_TAG};
 pub use storage::Storage;
-
-#[cfg(test)]
-mod tests;

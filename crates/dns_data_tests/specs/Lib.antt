@@ -1,0 +1,2 @@
+-- What the keyed function of the tests of cookies cites.
+pub mod SipHash

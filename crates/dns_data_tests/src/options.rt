@@ -1,0 +1,356 @@
+//! EDNS options: what is read, iterated, compared and written.
+
+use crate::security_calls::{are_alike, holds, parses, parses_to, writes};
+use dns_edns::{
+    EdnsOption, EdnsOptionsIter, ExtError, ExtErrorCode, Opt, OptionCode, UnknownOptionData,
+    UnparsedEdnsOption,
+};
+use dns_num::SizePrefixed;
+use dns_record::CanonicalRecordData;
+use dns_wire::{AsBytes, BuildBytes, ParseBytes, SplitBytes};
+
+/// A letter for an option: a client cookie, a server cookie, an extended error, other data, or data that do not
+/// suit.
+fn letter(item: &Result<EdnsOption<'_>, UnparsedEdnsOption<'_>>) -> u8 {
+    match item {
+        Ok(EdnsOption::ClientCookie(_)) => b'c',
+        Ok(EdnsOption::Cookie(_)) => b's',
+        Ok(EdnsOption::ExtError(_)) => b'e',
+        Ok(EdnsOption::Unknown(_, _)) => b'o',
+        Err(_) => b'-',
+    }
+}
+
+/// Whether the octets are OPT data of just the options of these letters.
+fn has_options(octets: &[u8], letters: &[u8]) -> bool {
+    let Ok(opt) = Opt::parse_bytes(octets) else {
+        return false;
+    };
+    let mut left = letters.iter();
+    for item in opt.options() {
+        match left.next() {
+            Some(wanted) if *wanted == letter(&item) => {}
+            _ => return false,
+        }
+    }
+    left.next().is_none()
+}
+
+/// Where dnspython 2.3.0 and ldns 1.8.3 both read the data of this test and the next two, they give as many options
+/// with these codes and octets; they know no lengths of cookies.
+#[test]
+fn opt_data_are_iterated(rt: HostRuntime) {
+    let rows: [(&[u8], &[u8]); 6] = [
+        (b"", b""),
+        (b"\0\x03\0\x02ns", b"o"),
+        (b"\0\0\0\0", b"o"),
+        (b"\0\x0c\0\x04\0\0\0\0", b"o"),
+        (
+            b"\0\x0a\0\x0812345678\0\x0a\0\x01\0\0\x0f\0\x03\0\0A",
+            b"c-e",
+        ),
+        (b"\0\x0f\0\x03\0\0A\0\x0a\0\x0812345678\xff\xfe\0\0", b"eco"),
+    ];
+    for (octets, letters) in rows {
+        assert!(rt; has_options(octets, letters), "{octets:?}");
+    }
+}
+
+/// Cookies of 8 octets and of 16 to 40 octets suit their code (RFC 7873 section 4).
+#[test]
+fn cookies_suit_by_their_length(rt: HostRuntime) {
+    let rows: [(&[u8], &[u8]); 4] = [
+        (b"\0\x0a\0\x08\x24\x64\xc4\xab\xcf\x10\xc9\x57", b"c"),
+        (b"\0\x0a\0\x10123456789abcdefg", b"s"),
+        (
+            b"\0\x0a\0\x28123456789abcdefg123456789abcdefg12345678",
+            b"s",
+        ),
+        (
+            b"\0\x0a\0\x29123456789abcdefg123456789abcdefg123456789",
+            b"-",
+        ),
+    ];
+    for (octets, letters) in rows {
+        assert!(rt; has_options(octets, letters), "{octets:?}");
+    }
+    holds(&rt, has_options(b"\0\x0a\0\0", b"-"), "no octets");
+    holds(&rt, has_options(b"\0\x0a\0\x01\0", b"-"), "one octet");
+}
+
+/// Cookies of lengths between, and extended errors with no text, with a text and with a NUL after it.
+#[test]
+fn extended_errors_suit(rt: HostRuntime) {
+    let rows: [(&[u8], &[u8]); 5] = [
+        (b"\0\x0a\0\x09\x24\x64\xc4\xab\xcf\x10\xc9\x57\0", b"-"),
+        (b"\0\x0a\0\x0f123456789abcdef", b"-"),
+        (b"\0\x0f\0\x02\0\0", b"e"),
+        (b"\0\x0f\0\x03\0\0A", b"e"),
+        (b"\0\x0f\0\x04\0\x18A\0", b"e"),
+    ];
+    for (octets, letters) in rows {
+        assert!(rt; has_options(octets, letters), "{octets:?}");
+    }
+}
+
+/// Whether the octets are OPT data, and options one after another.
+fn are_options(octets: &[u8]) -> (bool, bool) {
+    (parses::<Opt>(octets), EdnsOptionsIter::is_options(octets))
+}
+
+/// Neither dnspython 2.3.0 nor ldns 1.8.3 reads these.
+#[test]
+fn malformed_options_are_refused(rt: HostRuntime) {
+    let rows: [&[u8]; 6] = [
+        b"\0",
+        b"\0\0\0",
+        b"\0\x03\0\0\0",
+        b"\0\x03\0\x03\xaa",
+        b"\0\x03\0\x03\xaa\xaa",
+        b"\0\x0a\0\x0812345678\0\x0f\0\x03\0\0A\0\x03\0\x02\xaa",
+    ];
+    for octets in rows {
+        assert!(rt; are_options(octets) == (false, false), "{octets:?}");
+    }
+    holds(
+        &rt,
+        are_options(b"\0\x03\0\x02ns") == (true, true),
+        "option",
+    );
+}
+
+/// Whether the octets are an option with data that suit its code, and one with any data.
+fn is_option(octets: &[u8]) -> (bool, bool) {
+    (
+        parses::<EdnsOption>(octets),
+        parses::<UnparsedEdnsOption>(octets),
+    )
+}
+
+/// Extended errors of fewer than two octets, or with a text that is not UTF-8: ldns 1.8.3 reads them too, and dnspython
+/// 2.3.0 refuses the whole record.
+#[test]
+fn unsuited_options_are_kept(rt: HostRuntime) {
+    let rows: [&[u8]; 3] = [b"\0\x0f\0\0", b"\0\x0f\0\x01\0", b"\0\x0f\0\x03\0\0\xff"];
+    for octets in rows {
+        assert!(rt;
+            has_options(octets, b"-") && is_option(octets) == (false, true),
+            "{octets:?}"
+        );
+    }
+}
+
+/// Whether the octets of the options after the first of these are the rest.
+fn leaves(octets: &[u8], rest: &[u8]) -> bool {
+    let Ok(opt) = Opt::parse_bytes(octets) else {
+        return false;
+    };
+    let mut left = opt.options();
+    left.next().is_some() && left.remaining() == rest
+}
+
+/// Whether an iterator over one option stays at its end.
+fn stays_at_the_end(octets: &[u8]) -> bool {
+    let Ok(opt) = Opt::parse_bytes(octets) else {
+        return false;
+    };
+    let mut left = opt.options();
+    left.next().is_some()
+        && left.next().is_none()
+        && left.next().is_none()
+        && left.remaining().is_empty()
+}
+
+#[test]
+fn iterators_have_what_is_left(rt: HostRuntime) {
+    let octets = b"\0\x0a\0\x08\x24\x64\xc4\xab\xcf\x10\xc9\x57\0\x0a\0\x01\0\0\x0f\0\x03\0\0A";
+    let rest = b"\0\x0a\0\x01\0\0\x0f\0\x03\0\0A";
+    holds(&rt, leaves(octets, rest), "two of three options");
+    holds(&rt, stays_at_the_end(b"\0\x0f\0\x03\0\0A"), "end");
+}
+
+/// The code and the data of an option with any data.
+fn unparsed(octets: &[u8]) -> Option<(u16, &[u8])> {
+    match UnparsedEdnsOption::parse_bytes(octets) {
+        Ok(option) => Some((u16::from(option.code), *option.content.inner())),
+        Err(_) => None,
+    }
+}
+
+/// Whether the data of an option with any data suit its code.
+fn suits(octets: &[u8]) -> Option<bool> {
+    match UnparsedEdnsOption::parse_bytes(octets) {
+        Ok(option) => Some(EdnsOption::try_from(option).is_ok()),
+        Err(_) => None,
+    }
+}
+
+/// The code of the option that the octets begin with, and the octets after it.
+fn split_code(octets: &[u8]) -> Option<(u16, &[u8])> {
+    match EdnsOption::split_bytes(octets) {
+        Ok((option, rest)) => Some((u16::from(option.code()), rest)),
+        Err(_) => None,
+    }
+}
+
+/// The code and the text of an extended error.
+fn extended_error(octets: &[u8]) -> Option<(u16, Option<&str>)> {
+    match EdnsOption::parse_bytes(octets) {
+        Ok(EdnsOption::ExtError(error)) => Some((u16::from(error.code), error.text())),
+        _ => None,
+    }
+}
+
+#[test]
+fn options_with_any_data_are_read(rt: HostRuntime) {
+    let (zero, cookie): (&[u8], &[u8]) = (b"\0", b"\0\x0a\0\x01\0");
+    holds(&rt, unparsed(cookie) == Some((10, zero)), "cookie");
+    holds(&rt, suits(cookie) == Some(false), "unsuited cookie");
+    holds(&rt, suits(b"\0\x03\0\x02ns") == Some(true), "other data");
+}
+
+#[test]
+fn options_have_their_parts(rt: HostRuntime) {
+    let (none, other): (&[u8], &[u8]) = (b"", b"\0\x03\0\x02ns");
+    let both = b"\0\x0f\0\x03\0\0A\0\x03\0\x02ns";
+    let error = extended_error(b"\0\x0f\0\x03\0\0A");
+    holds(&rt, error == Some((0, Some("A"))), "extended error");
+    holds(&rt, split_code(both) == Some((15, other)), "error first");
+    holds(&rt, split_code(other) == Some((3, none)), "other data");
+}
+
+/// The option of a letter: an extended error, other data, or other data under the code of cookies.
+fn option(letter: u8) -> EdnsOption<'static> {
+    match letter {
+        b'e' => EdnsOption::ExtError(ExtError::new(ExtErrorCode::OTHER, "A")),
+        b'o' => EdnsOption::Unknown(OptionCode::from(3), UnknownOptionData { octets: b"ns" }),
+        _ => EdnsOption::Unknown(OptionCode::COOKIE, UnknownOptionData { octets: b"\0" }),
+    }
+}
+
+/// Whether the octets are OPT data of the options of just this number of these letters.
+fn equals_options(octets: &[u8], letters: [u8; 3], count: usize) -> bool {
+    let [first, second, third] = letters;
+    let options = [option(first), option(second), option(third)];
+    match (Opt::parse_bytes(octets), options.get(..count)) {
+        (Ok(opt), Some(options)) => opt.eq_options(options),
+        _ => false,
+    }
+}
+
+#[test]
+fn opt_data_are_compared_with_options(rt: HostRuntime) {
+    let both: &[u8] = b"\0\x0f\0\x03\0\0A\0\x03\0\x02ns";
+    let rows: [(&[u8], &[u8; 3], usize, bool); 6] = [
+        (both, b"eo.", 2, true),
+        (both, b"oe.", 2, false),
+        (both, b"e..", 1, false),
+        (both, b"eoo", 3, false),
+        (b"", b"...", 0, true),
+        (b"\0\x0a\0\x01\0", b"...", 1, false),
+    ];
+    for (octets, letters, count, wanted) in rows {
+        assert!(rt;
+            equals_options(octets, *letters, count) == wanted,
+            "{letters:?} {count}"
+        );
+    }
+}
+
+/// Whether OPT data of these octets are those of the contents after their first octet.
+fn is_parsed(octets: &[u8], contents: &[u8]) -> bool {
+    match Opt::parse_bytes(octets) {
+        Ok(opt) => parses_to(contents, &opt),
+        Err(_) => false,
+    }
+}
+
+/// Whether OPT data of no options have no octets and are equal to no options.
+fn is_empty() -> bool {
+    Opt::empty().as_bytes().is_empty() && Opt::empty().eq_options(&[])
+}
+
+/// Whether the octets of OPT data, and of option data that are kept, are the same.
+fn keeps_octets(octets: &[u8]) -> bool {
+    let is_kept = match UnknownOptionData::parse_bytes(octets) {
+        Ok(data) => data.as_bytes() == octets,
+        Err(_) => false,
+    };
+    match Opt::parse_bytes(octets) {
+        Ok(opt) => is_kept && opt.as_bytes() == octets,
+        Err(_) => false,
+    }
+}
+
+#[test]
+fn octets_are_kept(rt: HostRuntime) {
+    let other = b"\0\x03\0\x02ns";
+    holds(&rt, is_empty(), "no options");
+    holds(&rt, keeps_octets(other), "octets");
+    holds(&rt, is_parsed(other, b".\0\x03\0\x02ns"), "at a place");
+    holds(
+        &rt,
+        are_alike::<EdnsOption>(other, other) == Some(true),
+        "alike",
+    );
+}
+
+/// Whether the option of these octets is written as them just where there is room.
+fn rewrites_option(octets: &[u8]) -> bool {
+    match EdnsOption::parse_bytes(octets) {
+        Ok(option) => writes(&option, octets),
+        Err(_) => false,
+    }
+}
+
+/// The octets are those that dnspython 2.3.0 writes for the same options.
+#[test]
+fn options_are_written(rt: HostRuntime) {
+    let rows: [&[u8]; 4] = [
+        b"\0\x0a\0\x0812345678",
+        b"\0\x0a\0\x10123456789abcdefg",
+        b"\0\x0f\0\x03\0\x18A",
+        b"\0\x03\0\x02ns",
+    ];
+    for octets in rows {
+        assert!(rt; rewrites_option(octets), "{octets:?}");
+    }
+    holds(&rt, writes(&option(b'o'), b"\0\x03\0\x02ns"), "made");
+}
+
+/// Whether an option of the code of cookies with these data is written so.
+fn writes_unparsed(content: &[u8], octets: &[u8]) -> bool {
+    let option = UnparsedEdnsOption {
+        code: OptionCode::COOKIE,
+        content: SizePrefixed::new(content),
+    };
+    writes(&option, octets)
+}
+
+/// How many octets the option takes.
+fn option_size() -> usize {
+    option(b'o').built_bytes_size()
+}
+
+/// How many octets are left of eight after the canonical octets of OPT data.
+fn left_of_eight(octets: &[u8]) -> Option<usize> {
+    let mut buffer = [0; 8];
+    match Opt::parse_bytes(octets) {
+        Ok(opt) => match opt.build_canonical_bytes(&mut buffer) {
+            Ok(rest) => Some(rest.len()),
+            Err(_) => None,
+        },
+        Err(_) => None,
+    }
+}
+
+#[test]
+fn unsuited_options_are_written(rt: HostRuntime) {
+    holds(&rt, writes_unparsed(b"\0", b"\0\x0a\0\x01\0"), "cookie");
+    holds(&rt, option_size() == 6, "size");
+    holds(
+        &rt,
+        left_of_eight(b"\0\x03\0\x02ns") == Some(2),
+        "canonical",
+    );
+}

@@ -1,0 +1,156 @@
+//! EDNS records in the form of records, and back.
+//!
+//! The `ednsflags` of dnspython 2.3.0 for the answer, 16,875,520, are the number in the place of its time to live.
+
+use crate::assertions::holds;
+use crate::edns_record::{ANSWER, Edns, Fields, QUERY, fields_of, read_edns};
+use crate::record_data::{Data, read};
+use crate::written::writes;
+use dns_name::{Name, NameBuf, RevNameBuf};
+use dns_num::U16;
+use dns_rdata::{RecordData, UnknownRecordData};
+use dns_record::{RClass, RType, Record, TTL};
+use dns_wire::ParseBytes;
+
+/// A record whose owner is kept from its first label on.
+type Form<'a> = Record<NameBuf, Data<'a>>;
+
+/// A record whose owner is kept from the root on.
+type RevForm<'a> = Record<RevNameBuf, Data<'a>>;
+
+/// The type, the class and the time to live of the record that an EDNS record is, where its owner is the root.
+fn form_fields(octets: &[u8]) -> Option<(u16, u16, u32)> {
+    match read_edns(octets) {
+        Some(edns) => {
+            let form = Form::from(edns);
+            if !form.rname.as_name().is_root() {
+                return None;
+            }
+            let numbers = (u16::from(form.rtype), form.rclass.code.get());
+            Some((numbers.0, numbers.1, form.ttl.as_secs()))
+        }
+        None => None,
+    }
+}
+
+/// Whether the data of that record are OPT data of these octets.
+fn has_form_data(octets: &[u8], wanted: &[u8]) -> bool {
+    match read_edns(octets) {
+        Some(edns) => match Form::from(edns).rdata {
+            RecordData::Opt(options) => writes(&options, wanted),
+            _ => false,
+        },
+        None => false,
+    }
+}
+
+/// Whether the EDNS record is the same after it was a record.
+fn comes_back(octets: &[u8]) -> bool {
+    match read_edns(octets) {
+        Some(edns) => match Edns::try_from(Form::from(edns)) {
+            Ok(back) => writes(&back, octets),
+            Err(_) => false,
+        },
+        None => false,
+    }
+}
+
+/// The same for a record whose owner is kept from the root on.
+fn comes_back_reversed(octets: &[u8]) -> bool {
+    match read_edns(octets) {
+        Some(edns) => match Edns::try_from(RevForm::from(edns)) {
+            Ok(back) => writes(&back, octets),
+            Err(_) => false,
+        },
+        None => false,
+    }
+}
+
+/// Whether the root owns the record with an owner kept from the root on.
+fn is_owned_by_root_reversed(octets: &[u8]) -> bool {
+    match read_edns(octets) {
+        Some(edns) => RevForm::from(edns).rname.as_revname().is_root(),
+        None => false,
+    }
+}
+
+#[test]
+fn edns_records_are_records_and_back(rt: HostRuntime) {
+    for octets in [QUERY, ANSWER] {
+        assert!(rt; comes_back(octets), "from the first label on");
+        assert!(rt; comes_back_reversed(octets), "from the root on");
+        assert!(rt; is_owned_by_root_reversed(octets), "the root");
+    }
+    let fields = form_fields(ANSWER);
+    holds(&rt, fields == Some((41, 4096, 16_875_520)), "the answer");
+    let error = has_form_data(ANSWER, b"\0\x0f\0\x03\0\0A");
+    holds(&rt, error, "the data of the answer");
+}
+
+/// The fields of the EDNS record that a record with this owner, type and data is, and of class 1232.
+fn tried(owner: &[u8], rtype: u16, rdata: Data<'_>) -> Option<Fields> {
+    let Ok(owner) = NameBuf::parse_bytes(owner) else {
+        return None;
+    };
+    let rclass = RClass {
+        code: U16::new(1232),
+    };
+    match Edns::try_from(Record::new(owner, RType::from(rtype), rclass, TTL::from(0), rdata)) {
+        Ok(edns) => Some(fields_of(&edns)),
+        Err(_) => None,
+    }
+}
+
+/// The same with data that are read under a number.
+fn tried_data(owner: &[u8], rtype: u16, number: u16, octets: &[u8]) -> Option<Fields> {
+    match read(number, octets) {
+        Some(data) => tried(owner, rtype, data),
+        None => Some((0, 0, 0, 0)),
+    }
+}
+
+/// The same with unknown octets under a number.
+fn tried_unknown(owner: &[u8], rtype: u16, number: u16, octets: &[u8]) -> Option<Fields> {
+    let unknown = UnknownRecordData { octets };
+    tried(
+        owner,
+        rtype,
+        RecordData::Unknown(RType::from(number), unknown),
+    )
+}
+
+#[test]
+fn other_records_are_no_edns_records(rt: HostRuntime) {
+    let options = b"\0\x0a\0\0";
+    let owned = tried_data(b"\x01a\0", 41, 41, options);
+    holds(&rt, owned.is_none(), "an owner");
+    let typed = tried_data(b"\0", 1, 41, options);
+    holds(&rt, typed.is_none(), "another type");
+    let address = tried_data(b"\0", 41, 1, b"\0\0\0\0");
+    holds(&rt, address.is_none(), "an address");
+    let cut = tried_unknown(b"\0", 41, 41, b"\0\x0a\0");
+    holds(&rt, cut.is_none(), "no options");
+    let other = tried_unknown(b"\0", 41, 1, options);
+    holds(&rt, other.is_none(), "unknown octets of another type");
+    let unknown = tried_unknown(b"\0", 41, 41, options);
+    holds(&rt, unknown == Some((1232, 0, 0, 0)), "unknown options");
+    let known = tried_data(b"\0", 41, 41, options);
+    holds(&rt, known == Some((1232, 0, 0, 0)), "options");
+}
+
+/// Whether the EDNS record is none as a record with this owner, kept from the root on.
+fn is_refused_reversed(octets: &[u8], owner: &[u8]) -> bool {
+    match (read_edns(octets), Name::parse_bytes(owner)) {
+        (Some(edns), Ok(owner)) => {
+            let mut form = RevForm::from(edns);
+            form.rname = owner.to_revname();
+            Edns::try_from(form).is_err()
+        }
+        _ => false,
+    }
+}
+
+#[test]
+fn other_owners_are_refused_from_the_root_on(rt: HostRuntime) {
+    holds(&rt, is_refused_reversed(QUERY, b"\x01a\0"), "an owner");
+}

@@ -1,0 +1,29 @@
+//! Tests of record data of each type, of EDNS records, and of messages that are read, built and put in canonical form.
+#![tactic(auto)]
+
+#[cfg(test)]
+mod assertions;
+#[cfg(test)]
+mod boxed_record_data;
+#[cfg(test)]
+mod canonical_record;
+#[cfg(test)]
+mod edns_conversion;
+#[cfg(test)]
+mod edns_record;
+#[cfg(test)]
+mod mapped_names;
+#[cfg(test)]
+mod message_builder;
+#[cfg(test)]
+mod message_parser;
+#[cfg(test)]
+mod rdata_by_type;
+#[cfg(test)]
+mod record_data;
+#[cfg(test)]
+mod records_in_message;
+#[cfg(test)]
+mod unknown_data;
+#[cfg(test)]
+mod written;

@@ -1,0 +1,299 @@
+//! Messages that are built, as dnspython 2.3.0 writes them, and each refusal.
+
+use crate::assertions::holds;
+use crate::record_data::{Data, read};
+use dns_edns::{EdnsFlags, Opt};
+use dns_message::{HeaderFlags, MessageBuildError, MessageBuilder};
+use dns_name::{Name, NameBuf};
+use dns_num::{SizePrefixed, U16};
+use dns_plain::A;
+use dns_rdata::EdnsRecord;
+use dns_record::{QClass, QType, Question, RClass, RType, Record, TTL};
+use dns_wire::{NameCompressor, ParseBytes};
+use std::alloc::Global;
+
+/// The answer of an authority to a question for an address: an alias and its target, a name server and its
+/// address, and EDNS, each name written once.
+const ANSWER: &[u8] =
+    b"\x12\x34\x85\x80\0\x01\0\x02\0\x01\0\x02\x03www\x07example\x03org\0\0\x01\0\x01\xc0\x0c\0\x05\0\x01\0\0\x01\x2c\0\x07\x04host\xc0\x10\xc0\x2d\0\x01\0\x01\0\0\x01\x2c\0\x04\xc0\0\x02\x50\xc0\x10\0\x02\0\x01\0\0\x0e\x10\0\x06\x03ns1\xc0\x10\xc0\x50\0\x1c\0\x01\0\0\x0e\x10\0\x10\x20\x01\x0d\xb8\0\0\0\0\0\0\0\0\0\0\0\x53\0\0\x29\x04\xd0\0\0\0\0\0\0";
+
+/// The name that is asked for.
+const WWW: &[u8] = b"\x03www\x07example\x03org\0";
+
+/// The name that it is an alias of.
+const HOST: &[u8] = b"\x04host\x07example\x03org\0";
+
+/// The zone.
+const ZONE: &[u8] = b"\x07example\x03org\0";
+
+/// The server of the zone.
+const SERVER: &[u8] = b"\x03ns1\x07example\x03org\0";
+
+/// The records of the answer.
+const RECORDS: [Parts<'static>; 4] = [
+    ('a', WWW, 5, 300, HOST),
+    ('a', HOST, 1, 300, b"\xc0\0\x02\x50"),
+    ('n', ZONE, 2, 3600, SERVER),
+    (
+        'r',
+        SERVER,
+        28,
+        3600,
+        b"\x20\x01\x0d\xb8\0\0\0\0\0\0\0\0\0\0\0\x53",
+    ),
+];
+
+/// Why the push is refused, if it is.
+type Refusal = Option<MessageBuildError>;
+
+/// A record with an owned owner.
+type OwnedRecord<'a> = Record<NameBuf, Data<'a>>;
+
+/// Why the record is refused as an answer.
+fn push_answer(builder: &mut MessageBuilder<'_>, found: &OwnedRecord<'_>) -> Refusal {
+    builder.push_answer(found).err()
+}
+
+/// Why the record is refused among those of authorities.
+fn push_authority(builder: &mut MessageBuilder<'_>, found: &OwnedRecord<'_>) -> Refusal {
+    builder.push_authority(found).err()
+}
+
+/// Why the record is refused among the additional ones.
+fn push_additional(builder: &mut MessageBuilder<'_>, found: &OwnedRecord<'_>) -> Refusal {
+    builder.push_additional(found).err()
+}
+
+/// The record of these parts.
+fn record_of<'a>(owner: &[u8], number: u16, ttl: u32, octets: &'a [u8]) -> Option<OwnedRecord<'a>> {
+    match (NameBuf::parse_bytes(owner), read(number, octets)) {
+        (Ok(owner), Some(data)) => {
+            let rtype = RType::from(number);
+            Some(Record::new(owner, rtype, RClass::IN, TTL::from(ttl), data))
+        }
+        _ => None,
+    }
+}
+
+/// The section, the owner, the type, the time to live and the data of a record.
+pub(crate) type Parts<'a> = (char, &'a [u8], u16, u32, &'a [u8]);
+
+/// Why a record of these parts is refused; none where there is no such record.
+fn push_record(builder: &mut MessageBuilder<'_>, parts: Parts<'_>) -> Option<Refusal> {
+    let (section, owner, number, ttl, octets) = parts;
+    match (section, record_of(owner, number, ttl, octets)) {
+        ('a', Some(found)) => Some(push_answer(builder, &found)),
+        ('n', Some(found)) => Some(push_authority(builder, &found)),
+        (_, Some(found)) => Some(push_additional(builder, &found)),
+        (_, None) => None,
+    }
+}
+
+/// Whether a record of these parts is pushed.
+pub(crate) fn is_pushed(builder: &mut MessageBuilder<'_>, parts: Parts<'_>) -> bool {
+    push_record(builder, parts) == Some(None)
+}
+
+/// Whether the records of the answer are pushed.
+fn are_pushed(builder: &mut MessageBuilder<'_>) -> bool {
+    for parts in RECORDS {
+        if !is_pushed(builder, parts) {
+            return false;
+        }
+    }
+    true
+}
+
+/// Whether a question for this type is pushed.
+fn is_question_pushed(builder: &mut MessageBuilder<'_>, name: &[u8], qtype: QType) -> bool {
+    match NameBuf::parse_bytes(name) {
+        Ok(name) => builder
+            .push_question(&Question::new(&name, qtype, QClass::IN))
+            .is_ok(),
+        Err(_) => false,
+    }
+}
+
+/// Whether an EDNS record with this payload and without options is pushed.
+fn is_edns_pushed(builder: &mut MessageBuilder<'_>, payload: u16) -> bool {
+    let edns = EdnsRecord {
+        max_udp_payload: U16::new(payload),
+        ext_rcode: 0,
+        version: 0,
+        flags: EdnsFlags::default(),
+        content: SizePrefixed::new(Opt::empty()),
+    };
+    builder.push_edns(&edns).is_ok()
+}
+
+/// Whether the answer is built as these octets.
+fn is_answer_built(wanted: &[u8]) -> bool {
+    let mut buffer = [0; 512];
+    let mut names = NameCompressor::new();
+    let (id, flags) = (U16::new(0x1234), HeaderFlags::from_bits(0x8580));
+    let mut builder = MessageBuilder::new(&mut buffer, &mut names, id, flags);
+    is_question_pushed(&mut builder, WWW, QType::A)
+        && are_pushed(&mut builder)
+        && is_edns_pushed(&mut builder, 1232)
+        && builder.message().as_bytes() == wanted
+}
+
+#[test]
+fn an_answer_with_records_in_three_sections(rt: HostRuntime) {
+    holds(&rt, is_answer_built(ANSWER), "the answer");
+}
+
+/// Why an address of the owner is refused as an answer.
+fn push_address(builder: &mut MessageBuilder<'_>, owner: &[u8]) -> Refusal {
+    match NameBuf::parse_bytes(owner) {
+        Ok(owner) => {
+            let address = A {
+                octets: [127, 0, 0, 1],
+            };
+            let found = Record::new(owner, RType::A, RClass::IN, TTL::from(42), address);
+            builder.push_answer(&found).err()
+        }
+        Err(_) => None,
+    }
+}
+
+/// Why a question is refused.
+fn push_question(builder: &mut MessageBuilder<'_>) -> Refusal {
+    let question = Question::new(Name::root(), QType::NS, QClass::IN);
+    builder.push_question(&question).err()
+}
+
+/// Why an address and a question after it are refused in a buffer, and how many octets the message has then.
+fn push_two(buffer: &mut [u8]) -> Option<(Refusal, Refusal, usize)> {
+    if buffer.len() < 12 {
+        return None;
+    }
+    let mut names = NameCompressor::new();
+    let (id, flags) = (U16::new(7), HeaderFlags::from_bits(0x8400));
+    let mut builder = MessageBuilder::new(buffer, &mut names, id, flags);
+    let address = push_address(&mut builder, WWW);
+    let question = push_question(&mut builder);
+    Some((address, question, builder.message().as_bytes().len()))
+}
+
+/// An address takes 31 octets, and a question of the root 5.
+#[test]
+fn an_item_fits_exactly_or_is_refused(rt: HostRuntime) {
+    let wanted =
+        b"\0\x07\x84\0\0\0\0\x01\0\0\0\0\x03www\x07example\x03org\0\0\x01\0\x01\0\0\0\x2a\0\x04\x7f\0\0\x01";
+    let mut buffer = [0; 43];
+    let pushed = push_two(&mut buffer);
+    let answers = Some((None, Some(MessageBuildError::Misplaced), 43));
+    holds(&rt, pushed == answers, "43 octets");
+    holds(&rt, buffer.as_slice() == wanted.as_slice(), "the message");
+    let mut buffer = [0; 42];
+    let pushed = push_two(&mut buffer);
+    let question = Some((Some(MessageBuildError::Truncated), None, 17));
+    holds(&rt, pushed == question, "42 octets");
+    let wanted = b"\0\x07\x84\0\0\x01\0\0\0\0\0\0\0\0\x02\0\x01";
+    holds(&rt, buffer.starts_with(wanted), "a question alone");
+}
+
+/// How many questions are pushed until one is refused.
+fn push_questions(builder: &mut MessageBuilder<'_>) -> usize {
+    for count in 0..70_000 {
+        if push_question(builder).is_some() {
+            return count;
+        }
+    }
+    70_000
+}
+
+/// How many questions are pushed, and why one more and an address are refused.
+fn push_many(buffer: &mut [u8]) -> Option<(usize, Refusal, Refusal)> {
+    if buffer.len() < 12 {
+        return None;
+    }
+    let mut names = NameCompressor::new();
+    let (id, flags) = (U16::new(0), HeaderFlags::default());
+    let mut builder = MessageBuilder::new(buffer, &mut names, id, flags);
+    let count = push_questions(&mut builder);
+    let question = push_question(&mut builder);
+    Some((count, question, push_address(&mut builder, b"\0")))
+}
+
+/// As many questions as a count can say, five octets each.
+#[test]
+fn a_message_takes_65535_questions(rt: HostRuntime) {
+    match vec![in rt.alloc(); 0; 327_687] {
+        Ok(mut buffer) => {
+            let (full, long) = (MessageBuildError::TooMany, MessageBuildError::Truncated);
+            let pushed = push_many(&mut buffer);
+            holds(
+                &rt,
+                pushed == Some((65_535, Some(full), Some(long))),
+                "refusals",
+            );
+            let start = b"\0\0\0\0\xff\xff\0\0\0\0\0\0\0\0\x02\0\x01";
+            holds(&rt, buffer.starts_with(start), "the first question");
+            holds(
+                &rt,
+                buffer.ends_with(b"\0\0\x02\0\x01"),
+                "the last question",
+            );
+        }
+        Err(_) => holds(&rt, false, "memory"),
+    }
+}
+
+/// Why an address is refused in a section after an EDNS record, and how many additional records there are then.
+fn push_after_edns(section: char) -> Option<(Refusal, u16)> {
+    let mut buffer = [0; 512];
+    let mut names = NameCompressor::new();
+    let (id, flags) = (U16::new(0), HeaderFlags::default());
+    let mut builder = MessageBuilder::new(&mut buffer, &mut names, id, flags);
+    if !is_edns_pushed(&mut builder, 512) {
+        return None;
+    }
+    let parts = (
+        section,
+        b"\x01a\0".as_slice(),
+        1,
+        42,
+        b"\x7f\0\0\x01".as_slice(),
+    );
+    match push_record(&mut builder, parts) {
+        Some(refusal) => Some((refusal, additional_count(&builder))),
+        None => None,
+    }
+}
+
+/// How many additional records there are.
+fn additional_count(builder: &MessageBuilder<'_>) -> u16 {
+    builder.message().header().counts.additional.get()
+}
+
+/// A section is closed by an item of any later one, EDNS among them.
+#[test]
+fn sections_are_in_order(rt: HostRuntime) {
+    let misplaced = Some(MessageBuildError::Misplaced);
+    for (section, refusal, count) in [('n', misplaced, 1), ('a', misplaced, 1), ('r', None, 2)] {
+        let pushed = push_after_edns(section);
+        assert!(rt; pushed == Some((refusal, count)), "{section}");
+    }
+}
+
+/// Whether this is the text of the error.
+fn has_text(alloc: Global, error: MessageBuildError, text: &str) -> bool {
+    match error.to_string(alloc) {
+        Ok(found) => found.as_str() == text,
+        Err(_) => false,
+    }
+}
+
+#[test]
+fn errors_have_texts(rt: HostRuntime) {
+    let texts = [
+        (MessageBuildError::Misplaced, "a later section has an item"),
+        (MessageBuildError::TooMany, "the section is full"),
+        (MessageBuildError::Truncated, "the item does not fit"),
+    ];
+    for (error, text) in texts {
+        assert!(rt; has_text(rt.alloc(), error, text), "{text}");
+    }
+}

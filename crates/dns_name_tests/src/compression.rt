@@ -1,0 +1,259 @@
+//! Names written in a message, as RFC 1035 section 4.1.4 shows them and as dnspython 2.3.0 writes them.
+
+use crate::assertion::holds;
+use crate::names::name;
+use crate::pointers::end_of_name;
+use crate::writing::{compresses, end_in_message, has_no_room_in_message};
+use dns_name::{Name, NameBuf};
+use dns_wire::{BuildInMessage, SplitMessageBytes};
+use std::alloc::Global;
+
+/// Names, each with the offset at which it ends in the contents of a message.
+const NAMES: [(&[u8], usize); 14] = [
+    (b"\x03www\x07Example\x03org\0", 17),
+    (b"\x04mail\x07example\x03ORG\0", 24),
+    (b"\x07example\x03net\0", 37),
+    (b"\x03ORG\0", 39),
+    (b"\x01a\x01b\x03www\x07example\x03org\0", 45),
+    (b"\x01B\x03WWW\x07EXAMPLE\x03ORG\0", 47),
+    (b"\x03www\x07example\x03net\0", 53),
+    (b"\x01c\x01b\x03www\x07example\x03com\0", 74),
+    (b"\x03com\0", 76),
+    (b"\0", 77),
+    (b"\x04mail\x07example\x03org\0", 79),
+    (b"\x01x\x01A\x01b\x03www\x07example\x03org\0", 83),
+    (b"\x07example\x03org\x07example\x03net\0", 97),
+    (b"\x01\0\x01\xff\x03a.b\x03net\0", 107),
+];
+
+/// The contents of the message with these names: `dns.name.Name.to_wire` wrote them one after another with
+/// one table of names for all of them, after 12 octets for the header.
+const CONTENTS: [u8; 107] = *b"\x03www\x07Example\x03org\0\x04mail\xc0\x10\x07example\x03net\0\
+    \xc0\x18\x01a\x01b\xc0\x0c\xc0\x35\x03www\xc0\x24\x01c\x01b\x03www\x07example\x03com\0\xc0\x51\0\xc0\x1d\
+    \x01x\xc0\x33\x07example\x03org\xc0\x24\x01\0\x01\xff\x03a.b\xc0\x2c";
+
+/// The offsets of that table, counted from the end of the header.
+const PLACES: [u16; 20] = [
+    0, 4, 12, 17, 24, 32, 39, 41, 47, 53, 55, 57, 61, 69, 79, 83, 91, 97, 99, 101,
+];
+
+/// The names that the octets are.
+fn names(alloc: Global, octets: &[(&[u8], usize)]) -> Option<Vec<NameBuf>> {
+    let mut names = Vec::new(alloc);
+    for (octets, _end) in octets {
+        if names.push(NameBuf::copy_from(name(octets))).is_err() {
+            return None;
+        }
+    }
+    Some(names)
+}
+
+/// Whether names are written as these octets, with these places.
+fn writes_names(names: &[NameBuf], wanted: &[u8; 107], places: &[u16]) -> bool {
+    let mut contents = [0; 107];
+    end_in_message(&names, &mut contents, 0, places) == Some(107) && &contents == wanted
+}
+
+#[test]
+fn compresses_names_as_other_software_does(rt: HostRuntime) {
+    let names = names(rt.alloc(), &NAMES);
+    let is_written = match &names {
+        Some(names) => writes_names(names.as_slice(), &CONTENTS, &PLACES),
+        None => false,
+    };
+    holds(&rt, is_written, "contents and places");
+}
+
+/// Where the name ends that begins at the offset, if it is this one, except for case.
+fn end_of_equal_name(contents: &[u8], offset: usize, octets: &[u8]) -> Option<usize> {
+    match NameBuf::split_message_bytes(contents, offset) {
+        Ok((found, end)) => {
+            if found.as_name() == name(octets) {
+                Some(end)
+            } else {
+                None
+            }
+        }
+        Err(_) => None,
+    }
+}
+
+#[test]
+fn reads_names_that_other_software_wrote(rt: HostRuntime) {
+    let mut offset = 0;
+    for (octets, end) in NAMES {
+        let found = end_of_equal_name(&CONTENTS, offset, octets);
+        assert!(rt; found == Some(end), "the name at {offset}");
+        offset = end;
+    }
+}
+
+/// RFC 1035's message after its header: the names are at 20, 40, 64 and 92 of the message, and so at 8, 28, 52 and
+/// 80 of this, and dots are in place of what is between them.
+const STANDARD: [u8; 81] =
+    *b"........\x01F\x03ISI\x04ARPA\0........\x03FOO\xc0\x14..................\xc0\x1a\
+    ..........................\0";
+
+/// Where the names of `STANDARD` end that are written in these contents, the dots with them.
+fn end_of_standard(contents: &mut [u8; 81]) -> Option<usize> {
+    let isi = ([b'.'; 8], name(b"\x01F\x03ISI\x04ARPA\0"));
+    let foo = ([b'.'; 8], name(b"\x03FOO\x01F\x03ISI\x04ARPA\0"));
+    let arpa = ([b'.'; 18], name(b"\x04ARPA\0"));
+    let root = ([b'.'; 26], Name::root());
+    end_in_message(&((isi, foo), (arpa, root)), contents, 0, &[8, 10, 14, 28])
+}
+
+#[test]
+fn compresses_the_names_of_the_standard(rt: HostRuntime) {
+    let mut contents = [0; 81];
+    holds(&rt, end_of_standard(&mut contents) == Some(81), "the end");
+    holds(&rt, contents == STANDARD, "contents");
+}
+
+#[test]
+fn reads_the_names_of_the_standard(rt: HostRuntime) {
+    let rows: [(&str, usize, &[u8], usize); 4] = [
+        ("F.ISI.ARPA", 8, b"\x01F\x03ISI\x04ARPA\0", 20),
+        ("FOO.F.ISI.ARPA", 28, b"\x03FOO\x01F\x03ISI\x04ARPA\0", 34),
+        ("ARPA", 52, b"\x04ARPA\0", 54),
+        ("the root", 80, b"\0", 81),
+    ];
+    for (what, offset, octets, end) in rows {
+        let found = end_of_name::<NameBuf>(&STANDARD, offset, octets);
+        assert!(rt; found == Some(end), "{what}");
+    }
+}
+
+/// The name is at 1 after the header, and so at 13 of the message.
+#[test]
+fn lists_share_names(rt: HostRuntime) {
+    let isi = name(b"\x01F\x03ISI\x04ARPA\0");
+    let two = b"\x01F\x03ISI\x04ARPA\0\xc0\x0d";
+    let names: &[Name] = &[isi, isi];
+    holds(&rt, compresses(&names, two, &[1, 3, 7]), "a slice");
+    holds(&rt, compresses(&[isi, isi], two, &[1, 3, 7]), "an array");
+    let none: &[Name] = &[];
+    holds(&rt, compresses(&none, b"", &[]), "no names");
+}
+
+/// Whether a vector with the name twice is written as these octets.
+fn compresses_vector(alloc: Global, name: Name<'_>, octets: &[u8]) -> bool {
+    match vec![in alloc; name, name] {
+        Ok(names) => compresses(&names, octets, &[1, 3, 7]),
+        Err(_) => false,
+    }
+}
+
+#[test]
+fn parts_share_names(rt: HostRuntime) {
+    let isi = name(b"\x01F\x03ISI\x04ARPA\0");
+    let foo = name(b"\x03FOO\x01F\x03ISI\x04ARPA\0");
+    let two = b"\x01F\x03ISI\x04ARPA\0\xc0\x0d";
+    holds(&rt, compresses_vector(rt.alloc(), isi, two), "a vector");
+    let three = b"\x01F\x03ISI\x04ARPA\0\x03FOO\xc0\x0d\xc0\x19";
+    let places = [1, 3, 7, 13];
+    holds(
+        &rt,
+        compresses(&[isi, foo, foo], three, &places),
+        "an array",
+    );
+    holds(&rt, compresses(&((isi, foo), foo), three, &places), "pairs");
+}
+
+/// Whether the value is written as the octets from the front of as many octets, and names can then point to these
+/// offsets.
+fn fills<T: BuildInMessage>(value: &T, octets: &[u8; 23], places: &[u16]) -> bool {
+    let mut contents = [0; 23];
+    end_in_message(value, &mut contents, 0, places) == Some(23) && &contents == octets
+}
+
+/// Names from the root on are written as others are.
+#[test]
+fn compresses_two_names_of_either_layout(rt: HostRuntime) {
+    let one = name(b"\x07example\x03org\0");
+    let other = name(b"\x07unequal\x03ORG\0");
+    let wanted = b"\x07example\x03org\0\x07unequal\xc0\x14";
+    holds(&rt, fills(&[one, other], wanted, &[0, 8, 13]), "views");
+    let (one, other) = (one.to_revname(), other.to_revname());
+    let parts = (one.as_revname(), other);
+    holds(&rt, fills(&parts, wanted, &[0, 8, 13]), "from the root on");
+}
+
+/// The third name has no room.
+#[test]
+fn writes_a_name_twice_and_refuses_a_third(rt: HostRuntime) {
+    let name = name(b"\x01a\x01b\0").to_revname();
+    let mut contents = [0; 7];
+    let two = end_in_message(&[&name, &name], &mut contents, 0, &[0, 2]);
+    holds(&rt, two == Some(7), "the end");
+    holds(&rt, &contents == b"\x01a\x01b\0\xc0\x0c", "contents");
+    let three = [&name, &name, &name];
+    holds(&rt, has_no_room_in_message(&three, 7), "a third");
+}
+
+/// Whether the names are written as the octets at the offset of 16,380 octets, and a name can then point to this
+/// offset alone.
+fn compresses_far(names: &[Name], offset: usize, octets: &[u8], place: u16) -> bool {
+    let mut contents = [0; 16_380];
+    match end_in_message(&names, &mut contents, offset, &[place]) {
+        Some(end) => contents.get(offset..end) == Some(octets),
+        None => false,
+    }
+}
+
+/// The last place is 16,371, which with the 12 octets of the header makes 14 bits 1.
+#[test]
+fn keeps_places_in_reach(rt: HostRuntime) {
+    let (two, one) = (name(b"\x01x\x01y\0"), name(b"\x01Y\0"));
+    let octets = b"\x01x\x01y\0\x01Y\0\xff\xfe";
+    holds(
+        &rt,
+        compresses_far(&[two, one, two], 16_370, octets, 16_370),
+        "the last place but one",
+    );
+    let octets = b"\x01Y\0\xff\xff";
+    holds(
+        &rt,
+        compresses_far(&[one, one], 16_371, octets, 16_371),
+        "the last place",
+    );
+}
+
+/// A name of 127 labels of one octet.
+fn long_octets() -> [u8; 255] {
+    let mut octets = [b'a'; 255];
+    for label in octets.chunks_mut(2) {
+        if let Some(size) = label.first_mut() {
+            *size = 1;
+        }
+    }
+    octets[254] = 0;
+    octets
+}
+
+/// The offsets of the labels of that name, and of the label after it.
+fn long_places() -> [u16; 128] {
+    let mut places = [255; 128];
+    let mut next = 0u16;
+    for place in &mut places[..127] {
+        *place = next;
+        next = next.saturating_add(2);
+    }
+    places
+}
+
+/// Where names end that are written in these contents: one of 127 labels, `b.`, `c.` twice, and `b.`.
+fn end_of_five(contents: &mut [u8; 266]) -> Option<usize> {
+    let octets = long_octets();
+    let (long, b, c) = (name(&octets), name(b"\x01b\0"), name(b"\x01c\0"));
+    end_in_message(&[long, b, c, c, b], contents, 0, &long_places())
+}
+
+/// There are 128 places at most, and a name whose place is not kept is written whole each time.
+#[test]
+fn keeps_128_places(rt: HostRuntime) {
+    let mut contents = [0; 266];
+    holds(&rt, end_of_five(&mut contents) == Some(266), "the end");
+    let wanted = b"\x01b\0\x01c\0\x01c\0\xc1\x0b".as_slice();
+    holds(&rt, &contents[255..] == wanted, "the last four names");
+}

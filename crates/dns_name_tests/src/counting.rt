@@ -1,0 +1,151 @@
+//! Comparisons and readings that count their steps. No program sees the count: the clauses give it, and here the
+//! labels and pointers that a reading goes over are counted one by one.
+
+ghost use Rattle.std.specs.Prelude.{◌≡◌, ◌<◌};
+
+use crate::assertion::holds;
+use crate::names::name;
+use crate::pointers::CHAIN;
+use dns_name::{Name, NameBuf, Steps};
+use dns_wire::{Head, NameCursor, ParseError, SplitMessageBytes};
+use std::cmp::Ordering;
+use std::marker::Brand;
+use std::sync::ledger::{Blank, Ledger};
+
+/// The order of the names, whose steps are counted.
+fn compared<L: Ledger>(one: &Name<'_>, other: &Name<'_>, blank: Blank) -> Ordering
+    requires name { blank.name ≡ L.name }
+    requires parts { blank.parts ≡ L.parts }
+    requires some { 0 < blank.parts }
+{
+    let mut steps: Steps<L> = Steps::new(blank);
+    one.cmp_counted(other, &mut steps)
+}
+
+/// The order of the names, by a count that begins here.
+fn order(one: &[u8], other: &[u8]) -> Ordering {
+    compared::<Brand>(&name(one), &name(other), Blank::new(1))
+}
+
+#[test]
+fn a_counted_comparison_gives_the_same_order(rt: HostRuntime) {
+    let rows: [(&str, &[u8], &[u8], Ordering); 3] = [
+        (
+            "a label inside the other",
+            b"\x01a\0",
+            b"\x03!\x01a\0",
+            Ordering::Greater,
+        ),
+        ("the root first", b"\0", b"\x01a\0", Ordering::Less),
+        (
+            "equal except for case",
+            b"\x01A\x01b\0",
+            b"\x01a\x01B\0",
+            Ordering::Equal,
+        ),
+    ];
+    for (what, one, other, wanted) in rows {
+        assert!(rt; order(one, other) == wanted, "{what}");
+    }
+}
+
+/// The name at the offset and where it ends, read in steps that are counted.
+fn read<L: Ledger>(
+    contents: &[u8],
+    offset: usize,
+    blank: Blank,
+) -> Result<(NameBuf, usize), ParseError>
+    requires name { blank.name ≡ L.name }
+    requires parts { blank.parts ≡ L.parts }
+    requires some { 0 < blank.parts }
+{
+    let mut steps: Steps<L> = Steps::new(blank);
+    NameBuf::split_counted(contents, offset, &mut steps)
+}
+
+/// Where the name ends that begins at the offset, if it is the same when its steps are counted.
+fn counted_end(contents: &[u8], offset: usize) -> Option<usize> {
+    match (
+        read::<Brand>(contents, offset, Blank::new(1)),
+        NameBuf::split_message_bytes(contents, offset),
+    ) {
+        (Ok((name, end)), Ok((other, _end))) => { if name == other { Some(end) } else { None } }
+        _ => None,
+    }
+}
+
+/// Whether a counted reading refuses the name at the offset.
+fn is_refused(contents: &[u8], offset: usize) -> bool {
+    read::<Brand>(contents, offset, Blank::new(1)).is_err()
+}
+
+/// How many labels, pointers and roots a reading from the offset goes over, at most 10,000.
+fn heads(contents: &[u8], offset: usize) -> Option<usize> {
+    let mut cursor = NameCursor::new(offset);
+    for count in 1..10_001usize {
+        match cursor.next_head(contents) {
+            Ok(Head::Root) => return Some(count),
+            Ok(_) => {}
+            Err(_) => return None,
+        }
+    }
+    None
+}
+
+#[test]
+fn a_counted_reading_goes_over_each_pointer(rt: HostRuntime) {
+    holds(&rt, counted_end(CHAIN, 18) == Some(20), "a chain");
+    holds(
+        &rt,
+        heads(CHAIN, 18) == Some(5),
+        "four pointers and the root",
+    );
+    holds(&rt, is_refused(&CHAIN[..20], 20), "after the end");
+    holds(
+        &rt,
+        is_refused(b"\x04abc\xc0\x0c\0", 4),
+        "to the octets before",
+    );
+}
+
+/// Where the pointer after the one to this offset leads: the first leads to the root, and each other to the one
+/// before.
+fn next_target(target: u16) -> u16 {
+    if target == 23 {
+        24
+    } else {
+        target.saturating_add(2)
+    }
+}
+
+/// A record whose data are the root and then 8,000 pointers, each to the one before, and after it a pointer to the
+/// last.
+fn long_chain() -> [u8; 16_014] {
+    let mut contents = [0u8; 16_014];
+    let mut target = 23u16;
+    for pointer in contents[12..].chunks_exact_mut(2) {
+        pointer.copy_from_slice(&(target | 0xc000).to_be_bytes());
+        target = next_target(target);
+    }
+    contents
+}
+
+#[test]
+fn a_chain_of_8000_pointers_is_read_to_its_end(rt: HostRuntime) {
+    let contents = long_chain();
+    holds(
+        &rt,
+        &contents[16_012..] == b"\xfe\x96".as_slice(),
+        "the last pointer",
+    );
+    holds(
+        &rt,
+        heads(&contents, 16_012) == Some(8_002),
+        "8,001 pointers and the root",
+    );
+    holds(
+        &rt,
+        counted_end(&contents, 16_012) == Some(16_014),
+        "its end",
+    );
+}

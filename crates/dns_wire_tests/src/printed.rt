@@ -1,0 +1,12 @@
+//! What a value prints.
+
+use std::alloc::Global;
+use std::fmt::Display;
+
+/// Whether the value prints this text.
+pub(crate) fn prints<T: Display>(alloc: Global, value: &T, text: &str) -> bool {
+    match value.to_string(alloc) {
+        Ok(printed) => printed.as_str() == text,
+        Err(_) => false,
+    }
+}
