@@ -1,13 +1,14 @@
 #!/bin/sh
 # Proves the repository's libraries, side by side where none stands on another, and then builds the program as out/dnscanon.
-# How far that is goes to standard error. What rt prints goes to out/NAME.log, which is shown where the crate NAME fails.
+# A program that was built before stays there until the new one is built. How far the build is, and about how many minutes are
+# left, goes to standard error. What rt prints goes to out/NAME.log, which is shown where the crate NAME fails.
 
 crates=$(CDPATH='' cd -- "$(dirname -- "$0")/.." && pwd) || exit 1
 list=$crates/../crates.txt
 out=$crates/dnscanon/out
 rooms=$out/rooms
 
-# Each crate and the libraries below it, one crate a line, in the order of the list.
+# The program and each library below it, one crate a line with the libraries below that, in the order of the list.
 plan() {
     awk '
         function visit(name, top,    count, of, i) {
@@ -21,7 +22,14 @@ plan() {
         }
         { sub(/#.*/, "") }
         split($0, half, ":") > 1 { split(half[1], word); uses[word[1]] = half[2]; name[++count] = word[1] }
-        END { for (at = 1; at <= count; at++) { visit(name[at], name[at]); print name[at] below[name[at]] } }' "$list"
+        END {
+            visit("dnscanon", "dnscanon")
+            for (at = 1; at <= count; at++)
+                if (name[at] == "dnscanon" || (("dnscanon", name[at]) in seen)) {
+                    if (name[at] != "dnscanon") visit(name[at], name[at])
+                    print name[at] below[name[at]]
+                }
+        }' "$list"
 }
 
 below() {
@@ -38,6 +46,18 @@ has_all() {
     for it in $1; do
         has "$it" "$2" || return 1
     done
+}
+
+# Seconds from nothing on four idle processors for which each crate holds up the build; crates that are proved side by side
+# share them. The estimate of what is left goes by these.
+seconds_of() {
+    case $1 in
+    dns_wire | dns_name | dns_record) echo 60 ;;
+    dns_rdata | dns_canon) echo 130 ;;
+    dns_message) echo 110 ;;
+    dnscanon) echo 70 ;;
+    *) echo 30 ;;
+    esac
 }
 
 # As many processes as there are processors, and as memory allows at 2 GB each.
@@ -102,7 +122,7 @@ start() {
     (
         trap 'kill $! 2>/dev/null; exit 1' TERM
         furnish "$1" && cd "$rooms/$1/crates/$1" &&
-            { rt check --jobs "$2" & wait $!; } && { rt lib --jobs "$2" & wait $!; }
+            { rt lib --jobs "$2" & wait $!; }
         echo $? >"$rooms/$1.status"
     ) </dev/null >"$out/$1.log" 2>&1 &
     echo $! >"$rooms/$1.pid"
@@ -119,7 +139,7 @@ start_ready() {
     done
     count=$(echo $ready | wc -w)
     for name in $ready; do
-        [ $free -gt 0 ] || return 0
+        [ $free -ge 0 ] || return 0
         start "$name" $((free < count ? 1 : free / count))
         count=$((count - 1))
         waiting=$(echo " $waiting " | sed "s/ $name / /")
@@ -137,21 +157,37 @@ gather() {
         [ "$(cat "$rooms/$name.status")" = 0 ] || { failed=$name && return 1; }
         mv "$rooms/$name.mark" "$crates/$name/out/proved"
         proved="$proved $name"
+        spent=$((spent + $(seconds_of "$name")))
         change=yes
     done
 }
 
-# A line with the crates at work, and how many functions of each are checked, of how many. On a terminal it is written over
-# itself; elsewhere it comes where a crate is proved, and each minute.
+# How many functions of the crate $1 are checked, of how many, as two numbers.
+progress() {
+    sed -n 's/^so far: \([0-9]*\) of \([0-9]*\) .*/\1 \2/p' "$out/$1.log" 2>/dev/null | tail -n 1
+}
+
+# About how many minutes are left: the seconds of the crates that are not proved, at the pace of those that this run has proved.
+minutes_left() {
+    for name in $waiting $running dnscanon; do
+        echo "$(seconds_of "$name") $(progress "$name")"
+    done | awk -v passed="$seconds" -v spent="$spent" -v workers="$workers" '
+        { share = $3 > 0 ? $2 / $3 : 0; left += $1 * (1 - share); spent += $1 * share }
+        END { print int(left * (spent > 60 ? passed / spent : 4 / workers) / 60) + 1 }'
+}
+
+# A line with the minutes that are left and the crates at work, and how many functions of each are checked, of how many. On a
+# terminal it is written over itself; elsewhere it comes where a crate is proved, and each minute.
 show() {
-    line="dnscanon: $(echo $proved | wc -w) of $all crates proved"
+    [ -t 2 ] || [ -n "$change" ] || [ $((seconds % 60)) = 0 ] || return 0
+    line="dnscanon: $(echo $proved | wc -w) of $all crates proved, about $(minutes_left) min left"
     for name in $running; do
-        count=$(sed -n 's/^checked .*, \([0-9]*\) of \([0-9]*\)$/\1\/\2/p' "$out/$name.log" | tail -n 1)
+        count=$(progress "$name" | tr ' ' /)
         line="$line, $name${count:+ $count}"
     done
     if [ -t 2 ]; then
         printf '\r%.79s\033[K' "$line" >&2
-    elif [ -n "$change" ] || [ $((seconds % 60)) = 0 ]; then
+    else
         echo "$line" >&2
     fi
     change=
@@ -211,23 +247,25 @@ build_program() {
     : >"$out/dnscanon.log"
     running=dnscanon change=yes
     show
-    (cd "$crates/dnscanon" && exec rt run -- canon) </dev/null >"$out/dnscanon.log" 2>&1 &
+    furnish dnscanon || { failed=dnscanon && return; }
+    (cd "$rooms/dnscanon/crates/dnscanon" && exec rt run -- canon) </dev/null >"$out/dnscanon.log" 2>&1 &
     echo $! >"$rooms/dnscanon.pid"
     wait $!
     running=
-    [ -x "$out/dnscanon" ] || failed=dnscanon
+    mv "$rooms/dnscanon/crates/dnscanon/out/dnscanon" "$out/dnscanon" || failed=dnscanon
 }
 
-running='' failed='' proved='' waiting='' seconds=0 change=yes
+running='' failed='' proved='' waiting='' seconds=0 spent=0 change=yes
 take_turn
 clear_rooms
 for crate in "$crates"/*/; do
     mkdir -p "$crate/out" || exit 1
 done
 # The mark is as old as the start of the build, so that a change meanwhile is seen the next time.
-: >"$out/current.new" && rm -f "$out/dnscanon" && mkdir "$rooms" && plan >"$rooms/plan" || exit 1
+: >"$out/current.new" && rm -f "$out"/*.log && mkdir "$rooms" && plan >"$rooms/plan" || exit 1
 all=$(wc -l <"$rooms/plan")
-free=$(processors)
+workers=$(processors)
+free=$workers
 take_stock
 prove_libraries
 build_program
