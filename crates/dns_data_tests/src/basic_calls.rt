@@ -39,17 +39,10 @@ pub(crate) fn fills<D: BuildBytes>(value: &D, octets: &[u8]) -> bool {
     }
 }
 
-/// Whether the value is refused where the buffer has one octet less than its size.
-pub(crate) fn lacks_room<D: BuildBytes>(value: &D, size: usize) -> bool {
-    let mut buffer = [b'.'; 64];
-    let start = 65usize.saturating_sub(size).min(64);
-    value.build_at(&mut buffer, start).is_err()
-}
-
 /// Whether data are read from all the octets, and written again as these.
 pub(crate) fn parses<'a, D: ParseBytes<'a> + BuildBytes>(octets: &'a [u8]) -> bool {
     match D::parse_bytes(octets) {
-        Ok(value) => fills(&value, octets) && lacks_room(&value, octets.len()),
+        Ok(value) => fills(&value, octets),
         Err(_) => false,
     }
 }
@@ -60,7 +53,7 @@ pub(crate) fn parses_as<'a, D: ParseRecordDataBytes<'a> + BuildBytes>(
     rtype: RType,
 ) -> bool {
     match D::parse_record_data_bytes(octets, rtype) {
-        Ok(value) => fills(&value, octets) && lacks_room(&value, octets.len()),
+        Ok(value) => fills(&value, octets),
         Err(_) => false,
     }
 }
@@ -154,16 +147,6 @@ fn fills_message<D: BuildInMessage>(value: &D, octets: &[u8]) -> bool {
     }
 }
 
-/// Whether the value is refused where the contents of the message have one octet less than its size.
-fn lacks_room_in_message<D: BuildInMessage>(value: &D, size: usize) -> bool {
-    let mut contents = [b'.'; 64];
-    let mut compressor = NameCompressor::new();
-    let start = 65usize.saturating_sub(size).min(64);
-    value
-        .build_in_message(&mut contents, start, &mut compressor)
-        .is_err()
-}
-
 /// Whether the value's canonical form is the octets, up to the end of a buffer.
 fn fills_canonically<D: CanonicalRecordData>(value: &D, octets: &[u8]) -> bool {
     let mut buffer = [b'.'; 64];
@@ -172,13 +155,6 @@ fn fills_canonically<D: CanonicalRecordData>(value: &D, octets: &[u8]) -> bool {
         Ok(end) => end == 64 && buffer.ends_with(octets),
         Err(_) => false,
     }
-}
-
-/// Whether the canonical form is refused where the buffer has one octet less than its size.
-fn lacks_canonical_room<D: CanonicalRecordData>(value: &D, size: usize) -> bool {
-    let mut buffer = [b'.'; 64];
-    let start = 65usize.saturating_sub(size).min(64);
-    value.build_canonical_at(&mut buffer, start).is_err()
 }
 
 /// How many of 64 octets are left after the canonical form.
@@ -198,7 +174,6 @@ pub(crate) fn is_canonical<'a, D: ParseBytes<'a> + CanonicalRecordData>(
     match D::parse_bytes(octets) {
         Ok(value) => {
             fills_canonically(&value, canonical)
-                && lacks_canonical_room(&value, canonical.len())
                 && room_left(&value) == 64usize.checked_sub(canonical.len())
         }
         Err(_) => false,
@@ -213,9 +188,7 @@ pub(crate) fn writes_both<'a, D: ParseBytes<'a> + BuildInMessage + CanonicalReco
     match D::parse_bytes(octets) {
         Ok(value) => {
             fills(&value, octets)
-                && lacks_room(&value, octets.len())
                 && fills_message(&value, octets)
-                && lacks_room_in_message(&value, octets.len())
                 && is_canonical::<D>(octets, canonical)
         }
         Err(_) => false,

@@ -1,16 +1,10 @@
-//! NS, CNAME, SOA, PTR, MX and RP in a message after the name `b.`, which the octets `\xc0\x0c` point to.
+//! SOA and MX in a message after the name `b.`, which the octets `\xc0\x0c` point to.
 
 use crate::basic_calls::{read, read_at};
-use dns_basic::{CName, Mx, Ns, Ptr, Rp, Soa};
+use dns_basic::{Mx, Soa};
 use dns_name::{Name, NameBuf, RevNameBuf};
 use dns_num::{SizePrefixed, U16};
 use dns_wire::{BuildInMessage, NameCompressor, ParseBytes};
-
-/// The octets of `a.B.`
-const A: &[u8] = b"\x01a\x01B\0";
-
-/// The octets of `x.b.`
-const X: &[u8] = b"\x01x\x01b\0";
 
 /// Where the value begins and ends that is written after the name, and the names that are known then.
 fn build_after<N: BuildInMessage, D: BuildInMessage>(
@@ -44,32 +38,10 @@ fn writes_after<N: BuildInMessage, D: BuildInMessage>(
     }
 }
 
-/// Whether the value is refused after the name where the contents have one octet less than its size, and just the
-/// place of the name is known as before.
-fn lacks_room_after<N: BuildInMessage, D: BuildInMessage>(
-    name: &N,
-    value: &D,
-    size: usize,
-) -> bool {
-    let mut buffer = [b'.'; 64];
-    let mut compressor = NameCompressor::new();
-    let Ok(start) = name.build_in_message(&mut buffer, 0, &mut compressor) else {
-        return false;
-    };
-    let end = start.saturating_add(size.saturating_sub(1)).min(64);
-    value
-        .build_in_message(&mut buffer[..end], start, &mut compressor)
-        .is_err()
-        && compressor.places() == [0].as_slice()
-}
-
-/// Both after the name `b.`
+/// The same after the name `b.`
 fn shares_after_b<D: BuildInMessage>(value: &D, octets: &[u8], places: &[u16]) -> bool {
     match read::<Name<'_>>(b"\x01b\0") {
-        Some(name) => {
-            writes_after(&name, value, octets, places)
-                && lacks_room_after(&name, value, octets.len())
-        }
+        Some(name) => writes_after(&name, value, octets, places),
         None => false,
     }
 }
@@ -86,57 +58,21 @@ fn shares<'a, D: ParseBytes<'a> + BuildInMessage>(
     }
 }
 
-/// The same of NS, CNAME and PTR data, and of all others.
+/// The same of SOA data, and of MX data after their size.
 fn shares_names(kind: &str, data: &[u8], octets: &[u8], places: &[u16]) -> bool {
     match kind {
-        "NS" => shares::<Ns<NameBuf>>(data, octets, places),
-        "CNAME" => shares::<CName<RevNameBuf>>(data, octets, places),
-        "PTR" => shares::<Ptr<Name<'_>>>(data, octets, places),
-        _ => shares_other_names(kind, data, octets, places),
-    }
-}
-
-/// The same of RP, SOA and MX data.
-fn shares_other_names(kind: &str, data: &[u8], octets: &[u8], places: &[u16]) -> bool {
-    match kind {
-        "RP" => shares::<Rp<Name<'_>>>(data, octets, places),
         "SOA" => shares::<Soa<Name<'_>>>(data, octets, places),
-        _ => shares_exchange(kind, data, octets, places),
-    }
-}
-
-/// The same of MX data.
-fn shares_exchange(kind: &str, data: &[u8], octets: &[u8], places: &[u16]) -> bool {
-    match kind {
-        "MX" => shares::<Mx<Name<'_>>>(data, octets, places),
-        "MX, reversed" => shares::<Mx<RevNameBuf>>(data, octets, places),
         _ => shares::<SizePrefixed<U16, Mx<RevNameBuf>>>(data, octets, places),
     }
 }
 
 /// Data, what is written of them after `b.`, and the places that are known then.
-const SHARED: [(&str, &[u8], &[u8], &[u16]); 8] = [
-    ("NS", A, b"\x01a\xc0\x0c", &[0, 3]),
-    ("CNAME", A, b"\x01a\xc0\x0c", &[0, 3]),
-    ("PTR", b"\x01B\0", b"\xc0\x0c", &[0]),
-    ("MX", b"\0\x01\x01a\x01B\0", b"\0\x01\x01a\xc0\x0c", &[0, 5]),
-    (
-        "MX, reversed",
-        b"\0\x01\x01a\x01B\0",
-        b"\0\x01\x01a\xc0\x0c",
-        &[0, 5],
-    ),
+const SHARED: [(&str, &[u8], &[u8], &[u16]); 2] = [
     (
         "MX after its size",
         b"\0\x07\0\x01\x01a\x01B\0",
         b"\0\x06\0\x01\x01a\xc0\x0c",
         &[0, 7],
-    ),
-    (
-        "RP",
-        b"\x01a\x01B\0\x01x\x01A\x01b\0",
-        b"\x01a\xc0\x0c\x01x\xc0\x0f",
-        &[0, 3, 7],
     ),
     (
         "SOA",
@@ -151,32 +87,6 @@ fn names_are_shared(rt: HostRuntime) {
     for (kind, data, octets, places) in SHARED {
         assert!(rt; shares_names(kind, data, octets, places), "{kind}");
     }
-}
-
-/// A name that its type writes whole.
-#[test]
-fn octets_are_not_shared(rt: HostRuntime) {
-    assert!(rt; shares_after_b(&Ptr { name: X }, X, &[0]), "PTR");
-}
-
-/// Whether the MX data with a view of the reversed name are written so.
-fn shares_reversed_view(data: &[u8], octets: &[u8], places: &[u16]) -> bool {
-    match read::<Mx<RevNameBuf>>(data) {
-        Some(value) => {
-            let view = value.map_name_by_ref(|name| name.as_revname());
-            shares_after_b(&view, octets, places)
-        }
-        None => false,
-    }
-}
-
-#[test]
-fn views_of_reversed_names_are_shared(rt: HostRuntime) {
-    let octets = b"\0\x01\x01a\xc0\x0c";
-    assert!(rt;
-        shares_reversed_view(b"\0\x01\x01a\x01B\0", octets, &[0, 5]),
-        "MX"
-    );
 }
 
 /// Whether MX data with this preference and exchange end there in the contents.

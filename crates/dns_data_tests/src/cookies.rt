@@ -1,12 +1,10 @@
 //! Cookies, as servers give and take them.
 
-ghost use Rattle.std.specs.Prelude.{◌≡◌, [], ◌∷◌};
-
 use crate::security_calls::{holds, parses, writes};
 use crate::sip_hash::SipHash;
-use dns_edns::{Address, ClientCookie, Cookie, CookieError, KeyedHash, takes_what_it_gives};
+use dns_edns::{Address, ClientCookie, Cookie, CookieError, takes_what_it_gives};
 use dns_record::Serial;
-use dns_wire::{AsBytes, BuildBytes, ParseBytes, SplitBytes};
+use dns_wire::{AsBytes, BuildBytes, ParseBytes};
 use std::alloc::Global;
 
 /// The secret of RFC 9018 appendices A.1 to A.3.
@@ -215,57 +213,6 @@ fn request(octets: &[u8]) -> Option<([u8; 8], usize)> {
     }
 }
 
-/// A keyed function that always answers eight zeros.
-struct EightZeros;
-
-impl KeyedHash for EightZeros {
-    ghost keyed = { λ _ _ _. 0 ∷ 0 ∷ 0 ∷ 0 ∷ 0 ∷ 0 ∷ 0 ∷ 0 ∷ [] };
-
-    fn hash(&self, _secret: &[u8; 16], _input: &[u8]) -> [u8; 8] {
-        [0; 8]
-    }
-}
-
-/// How many octets are left of a buffer after the cookie that is given with a hash of zeros, and the buffer.
-fn zeros_given(size: usize) -> Option<(usize, [u8; 25])> {
-    let mut buffer = [7; 25];
-    let now = Serial::new(1_559_731_985);
-    let client = ClientCookie::from(CLIENT);
-    let left = match buffer.get_mut(..size) {
-        Some(prefix) => match client.respond_into(HERE, &SECRET, now, &EightZeros, prefix) {
-            Ok(rest) => rest.len(),
-            Err(_) => return None,
-        },
-        None => return None,
-    };
-    Some((left, buffer))
-}
-
-/// The layout of RFC 9018 section 4, with a hash of zeros, and an octet after it.
-const ZEROS: &[u8; 25] =
-    b"\x24\x64\xc4\xab\xcf\x10\xc9\x57\x01\0\0\0\x5c\xf7\x9f\x11\0\0\0\0\0\0\0\0\x07";
-
-/// Whether the cookie of zeros is taken from its moment up to this one.
-fn takes_zeros(until: u32) -> bool {
-    match Cookie::parse_bytes(&ZEROS[..24]) {
-        Ok(cookie) => {
-            let now = cookie.timestamp();
-            let until = Serial::new(until);
-            cookie.verify(HERE, &SECRET, now, until, &EightZeros) == Ok(())
-        }
-        Err(_) => false,
-    }
-}
-
-#[test]
-fn cookies_have_their_layout(rt: HostRuntime) {
-    holds(&rt, zeros_given(25) == Some((1, *ZEROS)), "25 octets");
-    holds(&rt, zeros_given(24) == Some((0, *ZEROS)), "24 octets");
-    holds(&rt, zeros_given(23).is_none(), "23 octets");
-    holds(&rt, takes_zeros(1_559_731_986), "a second later");
-    holds(&rt, !takes_zeros(1_559_731_985), "no time");
-}
-
 #[test]
 fn cookies_have_their_parts(rt: HostRuntime) {
     let octets = b"\x24\x64\xc4\xab\xcf\x10\xc9\x57\x02\0\0\0\x5c\xf7\x9f\x11";
@@ -300,14 +247,6 @@ fn cookies_are_printed(rt: HostRuntime) {
     holds(&rt, prints_error(rt.alloc(), error), "error");
 }
 
-/// The client's cookie that the octets begin with, and the octets after it.
-fn split_client(octets: &[u8]) -> Option<([u8; 8], &[u8])> {
-    match ClientCookie::split_bytes(octets) {
-        Ok((client, rest)) => Some((<[u8; 8]>::from(client), rest)),
-        Err(_) => None,
-    }
-}
-
 /// Whether the octets of the client's cookie that all these are, are the same, and are written so.
 fn keeps_client(octets: &[u8]) -> bool {
     match ClientCookie::parse_bytes(octets) {
@@ -318,9 +257,6 @@ fn keeps_client(octets: &[u8]) -> bool {
 
 #[test]
 fn client_cookies_are_eight_octets(rt: HostRuntime) {
-    let rest: &[u8] = b".";
-    let split = split_client(b"\x24\x64\xc4\xab\xcf\x10\xc9\x57.");
-    holds(&rt, split == Some((CLIENT, rest)), "an octet after it");
     holds(&rt, keeps_client(b"12345678"), "eight octets");
     holds(&rt, !parses::<ClientCookie>(b"1234567"), "seven octets");
     holds(&rt, !parses::<ClientCookie>(b"123456789"), "nine octets");

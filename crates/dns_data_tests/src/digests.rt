@@ -3,7 +3,7 @@
 use crate::security_calls::holds;
 use crate::security_data::{DIGEST, ZONE_DIGEST};
 use dns_sec::{Ds, ZoneMD};
-use dns_wire::{BuildBytes, ParseBytes};
+use dns_wire::ParseBytes;
 
 /// The key tag, the algorithm, the digest type and the size of the digest of DS data.
 fn ds_fields(octets: &[u8]) -> Option<(u16, u8, u8, usize)> {
@@ -31,45 +31,10 @@ fn zonemd_fields(octets: &[u8]) -> Option<(u32, u8, u8, usize)> {
     }
 }
 
-/// The digest of ZONEMD data with a digest of two octets.
-fn digest_of_two_octets(octets: &[u8]) -> Option<[u8; 2]> {
-    match ZoneMD::<[u8; 2]>::parse_bytes(octets) {
-        Ok(data) => Some(data.digest),
-        Err(_) => None,
-    }
-}
-
 /// The fields that RFC 4034 section 5.4 and RFC 8976 appendix A.1 print.
 #[test]
 fn digests_have_their_fields(rt: HostRuntime) {
     let zone_fields = Some((2_018_031_900, 1, 1, 48));
     holds(&rt, ds_fields(DIGEST) == Some((60_485, 5, 1, 20)), "DS");
     holds(&rt, zonemd_fields(ZONE_DIGEST) == zone_fields, "ZONEMD");
-    holds(
-        &rt,
-        digest_of_two_octets(b"\0\0\0\x01\x01\x01ab") == Some(*b"ab"),
-        "ZONEMD of two octets",
-    );
-}
-
-/// How many octets the DS data of these octets take.
-fn ds_size(octets: &[u8]) -> Option<usize> {
-    match Ds::parse_bytes(octets) {
-        Ok(data) => Some(data.built_bytes_size()),
-        Err(_) => None,
-    }
-}
-
-/// How many octets the ZONEMD data of these octets take.
-fn zonemd_size(octets: &[u8]) -> Option<usize> {
-    match ZoneMD::<[u8; 48]>::parse_bytes(octets) {
-        Ok(data) => Some(data.built_bytes_size()),
-        Err(_) => None,
-    }
-}
-
-#[test]
-fn digests_have_their_sizes(rt: HostRuntime) {
-    holds(&rt, ds_size(DIGEST) == Some(24), "DS");
-    holds(&rt, zonemd_size(ZONE_DIGEST) == Some(54), "ZONEMD");
 }

@@ -13,11 +13,6 @@ fn has_text(given: &str, wanted: &str) -> bool {
     text(given) == Some(wanted)
 }
 
-/// The code of an extended error of invalid data.
-fn code() -> u16 {
-    u16::from(ExtError::new(ExtErrorCode::INVALID_DATA, "").code)
-}
-
 /// One NUL at the end is left out (RFC 8914 section 2).
 #[test]
 fn extended_errors_have_their_texts(rt: HostRuntime) {
@@ -25,7 +20,6 @@ fn extended_errors_have_their_texts(rt: HostRuntime) {
         assert!(rt; has_text(given, wanted), "{given}");
     }
     holds(&rt, text("").is_none(), "no text");
-    holds(&rt, code() == 24, "RFC 8914 section 5.2");
 }
 
 /// Whether an extended error's code is kept for private use.
@@ -36,14 +30,6 @@ fn is_private(code: u16) -> bool {
 /// RFC 8914 section 5.2.
 #[test]
 fn private_codes_begin_at_49152(rt: HostRuntime) {
-    let rows = [
-        (0, false),
-        (27, false),
-        (49_151, false),
-        (49_152, true),
-        (65_535, true),
-    ];
-    for (code, wanted) in rows {
-        assert!(rt; is_private(code) == wanted, "{code}");
-    }
+    holds(&rt, !is_private(49_151), "49151");
+    holds(&rt, is_private(49_152), "49152");
 }

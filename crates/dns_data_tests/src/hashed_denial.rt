@@ -1,10 +1,10 @@
 //! NSEC3 and NSEC3PARAM data: their fields, and how they are made.
 
-use crate::security_calls::{are_same, holds, reads, refuses};
+use crate::security_calls::{holds, reads, refuses};
 use crate::security_data::{HASHED, PARAMETERS};
 use dns_nsec::{Nsec3, Nsec3Flags, Nsec3HashAlgorithm, Nsec3Param, TypeBitmaps};
 use dns_num::SizePrefixed;
-use dns_wire::{BuildBytes, ParseBytes, SplitBytes};
+use dns_wire::{ParseBytes, SplitBytes};
 
 /// The algorithm, the flags and the iterations of NSEC3 data.
 fn hashing(octets: &[u8]) -> Option<(u8, u8, u16)> {
@@ -30,14 +30,6 @@ fn hashed_octets(octets: &[u8]) -> Option<(&[u8], &[u8], &[u8])> {
     }
 }
 
-/// How many octets the NSEC3 data of these octets take.
-fn hashed_size(octets: &[u8]) -> Option<usize> {
-    match Nsec3::parse_bytes(octets) {
-        Ok(data) => Some(data.built_bytes_size()),
-        Err(_) => None,
-    }
-}
-
 /// The salt of RFC 5155 appendix A.
 const SALT: &[u8] = b"\xaa\xbb\xcc\xdd";
 
@@ -47,17 +39,6 @@ const NEXT_OWNER: &[u8] =
 
 /// The bitmap of NS, SOA, MX, RRSIG, DNSKEY and NSEC3PARAM.
 const APEX_TYPES: &[u8] = b"\0\x07\x22\x01\0\0\0\x02\x90";
-
-/// The record of RFC 5155 appendix A for the apex, as dnspython writes it.
-#[test]
-fn hashed_owners_have_their_fields(rt: HostRuntime) {
-    let wanted = Some((SALT, NEXT_OWNER, APEX_TYPES));
-    let none = Some((b"".as_slice(), b"".as_slice(), b"".as_slice()));
-    holds(&rt, hashing(HASHED) == Some((1, 1, 12)), "parameters");
-    holds(&rt, hashed_octets(HASHED) == wanted, "octets");
-    holds(&rt, hashed_octets(b"\x01\0\0\0\0\0") == none, "no octets");
-    holds(&rt, hashed_size(HASHED) == Some(39), "size");
-}
 
 /// Whether NSEC3 data of an opt-out with this salt, this hash and this bitmap are those of these octets.
 fn makes_hashed(salt: &[u8], next_owner: &[u8], bitmaps: &[u8], octets: &[u8]) -> bool {
@@ -78,12 +59,16 @@ fn makes_hashed(salt: &[u8], next_owner: &[u8], bitmaps: &[u8], octets: &[u8]) -
     }
 }
 
+/// The record of RFC 5155 appendix A for the apex, as dnspython writes it.
 #[test]
-fn hashed_owners_are_made(rt: HostRuntime) {
+fn hashed_owners_have_their_fields(rt: HostRuntime) {
+    let wanted = Some((SALT, NEXT_OWNER, APEX_TYPES));
+    holds(&rt, hashing(HASHED) == Some((1, 1, 12)), "parameters");
+    holds(&rt, hashed_octets(HASHED) == wanted, "octets");
     holds(
         &rt,
         makes_hashed(SALT, NEXT_OWNER, APEX_TYPES, HASHED),
-        "apex",
+        "made",
     );
 }
 
@@ -108,29 +93,6 @@ fn salt(octets: &[u8]) -> Option<(&[u8], &[u8])> {
     }
 }
 
-/// How many octets the NSEC3PARAM data of these octets take.
-fn parameters_size(octets: &[u8]) -> Option<usize> {
-    match Nsec3Param::parse_bytes(octets) {
-        Ok(data) => Some(data.built_bytes_size()),
-        Err(_) => None,
-    }
-}
-
-#[test]
-fn parameters_have_their_fields(rt: HostRuntime) {
-    let opt_out = Some((1, 1, true, 2560));
-    let rest: &[u8] = b"*";
-    let salted = salt(b"\x01\0\0\x0c\x04\xaa\xbb\xcc\xdd*");
-    holds(
-        &rt,
-        parameters(PARAMETERS) == Some((1, 0, false, 12)),
-        "fields",
-    );
-    holds(&rt, parameters(b"\x01\x01\x0a\0\0") == opt_out, "opt-out");
-    holds(&rt, salted == Some((SALT, rest)), "salt");
-    holds(&rt, parameters_size(PARAMETERS) == Some(9), "size");
-}
-
 /// NSEC3PARAM data with this salt.
 fn made_parameters(salt: &[u8]) -> Option<Nsec3Param<'_>> {
     if salt.len() > 255 {
@@ -138,14 +100,6 @@ fn made_parameters(salt: &[u8]) -> Option<Nsec3Param<'_>> {
     }
     let (flags, salt) = (Nsec3Flags::default(), SizePrefixed::new(salt));
     Some(Nsec3Param::new(Nsec3HashAlgorithm::SHA1, flags, 12, salt))
-}
-
-/// Whether NSEC3PARAM data with this salt are those of these octets.
-fn makes_parameters<'a>(salt: &'a [u8], octets: &'a [u8]) -> bool {
-    match (made_parameters(salt), Nsec3Param::parse_bytes(octets)) {
-        (Some(made), Ok(data)) => are_same(&data, &made),
-        _ => false,
-    }
 }
 
 /// Whether NSEC3PARAM data with this salt are those of the contents after their first octet.
@@ -157,9 +111,18 @@ fn reads_parameters<'a>(salt: &'a [u8], contents: &'a [u8]) -> bool {
 }
 
 #[test]
-fn parameters_are_made(rt: HostRuntime) {
+fn parameters_have_their_fields(rt: HostRuntime) {
+    let opt_out = Some((1, 1, true, 2560));
+    let rest: &[u8] = b"*";
     let contents = b".\x01\0\0\x0c\x04\xaa\xbb\xcc\xdd";
-    holds(&rt, makes_parameters(SALT, PARAMETERS), "made");
+    let salted = salt(b"\x01\0\0\x0c\x04\xaa\xbb\xcc\xdd*");
+    holds(
+        &rt,
+        parameters(PARAMETERS) == Some((1, 0, false, 12)),
+        "fields",
+    );
+    holds(&rt, parameters(b"\x01\x01\x0a\0\0") == opt_out, "opt-out");
+    holds(&rt, salted == Some((SALT, rest)), "salt");
     holds(&rt, reads_parameters(SALT, contents), "in a message");
 }
 

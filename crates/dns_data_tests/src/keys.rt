@@ -3,7 +3,7 @@
 use crate::security_calls::holds;
 use crate::security_data::KEY;
 use dns_sec::DNSKey;
-use dns_wire::{BuildBytes, ParseBytes};
+use dns_wire::ParseBytes;
 
 /// The flags, the protocol, the algorithm and the size of the key of DNSKEY data.
 fn key_fields(octets: &[u8]) -> Option<(u16, u8, u8, usize)> {
@@ -18,16 +18,7 @@ fn key_fields(octets: &[u8]) -> Option<(u16, u8, u8, usize)> {
     }
 }
 
-/// How many octets the DNSKEY data of these octets take.
-fn key_size(octets: &[u8]) -> Option<usize> {
-    match DNSKey::parse_bytes(octets) {
-        Ok(data) => Some(data.built_bytes_size()),
-        Err(_) => None,
-    }
-}
-
 #[test]
 fn keys_have_their_fields(rt: HostRuntime) {
     holds(&rt, key_fields(KEY) == Some((256, 3, 5, 21)), "fields");
-    holds(&rt, key_size(KEY) == Some(25), "size");
 }

@@ -1,62 +1,11 @@
-//! NS, CNAME, SOA, PTR, MX and RP with names changed, and the other fields unchanged.
-
-ghost use Rattle.std.specs.Prelude.{◌<◌};
+//! SOA and MX with names changed, and the other fields unchanged.
 
 use crate::basic_calls::read;
-use dns_basic::{CName, Mx, Ns, Ptr, Rp, Soa};
+use dns_basic::{Mx, Soa};
 use dns_name::{Name, NameBuf};
 
 /// `ns.Example.`
 const SERVER: &[u8] = b"\x02ns\x07Example\0";
-
-/// Whether a view of the name is the octets, and the size of the name, in their place in NS data.
-fn mapped_server(octets: &[u8]) -> Option<(bool, usize)> {
-    match read::<Ns<NameBuf>>(octets) {
-        Some(data) => {
-            let view = data.map_name_by_ref(|name| name.as_name());
-            Some((
-                view.server.as_bytes() == octets,
-                view.map_name(|name| name.len()).server,
-            ))
-        }
-        None => None,
-    }
-}
-
-/// Whether a view of the name is the octets, and the size of the name, in their place in CNAME data.
-fn mapped_alias(octets: &[u8]) -> Option<(bool, usize)> {
-    match read::<CName<NameBuf>>(octets) {
-        Some(data) => {
-            let view = data.map_name_by_ref(|name| name.as_name());
-            Some((
-                view.name.as_bytes() == octets,
-                view.map_name(|name| name.len()).name,
-            ))
-        }
-        None => None,
-    }
-}
-
-/// Whether a view of the name is the octets, and the size of the name, in their place in PTR data.
-fn mapped_pointer(octets: &[u8]) -> Option<(bool, usize)> {
-    match read::<Ptr<NameBuf>>(octets) {
-        Some(data) => {
-            let view = data.map_name_by_ref(|name| name.as_name());
-            Some((
-                view.name.as_bytes() == octets,
-                view.map_name(|name| name.len()).name,
-            ))
-        }
-        None => None,
-    }
-}
-
-#[test]
-fn one_name(rt: HostRuntime) {
-    assert!(rt; mapped_server(SERVER) == Some((true, 12)), "NS");
-    assert!(rt; mapped_alias(SERVER) == Some((true, 12)), "CNAME");
-    assert!(rt; mapped_pointer(SERVER) == Some((true, 12)), "PTR");
-}
 
 /// The preference, and the size of the name in its place in MX data.
 fn size_of_exchange(octets: &[u8]) -> Option<(u16, usize)> {
@@ -85,48 +34,6 @@ fn preference_and_one_name(rt: HostRuntime) {
     let octets = b"\0\x0a\x02ns\x07Example\0";
     assert!(rt; size_of_exchange(octets) == Some((10, 12)), "name");
     assert!(rt; views_exchange(octets, 10, SERVER), "view");
-}
-
-/// The number of the call and the size of the name, of both names of RP data. A third call would break the
-/// function's requirement.
-fn count_persons(octets: &[u8]) -> Option<[(u8, usize); 2]> {
-    let person = read::<Rp<Name<'_>>>(octets)?;
-    let mut count = 0u8;
-    let counted = person.map_names(
-        |name|
-            requires { count < 2 }
-        {
-            count += 1;
-            (count, name.len())
-        },
-    );
-    Some([counted.mailbox, counted.texts])
-}
-
-/// The same of references to the names.
-fn count_persons_by_ref(octets: &[u8]) -> Option<[(u8, usize); 2]> {
-    let person = read::<Rp<Name<'_>>>(octets)?;
-    let mut count = 0u8;
-    let counted = person.map_names_by_ref(
-        |name|
-            requires { count < 2 }
-        {
-            count += 1;
-            (count, name.len())
-        },
-    );
-    Some([counted.mailbox, counted.texts])
-}
-
-/// The function is called on the first name first, and each time sees what its call before left.
-#[test]
-fn two_names_in_order(rt: HostRuntime) {
-    let octets = b"\x01a\0\x02bc\0";
-    assert!(rt; count_persons(octets) == Some([(1, 3), (2, 4)]), "names");
-    assert!(rt;
-        count_persons_by_ref(octets) == Some([(1, 3), (2, 4)]),
-        "references"
-    );
 }
 
 /// The number of the call and the size of the name, of both names of SOA data, and its numbers.

@@ -1,11 +1,10 @@
-//! A, HINFO, TXT, SRV, AAAA and DNAME: read in each form, written where there is just room, and refused where octets
-//! are missing or left over.
+//! A, HINFO, TXT, SRV, AAAA and DNAME: read and written, and pointers refused in SRV and DNAME.
 
 use crate::basic_calls::{end_at, forms, forms_at, holds_octets, octets_left, read, writes_both};
 use dns_name::Name;
 use dns_plain::{A, Aaaa, DName, HInfo, Srv, Txt};
 use dns_record::{ParseRecordData, RType};
-use dns_wire::{BuildBytes, ParseMessageBytes, SplitMessageBytes};
+use dns_wire::{BuildBytes, ParseMessageBytes};
 
 /// Whether the octets are data in each form: all of them, as of the type and as of another, and the same from the
 /// second octet of a message on.
@@ -23,29 +22,13 @@ fn forms_of<'a, D: ParseMessageBytes<'a> + ParseRecordData<'a> + BuildBytes>(
     ]
 }
 
-/// The forms in which the contents except for the first octet are A, TXT or AAAA data, or others.
+/// The forms in which the contents except for the first octet are SRV or DNAME data.
 fn all_forms(rtype: RType, contents: &[u8]) -> Forms {
     let octets = contents.get(1..).unwrap_or(b"");
     match rtype {
-        RType::A => forms_of::<A>(rtype, contents, octets),
-        RType::TXT => forms_of::<Txt<'_>>(rtype, contents, octets),
-        RType::AAAA => forms_of::<Aaaa>(rtype, contents, octets),
-        _ => other_forms(rtype, contents, octets),
-    }
-}
-
-/// The forms in which the contents except for the first octet are HINFO, SRV or DNAME data.
-fn other_forms(rtype: RType, contents: &[u8], octets: &[u8]) -> Forms {
-    match rtype {
-        RType::HINFO => forms_of::<HInfo<'_>>(rtype, contents, octets),
         RType::SRV => forms_of::<Srv<'_>>(rtype, contents, octets),
-        _ => subtree_forms(rtype, contents, octets),
+        _ => forms_of::<DName<'_>>(rtype, contents, octets),
     }
-}
-
-/// The forms in which the contents except for the first octet are DNAME data.
-fn subtree_forms(rtype: RType, contents: &[u8], octets: &[u8]) -> Forms {
-    forms_of::<DName<'_>>(rtype, contents, octets)
 }
 
 /// Data of the type and of no other.
@@ -53,39 +36,6 @@ const READ: Forms = [[true, true, false]; 2];
 
 /// No data.
 const REFUSED: Forms = [[false; 3]; 2];
-
-/// Whether all but the first octet and the last one are read as data, and not without the octet before the last,
-/// with the last, with no octet, and after the end.
-fn reads_just(rtype: RType, longer: &[u8]) -> bool {
-    let [whole @ .., _] = longer else {
-        return false;
-    };
-    let [shorter @ .., _] = whole else {
-        return false;
-    };
-    all_forms(rtype, whole) == READ
-        && all_forms(rtype, shorter) == REFUSED
-        && all_forms(rtype, longer) == REFUSED
-        && all_forms(rtype, b".") == REFUSED
-        && all_forms(rtype, b"") == REFUSED
-}
-
-/// Data of each type, after one octet and before another.
-const BETWEEN: [(RType, &[u8]); 6] = [
-    (RType::A, b".\xc0\0\x02A*"),
-    (RType::HINFO, b".\x01c\x02os*"),
-    (RType::TXT, b".\x01a\0\x02bc*"),
-    (RType::SRV, b".\0\x01\0\x02\0\x03\x01h\0*"),
-    (RType::AAAA, b".0123456789abcdef*"),
-    (RType::DNAME, b".\x01t\0*"),
-];
-
-#[test]
-fn just_the_data_are_read(rt: HostRuntime) {
-    for (rtype, longer) in BETWEEN {
-        assert!(rt; reads_just(rtype, longer), "{rtype}");
-    }
-}
 
 /// The pointers lead to the root at the first octet after the header.
 #[test]
@@ -99,70 +49,11 @@ fn pointers_are_refused(rt: HostRuntime) {
     assert!(rt; all_forms(RType::SRV, service) == REFUSED, "pointer in SRV");
 }
 
-/// How many octets are left after data, and where data end in a message that has one octet before.
-type LeftAndEnd = (Option<usize>, Option<usize>);
-
-/// The octets left after data at the front, and the end of those in a message, where both are written as the octets.
-fn left_and_end<'a, D: SplitMessageBytes<'a> + BuildBytes>(
-    contents: &'a [u8],
-    octets: &[u8],
-) -> LeftAndEnd {
-    let after = contents.get(1..).unwrap_or(b"");
-    (octets_left::<D>(after), end_at::<D>(contents, 1, octets))
-}
-
-/// The same of A and AAAA data, and of all others.
-fn left_and_end_of(rtype: RType, contents: &[u8], octets: &[u8]) -> LeftAndEnd {
-    match rtype {
-        RType::A => left_and_end::<A>(contents, octets),
-        RType::AAAA => left_and_end::<Aaaa>(contents, octets),
-        _ => other_left_and_end(rtype, contents, octets),
-    }
-}
-
-/// The same of HINFO, SRV and DNAME data.
-fn other_left_and_end(rtype: RType, contents: &[u8], octets: &[u8]) -> LeftAndEnd {
-    match rtype {
-        RType::HINFO => left_and_end::<HInfo<'_>>(contents, octets),
-        RType::SRV => left_and_end::<Srv<'_>>(contents, octets),
-        _ => left_and_end_of_subtree(contents, octets),
-    }
-}
-
-/// The same of DNAME data.
-fn left_and_end_of_subtree(contents: &[u8], octets: &[u8]) -> LeftAndEnd {
-    left_and_end::<DName<'_>>(contents, octets)
-}
-
-/// Data with one octet before and two after, the data alone, and where they end.
-const FOLLOWED: [(RType, &[u8], &[u8], usize); 5] = [
-    (RType::A, b".\xc0\0\x02A**", b"\xc0\0\x02A", 5),
-    (RType::HINFO, b".\x01c\x02os**", b"\x01c\x02os", 6),
-    (
-        RType::SRV,
-        b".\0\x01\0\x02\0\x03\x01h\0**",
-        b"\0\x01\0\x02\0\x03\x01h\0",
-        10,
-    ),
-    (RType::AAAA, b".0123456789abcdef**", b"0123456789abcdef", 17),
-    (RType::DNAME, b".\x01t\0**", b"\x01t\0", 4),
-];
-
 #[test]
 fn octets_after_data_are_left(rt: HostRuntime) {
-    for (rtype, contents, octets, end) in FOLLOWED {
-        let wanted = (Some(2), Some(end));
-        assert!(rt;
-            left_and_end_of(rtype, contents, octets) == wanted,
-            "{rtype}"
-        );
-    }
-}
-
-#[test]
-fn three_octets_are_no_address(rt: HostRuntime) {
-    let answer = left_and_end_of(RType::A, b".\xc0\0\x02", b"\xc0\0\x02");
-    assert!(rt; answer == (None, None), "A");
+    assert!(rt; octets_left::<DName<'_>>(b"\x01t\0**") == Some(2), "left");
+    let end = end_at::<DName<'_>>(b".\x01t\0**", 1, b"\x01t\0");
+    assert!(rt; end == Some(4), "end");
 }
 
 // Data as `to_wire` of dnspython 2.3.0 wrote them.
@@ -287,7 +178,5 @@ fn data_are_written(rt: HostRuntime) {
 
 #[test]
 fn octets_are_borrowed(rt: HostRuntime) {
-    assert!(rt; holds_octets::<A>(ADDRESS), "A");
-    assert!(rt; holds_octets::<Aaaa>(LONG_ADDRESS), "AAAA");
     assert!(rt; holds_octets::<Txt<'_>>(TEXTS), "TXT");
 }

@@ -99,59 +99,40 @@ pub(crate) fn refuses<'a, T: SplitMessageBytes<'a>>(contents: &'a [u8]) -> bool 
     T::split_bytes(octets).is_err() && T::split_message_bytes(contents, 1).is_err()
 }
 
-/// Whether a buffer of 64 octets, to which the value is written from the place on, ends with these octets; no
-/// answer where there is no room.
-pub(crate) fn built<T: BuildBytes>(value: &T, octets: &[u8], start: usize) -> Option<bool> {
-    let mut buffer = [0; 64];
-    match value.build_at(&mut buffer, start.min(64)) {
-        Ok(end) => Some(end == 64 && buffer.ends_with(octets)),
-        Err(_) => None,
-    }
-}
-
-/// The same in a message, where no place of a name is kept.
-fn built_in_message<T: BuildInMessage>(value: &T, octets: &[u8], start: usize) -> Option<bool> {
-    let mut buffer = [0; 64];
-    let mut compressor = NameCompressor::new();
-    match value.build_in_message(&mut buffer, start.min(64), &mut compressor) {
-        Ok(end) => { Some(end == 64 && buffer.ends_with(octets) && compressor.places().is_empty()) }
-        Err(_) => None,
-    }
-}
-
-/// The same in canonical form.
-fn built_canonical<D: CanonicalRecordData>(data: &D, octets: &[u8], start: usize) -> Option<bool> {
-    let mut buffer = [0; 64];
-    match data.build_canonical_at(&mut buffer, start.min(64)) {
-        Ok(end) => Some(end == 64 && buffer.ends_with(octets)),
-        Err(_) => None,
-    }
-}
-
 /// The place of a buffer of 64 octets from which on there is just room for these.
 fn last_place(octets: &[u8]) -> usize {
     64usize.saturating_sub(octets.len())
 }
 
-/// Whether the value is written as these octets where there is just room for them, and refused one octet later.
+/// Whether the value is written as these octets where there is just room for them.
 pub(crate) fn writes<T: BuildBytes>(value: &T, octets: &[u8]) -> bool {
     let start = last_place(octets);
-    built(value, octets, start) == Some(true)
-        && built(value, octets, start.saturating_add(1)).is_none()
+    let mut buffer = [0; 64];
+    match value.build_at(&mut buffer, start.min(64)) {
+        Ok(end) => end == 64 && buffer.ends_with(octets),
+        Err(_) => false,
+    }
 }
 
-/// The same in a message.
+/// The same in a message, where no place of a name is kept.
 pub(crate) fn writes_in_message<T: BuildInMessage>(value: &T, octets: &[u8]) -> bool {
     let start = last_place(octets);
-    built_in_message(value, octets, start) == Some(true)
-        && built_in_message(value, octets, start.saturating_add(1)).is_none()
+    let mut buffer = [0; 64];
+    let mut compressor = NameCompressor::new();
+    match value.build_in_message(&mut buffer, start.min(64), &mut compressor) {
+        Ok(end) => end == 64 && buffer.ends_with(octets) && compressor.places().is_empty(),
+        Err(_) => false,
+    }
 }
 
 /// The same in canonical form.
 fn writes_canonical<D: CanonicalRecordData>(data: &D, octets: &[u8]) -> bool {
     let start = last_place(octets);
-    built_canonical(data, octets, start) == Some(true)
-        && built_canonical(data, octets, start.saturating_add(1)).is_none()
+    let mut buffer = [0; 64];
+    match data.build_canonical_at(&mut buffer, start.min(64)) {
+        Ok(end) => end == 64 && buffer.ends_with(octets),
+        Err(_) => false,
+    }
 }
 
 /// Whether data of these octets are written as them, and in canonical form as these.

@@ -1,10 +1,10 @@
 //! Flags of keys, of hashed owners and of EDNS: their bits and their octets.
 
-use crate::security_calls::{are_same, holds, reads, writes, writes_in_message};
+use crate::security_calls::{holds, reads, writes, writes_in_message};
 use dns_edns::EdnsFlags;
 use dns_nsec::Nsec3Flags;
 use dns_sec::DNSKeyFlags;
-use dns_wire::{BuildBytes, ParseBytes};
+use dns_wire::ParseBytes;
 
 /// These bits of flags, with the zone key and the secure entry point as given.
 fn changed_key_flags(bits: u16, zone_key: bool, entry_point: bool) -> Option<u16> {
@@ -20,24 +20,6 @@ fn changed_key_flags(bits: u16, zone_key: bool, entry_point: bool) -> Option<u16
     }
 }
 
-/// 256 and 257 are the flags of the keys in RFC 4034 section 2.3 and RFC 3757 section 2.
-#[test]
-fn key_flags_are_changed(rt: HostRuntime) {
-    let rows = [
-        (0, true, false, 256),
-        (0, true, true, 257),
-        (257, false, true, 1),
-        (257, true, false, 256),
-        (0xffff, false, false, 0xfefe),
-    ];
-    for (bits, zone_key, entry_point, wanted) in rows {
-        assert!(rt;
-            changed_key_flags(bits, zone_key, entry_point) == Some(wanted),
-            "{wanted}"
-        );
-    }
-}
-
 /// Whether the flags of these octets are those of a key of a zone, and of a secure entry point.
 fn key_uses(octets: &[u8]) -> Option<(bool, bool)> {
     match DNSKeyFlags::parse_bytes(octets) {
@@ -46,24 +28,14 @@ fn key_uses(octets: &[u8]) -> Option<(bool, bool)> {
     }
 }
 
+/// 256 and 257 are the flags of the keys in RFC 4034 section 2.3 and RFC 3757 section 2.
 #[test]
-fn key_flags_have_uses(rt: HostRuntime) {
-    holds(&rt, key_uses(b"\x01\0") == Some((true, false)), "256");
-    holds(&rt, key_uses(b"\x01\x01") == Some((true, true)), "257");
-    holds(&rt, key_uses(b"\xfe\xfe") == Some((false, false)), "others");
-}
-
-/// Whether the flags of a secure entry point stand as these octets.
-fn is_entry_point(contents: &[u8], octets: &[u8]) -> bool {
-    let flags = DNSKeyFlags::default()
-        .set_zone_key(true)
-        .set_secure_entry_point(true);
-    reads(contents, &flags) && writes(&flags, octets) && writes_in_message(&flags, octets)
-}
-
-#[test]
-fn key_flags_are_two_octets(rt: HostRuntime) {
-    holds(&rt, is_entry_point(b".\x01\x01", b"\x01\x01"), "257");
+fn key_flags_are_changed(rt: HostRuntime) {
+    let of_zone = changed_key_flags(0, true, false);
+    let of_entry = changed_key_flags(0, true, true);
+    holds(&rt, of_zone == Some(256), "256");
+    holds(&rt, of_entry == Some(257), "257");
+    holds(&rt, key_uses(b"\x01\0") == Some((true, false)), "uses");
 }
 
 /// The bits of the flags of this octet, with the opt-out as given.
@@ -86,32 +58,7 @@ fn opts_out(octet: &[u8]) -> Option<bool> {
 #[test]
 fn owner_flags_are_changed(rt: HostRuntime) {
     holds(&rt, changed_owner_flags(b"\x80", true) == Some(0x81), "set");
-    holds(
-        &rt,
-        changed_owner_flags(b"\x81", false) == Some(0x80),
-        "reset",
-    );
     holds(&rt, opts_out(b"\x01") == Some(true), "opt-out");
-    holds(&rt, opts_out(b"\x80") == Some(false), "another bit");
-}
-
-/// Whether the flags of the opt-out stand as these octets.
-fn is_opt_out(contents: &[u8], octets: &[u8]) -> bool {
-    let flags = Nsec3Flags::default().set_optout(true);
-    reads(contents, &flags) && writes(&flags, octets) && writes_in_message(&flags, octets)
-}
-
-#[test]
-fn owner_flags_are_one_octet(rt: HostRuntime) {
-    holds(&rt, is_opt_out(b".\x01", b"\x01"), "opt-out");
-}
-
-/// The bits of the flags of these octets, with the bit DO as given.
-fn changed_edns_flags(octets: &[u8], dnssec_ok: bool) -> Option<u16> {
-    match EdnsFlags::parse_bytes(octets) {
-        Ok(flags) => Some(flags.set_dnssec_ok(dnssec_ok).bits()),
-        Err(_) => None,
-    }
 }
 
 /// Whether the bit DO is set in the flags of these octets.
@@ -122,32 +69,17 @@ fn is_dnssec_ok(octets: &[u8]) -> Option<bool> {
     }
 }
 
-/// RFC 3225 section 3: the bit DO is the first of the 16.
-#[test]
-fn edns_flags_are_changed(rt: HostRuntime) {
-    holds(
-        &rt,
-        changed_edns_flags(b"\0\0", true) == Some(0x8000),
-        "set",
-    );
-    holds(
-        &rt,
-        changed_edns_flags(b"\xff\xff", false) == Some(0x7fff),
-        "reset",
-    );
-    holds(&rt, is_dnssec_ok(b"\x80\0") == Some(true), "DO");
-    holds(&rt, is_dnssec_ok(b"\x7f\xff") == Some(false), "other bits");
-}
-
 /// Whether the flags with the bit DO stand as these octets.
 fn is_do(contents: &[u8], octets: &[u8]) -> bool {
     let flags = EdnsFlags::default().set_dnssec_ok(true);
     reads(contents, &flags) && writes(&flags, octets) && writes_in_message(&flags, octets)
 }
 
+/// RFC 3225 section 3: the bit DO is the first of the 16.
 #[test]
 fn edns_flags_are_two_octets(rt: HostRuntime) {
     holds(&rt, is_do(b".\x80\0", b"\x80\0"), "DO");
+    holds(&rt, is_dnssec_ok(b"\x80\0") == Some(true), "is DO");
 }
 
 /// The bits of the flags by default.
@@ -159,17 +91,7 @@ fn default_bits() -> (u16, u8, u16) {
     )
 }
 
-/// Whether flags that were set and reset are those by default, and feed a hasher alike.
-fn are_reset() -> bool {
-    let key = DNSKeyFlags::default();
-    let owner = Nsec3Flags::default();
-    are_same(&key, &key.set_zone_key(true).set_zone_key(false))
-        && are_same(&owner, &owner.set_optout(true).set_optout(false))
-}
-
 #[test]
 fn flags_have_no_bit_by_default(rt: HostRuntime) {
     holds(&rt, default_bits() == (0, 0, 0), "default");
-    holds(&rt, are_reset(), "reset");
-    holds(&rt, DNSKeyFlags::default().built_bytes_size() == 2, "size");
 }

@@ -6,9 +6,8 @@ use crate::assertions::holds;
 use crate::edns_record::{ANSWER, Edns, Fields, QUERY, fields_of, read_edns};
 use crate::record_data::{Data, read};
 use crate::written::writes;
-use dns_name::{Name, NameBuf, RevNameBuf};
+use dns_name::{NameBuf, RevNameBuf};
 use dns_num::U16;
-use dns_rdata::{RecordData, UnknownRecordData};
 use dns_record::{RClass, RType, Record, TTL};
 use dns_wire::ParseBytes;
 
@@ -33,29 +32,7 @@ fn form_fields(octets: &[u8]) -> Option<(u16, u16, u32)> {
     }
 }
 
-/// Whether the data of that record are OPT data of these octets.
-fn has_form_data(octets: &[u8], wanted: &[u8]) -> bool {
-    match read_edns(octets) {
-        Some(edns) => match Form::from(edns).rdata {
-            RecordData::Opt(options) => writes(&options, wanted),
-            _ => false,
-        },
-        None => false,
-    }
-}
-
-/// Whether the EDNS record is the same after it was a record.
-fn comes_back(octets: &[u8]) -> bool {
-    match read_edns(octets) {
-        Some(edns) => match Edns::try_from(Form::from(edns)) {
-            Ok(back) => writes(&back, octets),
-            Err(_) => false,
-        },
-        None => false,
-    }
-}
-
-/// The same for a record whose owner is kept from the root on.
+/// Whether the EDNS record is the same after it was a record whose owner is kept from the root on.
 fn comes_back_reversed(octets: &[u8]) -> bool {
     match read_edns(octets) {
         Some(edns) => match Edns::try_from(RevForm::from(edns)) {
@@ -66,25 +43,13 @@ fn comes_back_reversed(octets: &[u8]) -> bool {
     }
 }
 
-/// Whether the root owns the record with an owner kept from the root on.
-fn is_owned_by_root_reversed(octets: &[u8]) -> bool {
-    match read_edns(octets) {
-        Some(edns) => RevForm::from(edns).rname.as_revname().is_root(),
-        None => false,
-    }
-}
-
 #[test]
 fn edns_records_are_records_and_back(rt: HostRuntime) {
     for octets in [QUERY, ANSWER] {
-        assert!(rt; comes_back(octets), "from the first label on");
         assert!(rt; comes_back_reversed(octets), "from the root on");
-        assert!(rt; is_owned_by_root_reversed(octets), "the root");
     }
     let fields = form_fields(ANSWER);
     holds(&rt, fields == Some((41, 4096, 16_875_520)), "the answer");
-    let error = has_form_data(ANSWER, b"\0\x0f\0\x03\0\0A");
-    holds(&rt, error, "the data of the answer");
 }
 
 /// The fields of the EDNS record that a record with this owner, type and data is, and of class 1232.
@@ -109,48 +74,11 @@ fn tried_data(owner: &[u8], rtype: u16, number: u16, octets: &[u8]) -> Option<Fi
     }
 }
 
-/// The same with unknown octets under a number.
-fn tried_unknown(owner: &[u8], rtype: u16, number: u16, octets: &[u8]) -> Option<Fields> {
-    let unknown = UnknownRecordData { octets };
-    tried(
-        owner,
-        rtype,
-        RecordData::Unknown(RType::from(number), unknown),
-    )
-}
-
 #[test]
 fn other_records_are_no_edns_records(rt: HostRuntime) {
     let options = b"\0\x0a\0\0";
     let owned = tried_data(b"\x01a\0", 41, 41, options);
     holds(&rt, owned.is_none(), "an owner");
-    let typed = tried_data(b"\0", 1, 41, options);
-    holds(&rt, typed.is_none(), "another type");
-    let address = tried_data(b"\0", 41, 1, b"\0\0\0\0");
-    holds(&rt, address.is_none(), "an address");
-    let cut = tried_unknown(b"\0", 41, 41, b"\0\x0a\0");
-    holds(&rt, cut.is_none(), "no options");
-    let other = tried_unknown(b"\0", 41, 1, options);
-    holds(&rt, other.is_none(), "unknown octets of another type");
-    let unknown = tried_unknown(b"\0", 41, 41, options);
-    holds(&rt, unknown == Some((1232, 0, 0, 0)), "unknown options");
     let known = tried_data(b"\0", 41, 41, options);
     holds(&rt, known == Some((1232, 0, 0, 0)), "options");
-}
-
-/// Whether the EDNS record is none as a record with this owner, kept from the root on.
-fn is_refused_reversed(octets: &[u8], owner: &[u8]) -> bool {
-    match (read_edns(octets), Name::parse_bytes(owner)) {
-        (Some(edns), Ok(owner)) => {
-            let mut form = RevForm::from(edns);
-            form.rname = owner.to_revname();
-            Edns::try_from(form).is_err()
-        }
-        _ => false,
-    }
-}
-
-#[test]
-fn other_owners_are_refused_from_the_root_on(rt: HostRuntime) {
-    holds(&rt, is_refused_reversed(QUERY, b"\x01a\0"), "an owner");
 }

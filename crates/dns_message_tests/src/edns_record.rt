@@ -3,10 +3,10 @@
 //! dnspython 2.3.0 wrote the octets, in a query with a cookie and in an answer with the response code 16 and an extended error.
 
 use crate::assertions::holds;
-use crate::written::{writes, writes_in_message};
+use crate::written::writes;
 use dns_edns::Opt;
 use dns_rdata::EdnsRecord;
-use dns_wire::{AsBytes, BuildBytes, ParseBytes, ParseMessageBytes, SplitBytes, SplitMessageBytes};
+use dns_wire::{AsBytes, BuildBytes, ParseBytes};
 
 /// A query with a cookie.
 pub(crate) const QUERY: &[u8] =
@@ -14,9 +14,6 @@ pub(crate) const QUERY: &[u8] =
 
 /// An answer with an extended error.
 pub(crate) const ANSWER: &[u8] = b"\0\0\x29\x10\0\x01\x01\x80\0\0\x07\0\x0f\0\x03\0\0A";
-
-/// The answer among other octets.
-const CONTENTS: &[u8] = b"--\0\0\x29\x10\0\x01\x01\x80\0\0\x07\0\x0f\0\x03\0\0A.";
 
 /// An EDNS record with options.
 pub(crate) type Edns<'a> = EdnsRecord<Opt<'a>>;
@@ -58,14 +55,6 @@ fn has_options(octets: &[u8], wanted: &[u8]) -> bool {
     }
 }
 
-/// Whether the flag for DNSSEC is set.
-fn is_dnssec_ok(octets: &[u8]) -> bool {
-    match read_edns(octets) {
-        Some(edns) => edns.flags.is_dnssec_ok(),
-        None => false,
-    }
-}
-
 #[test]
 fn fields_and_options_are_read(rt: HostRuntime) {
     holds(&rt, fields(ANSWER) == Some(ANSWER_FIELDS), "the answer");
@@ -77,51 +66,12 @@ fn fields_and_options_are_read(rt: HostRuntime) {
     );
     let cookie = b"\0\x0a\0\x08\x24\x64\xc4\xab\xcf\x10\xc9\x57";
     holds(&rt, has_options(QUERY, cookie), "a cookie");
-    holds(&rt, is_dnssec_ok(QUERY), "DNSSEC");
 }
 
-/// The fields that are split from the octets, and how many octets are left.
-fn split(octets: &[u8]) -> Option<(Fields, usize)> {
-    match Edns::split_bytes(octets) {
-        Ok((edns, rest)) => Some((fields_of(&edns), rest.len())),
-        Err(_) => None,
-    }
-}
-
-/// The fields that are split from this place on, and where the record ends.
-fn split_at(contents: &[u8], place: usize) -> Option<(Fields, usize)> {
-    match Edns::split_message_bytes(contents, place) {
-        Ok((edns, end)) => Some((fields_of(&edns), end)),
-        Err(_) => None,
-    }
-}
-
-/// The fields of the record that all octets from this place on are.
-fn parsed_at(contents: &[u8], place: usize) -> Option<Fields> {
-    match Edns::parse_message_bytes(contents, place) {
-        Ok(edns) => Some(fields_of(&edns)),
-        Err(_) => None,
-    }
-}
-
-#[test]
-fn records_are_split_and_read_in_messages(rt: HostRuntime) {
-    let (whole, after) = (CONTENTS.split_at(20).0, CONTENTS.split_at(2).1);
-    holds(&rt, split(after) == Some((ANSWER_FIELDS, 1)), "the start");
-    holds(
-        &rt,
-        split_at(CONTENTS, 2) == Some((ANSWER_FIELDS, 20)),
-        "the middle",
-    );
-    holds(&rt, parsed_at(CONTENTS, 2).is_none(), "an octet after it");
-    holds(&rt, parsed_at(whole, 2) == Some(ANSWER_FIELDS), "the end");
-    holds(&rt, parsed_at(CONTENTS, 22).is_none(), "after the end");
-}
-
-/// Whether the answer, cut to this many octets, begins with an EDNS record.
-fn is_split(size: usize) -> bool {
+/// Whether the answer, cut to this many octets, is an EDNS record.
+fn is_read(size: usize) -> bool {
     match ANSWER.get(..size) {
-        Some(start) => split(start).is_some(),
+        Some(start) => fields(start).is_some(),
         None => true,
     }
 }
@@ -129,13 +79,8 @@ fn is_split(size: usize) -> bool {
 #[test]
 fn an_answer_cut_short_is_refused(rt: HostRuntime) {
     for size in 0..18 {
-        assert!(rt; !is_split(size), "{size}");
+        assert!(rt; !is_read(size), "{size}");
     }
-}
-
-/// Whether the octets are an EDNS record with any data.
-fn is_read_with_any_data(octets: &[u8]) -> bool {
-    EdnsRecord::<&[u8]>::parse_bytes(octets).is_ok()
 }
 
 #[test]
@@ -148,13 +93,12 @@ fn other_records_are_refused(rt: HostRuntime) {
     holds(&rt, fields(pointer).is_none(), "a pointer");
     let no_options = b"\0\0\x29\x10\0\x01\x01\x80\0\0\x01.";
     holds(&rt, fields(no_options).is_none(), "no options");
-    holds(&rt, is_read_with_any_data(no_options), "any data");
 }
 
-/// Whether the record is written as it was read, in a message too.
+/// Whether the record is written as it was read.
 fn is_written(octets: &[u8]) -> bool {
     match read_edns(octets) {
-        Some(edns) => writes(&edns, octets) && writes_in_message(&edns, octets),
+        Some(edns) => writes(&edns, octets),
         None => false,
     }
 }
@@ -172,7 +116,6 @@ fn records_are_written_as_read(rt: HostRuntime) {
     holds(&rt, is_written(QUERY), "the query");
     holds(&rt, is_written(ANSWER), "the answer");
     holds(&rt, size(QUERY) == Some(23), "the size of the query");
-    holds(&rt, size(ANSWER) == Some(18), "the size of the answer");
 }
 
 /// The fields, and the number of octets of the options in place of these.
@@ -207,14 +150,6 @@ fn has_as_many(octets: &[u8], others: &[u8]) -> Option<bool> {
     }
 }
 
-/// Whether the records are equal.
-fn are_equal(octets: &[u8], others: &[u8]) -> Option<bool> {
-    match (read_edns(octets), read_edns(others)) {
-        (Some(first), Some(second)) => Some(first == second),
-        _ => None,
-    }
-}
-
 #[test]
 fn data_are_changed(rt: HostRuntime) {
     holds(&rt, sizes(ANSWER) == Some((ANSWER_FIELDS, 7)), "sizes");
@@ -225,24 +160,8 @@ fn data_are_changed(rt: HostRuntime) {
 /// The answer with another code of the error.
 const OTHER_ERROR: &[u8] = b"\0\0\x29\x10\0\x01\x01\x80\0\0\x07\0\x0f\0\x03\0\0B";
 
-/// The fields of the query with the options of the answer.
-const QUERY_WITH_ERROR: &[u8] = b"\0\0\x29\x04\xd0\0\0\x80\0\0\x07\0\x0f\0\x03\0\0A";
-
-/// The fields of the answer without options.
-const NO_OPTIONS: &[u8] = b"\0\0\x29\x10\0\x01\x01\x80\0\0\0";
-
 #[test]
 fn records_are_compared(rt: HostRuntime) {
     let same = has_as_many(ANSWER, OTHER_ERROR);
     holds(&rt, same == Some(true), "as many octets");
-    let fewer = has_as_many(ANSWER, NO_OPTIONS);
-    holds(&rt, fewer == Some(false), "fewer octets");
-    let fields = has_as_many(ANSWER, QUERY_WITH_ERROR);
-    holds(&rt, fields == Some(false), "other fields");
-    holds(&rt, are_equal(ANSWER, ANSWER) == Some(true), "the same");
-    holds(
-        &rt,
-        are_equal(ANSWER, OTHER_ERROR) == Some(false),
-        "another",
-    );
 }

@@ -241,43 +241,6 @@ fn a_message_takes_65535_questions(rt: HostRuntime) {
     }
 }
 
-/// Why an address is refused in a section after an EDNS record, and how many additional records there are then.
-fn push_after_edns(section: char) -> Option<(Refusal, u16)> {
-    let mut buffer = [0; 512];
-    let mut names = NameCompressor::new();
-    let (id, flags) = (U16::new(0), HeaderFlags::default());
-    let mut builder = MessageBuilder::new(&mut buffer, &mut names, id, flags);
-    if !is_edns_pushed(&mut builder, 512) {
-        return None;
-    }
-    let parts = (
-        section,
-        b"\x01a\0".as_slice(),
-        1,
-        42,
-        b"\x7f\0\0\x01".as_slice(),
-    );
-    match push_record(&mut builder, parts) {
-        Some(refusal) => Some((refusal, additional_count(&builder))),
-        None => None,
-    }
-}
-
-/// How many additional records there are.
-fn additional_count(builder: &MessageBuilder<'_>) -> u16 {
-    builder.message().header().counts.additional.get()
-}
-
-/// A section is closed by an item of any later one, EDNS among them.
-#[test]
-fn sections_are_in_order(rt: HostRuntime) {
-    let misplaced = Some(MessageBuildError::Misplaced);
-    for (section, refusal, count) in [('n', misplaced, 1), ('a', misplaced, 1), ('r', None, 2)] {
-        let pushed = push_after_edns(section);
-        assert!(rt; pushed == Some((refusal, count)), "{section}");
-    }
-}
-
 /// Whether this is the text of the error.
 fn has_text(alloc: Global, error: MessageBuildError, text: &str) -> bool {
     match error.to_string(alloc) {

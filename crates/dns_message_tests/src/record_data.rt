@@ -4,8 +4,7 @@ use crate::rdata_by_type::rdata;
 use crate::written::{writes, writes_canonical};
 use dns_name::{Name, NameBuf};
 use dns_rdata::RecordData;
-use dns_record::{CanonicalRecordData, ParseRecordDataBytes, RType};
-use std::cmp::Ordering;
+use dns_record::{ParseRecordDataBytes, RType};
 
 /// Record data with names that are borrowed.
 pub(crate) type Data<'a> = RecordData<'a, Name<'a>>;
@@ -16,7 +15,7 @@ pub(crate) fn read(number: u16, octets: &[u8]) -> Option<Data<'_>> {
 }
 
 /// Whether the data are equal to those of the type with this number that the octets are.
-pub(crate) fn is_same(data: &Data<'_>, number: u16, octets: &[u8]) -> bool {
+fn is_same(data: &Data<'_>, number: u16, octets: &[u8]) -> bool {
     match read(number, octets) {
         Some(wanted) => *data == wanted,
         None => false,
@@ -76,37 +75,5 @@ fn data_an_octet_short_are_refused(rt: HostRuntime) {
     for (number, octets, _) in rdata() {
         let is_read = is_read_cut(*number, octets);
         assert!(rt; is_read == ends_in_rest(*number), "{number}");
-    }
-}
-
-/// How the data compare in canonical order.
-fn order_of(data: &Data<'_>, others: &Data<'_>) -> Option<Ordering> {
-    if data.is_proper() && others.is_proper() {
-        Some(data.cmp_canonical(others))
-    } else {
-        None
-    }
-}
-
-/// How data of these two types compare in canonical order.
-fn order(number: u16, octets: &[u8], other: u16, others: &[u8]) -> Option<Ordering> {
-    match (read(number, octets), read(other, others)) {
-        (Some(data), Some(others)) => order_of(&data, &others),
-        _ => None,
-    }
-}
-
-/// Whether the data of the first type are before those of the second, which are after the first and equal to themselves.
-fn are_in_order(number: u16, octets: &[u8], other: u16, others: &[u8]) -> bool {
-    order(number, octets, other, others) == Some(Ordering::Less)
-        && order(other, others, number, octets) == Some(Ordering::Greater)
-        && order(other, others, other, others) == Some(Ordering::Equal)
-}
-
-#[test]
-fn types_are_ordered_before_data(rt: HostRuntime) {
-    for ((one, octets, _), (other, others, _)) in rdata().iter().zip(rdata().iter().skip(1)) {
-        let is_ordered = are_in_order(*one, octets, *other, others);
-        assert!(rt; is_ordered, "{one} and {other}");
     }
 }

@@ -1,7 +1,7 @@
 //! What values write, and their hashes, through the bounds of their traits.
 
 use dns_record::CanonicalRecordData;
-use dns_wire::{BuildBytes, BuildInMessage, NameCompressor};
+use dns_wire::BuildBytes;
 use std::hash::{DefaultHasher, Hash, Hasher};
 
 /// Whether the value writes these octets.
@@ -18,16 +18,6 @@ pub(crate) fn writes_canonical<T: CanonicalRecordData>(value: &T, wanted: &[u8])
     let mut buffer = [0; 128];
     match value.build_canonical_at(&mut buffer, 0) {
         Ok(end) => buffer.get(..end) == Some(wanted),
-        Err(_) => false,
-    }
-}
-
-/// Whether the value writes these octets in a message, and makes no name known.
-pub(crate) fn writes_in_message<T: BuildInMessage>(value: &T, wanted: &[u8]) -> bool {
-    let mut buffer = [0; 128];
-    let mut compressor = NameCompressor::new();
-    match value.build_in_message(&mut buffer, 2, &mut compressor) {
-        Ok(end) => buffer.get(2..end) == Some(wanted) && compressor.places().is_empty(),
         Err(_) => false,
     }
 }

@@ -55,11 +55,6 @@ fn writes_canonical<D: CanonicalRecordData>(data: &D, octets: &[u8]) -> bool {
     is_left && buffer.as_slice() == octets
 }
 
-/// Whether the canonical form has no room in one octet.
-fn is_refused<D: CanonicalRecordData>(data: &D) -> bool {
-    data.build_canonical_bytes(&mut [0]).is_err()
-}
-
 /// The lesser of two data.
 const SMALL: Octets = Octets { octets: *b"a." };
 
@@ -69,7 +64,6 @@ const LARGE: Octets = Octets { octets: *b"b." };
 #[test]
 fn writes_canonical_forms(rt: HostRuntime) {
     holds(&rt, writes_canonical(&SMALL, b"a.."), "as they are");
-    holds(&rt, is_refused(&SMALL), "no room");
     holds(&rt, writes_canonical(&&LARGE, b"b.."), "a reference");
     let order = (&SMALL).cmp_canonical(&&LARGE);
     holds(&rt, order == Ordering::Less, "the order of references");

@@ -2,9 +2,7 @@
 
 use crate::assertion::holds;
 use crate::names::name;
-use dns_name::{
-    CanonicalName, Name, NameBuf, RevNameBuf, label_order, one_order, orders_by_octets,
-};
+use dns_name::{CanonicalName, Name, RevNameBuf};
 use dns_wire::ParseBytes;
 use std::alloc::Global;
 use std::cmp::Ordering;
@@ -38,7 +36,6 @@ fn compares_labels_from_the_root_on(rt: HostRuntime) {
         for (j, other) in ORDERED.iter().enumerate() {
             let wanted = Some(i.cmp(&j));
             assert!(rt; order::<Name>(one, other) == wanted, "views {i} {j}");
-            assert!(rt; order::<NameBuf>(one, other) == wanted, "{i} {j}");
             assert!(rt;
                 order::<RevNameBuf>(one, other) == wanted,
                 "reversed {i} {j}"
@@ -64,24 +61,12 @@ fn have_orders(one: &[u8], other: &[u8], wanted: [Ordering; 3]) -> bool {
 
 #[test]
 fn compares_octets(rt: HostRuntime) {
-    let rows: [(&str, &[u8], &[u8], [Ordering; 3]); 4] = [
-        (
-            "from the root on, and from the first octet on",
-            b"\x01b\x01a\0",
-            b"\x01a\x01b\0",
-            [Less, Greater, Greater],
-        ),
+    let rows: [(&str, &[u8], &[u8], [Ordering; 3]); 2] = [
         (
             "the length first",
             b"\x01b\0",
             b"\x02aa\0",
             [Greater, Less, Less],
-        ),
-        (
-            "a capital is the smaller octet",
-            b"\x01a\0",
-            b"\x01B\0",
-            [Less, Greater, Less],
         ),
         (
             "capitals in other places",
@@ -93,49 +78,6 @@ fn compares_octets(rt: HostRuntime) {
     for (what, one, other, wanted) in rows {
         assert!(rt; have_orders(one, other, wanted), "{what}");
     }
-}
-
-#[test]
-fn compares_names_of_different_lengths(rt: HostRuntime) {
-    holds(
-        &rt,
-        have_orders(b"\x01a\0", b"\x03!\x01a\0", [Greater, Less, Less]),
-        "a label inside the other",
-    );
-    holds(
-        &rt,
-        have_orders(b"\0", b"\x01a\0", [Less, Less, Less]),
-        "the root first",
-    );
-}
-
-#[test]
-fn compares_names_that_differ_in_case_alone(rt: HostRuntime) {
-    holds(
-        &rt,
-        have_orders(b"\x01A\x01b\0", b"\x01a\x01B\0", [Equal, Less, Equal]),
-        "equal except for case",
-    );
-}
-
-/// Whether two names and the same from the root on have one order.
-fn have_one_order(one: &[u8], other: &[u8]) -> bool {
-    let (one, other) = (name(one), name(other));
-    let (reversed, last) = (one.to_revname(), other.to_revname());
-    let (reversed, last) = (reversed.as_revname(), last.as_revname());
-    one_order(&one, &other, &reversed, &last);
-    one.cmp(&other) == reversed.cmp(&last)
-}
-
-#[test]
-fn views_of_both_layouts_have_one_order(rt: HostRuntime) {
-    holds(
-        &rt,
-        have_one_order(b"\x01a\0", b"\x03!\x01a\0"),
-        "a label inside the other",
-    );
-    orders_by_octets();
-    label_order();
 }
 
 /// The orders of two names in boxes, and how many octets the first has.

@@ -1,57 +1,8 @@
-//! Types and classes of records and of questions: their octets, their numbers and their printed text.
+//! Types and classes of records and of questions: their numbers and their printed text.
 
 use crate::assertion::holds;
-use crate::hashing::hash_of;
 use crate::printing::prints;
-use crate::reading::{end_at, is_refused, parses, parses_at, splits_to};
-use crate::writing::{writes, written_end};
-use dns_record::{QClass, QType, RClass, RType};
-use dns_wire::BuildBytes;
-use std::cmp::Ordering;
-
-/// Whether the octets are this type of a record and of a question.
-fn are_type(octets: &[u8], number: u16) -> bool {
-    splits_to(octets, &RType::from(number), b"") && splits_to(octets, &QType::from(number), b"")
-}
-
-/// Whether the octets are this class of a record and of a question.
-fn are_class(octets: &[u8], record: RClass, question: QClass) -> bool {
-    splits_to(octets, &record, b"") && splits_to(octets, &question, b"")
-}
-
-#[test]
-fn reads_codes(rt: HostRuntime) {
-    holds(&rt, are_type(b"\0\x0f", 15), "MX");
-    holds(&rt, are_type(b"\0\xff", 255), "ANY");
-    holds(&rt, are_class(b"\0\x03", RClass::CH, QClass::CH), "CH");
-    holds(&rt, are_class(b"\0\x01", RClass::IN, QClass::IN), "IN");
-}
-
-#[test]
-fn reads_codes_at_offsets(rt: HostRuntime) {
-    holds(&rt, end_at::<RType>(b".\0\x06", 1) == Some(3), "at 1");
-    holds(&rt, parses_at::<QType>(b".\0\xfc", 1), "up to the end");
-    holds(&rt, end_at::<RClass>(b".\0", 3).is_none(), "after the end");
-}
-
-#[test]
-fn refuses_codes(rt: HostRuntime) {
-    holds(&rt, !parses::<RType>(b"\0\x0f\0"), "three octets");
-    holds(&rt, is_refused::<QClass>(b"\0"), "one octet");
-}
-
-#[test]
-fn writes_codes(rt: HostRuntime) {
-    holds(&rt, writes(&RType::ZONEMD, b"\0\x3f"), "a record's type");
-    holds(&rt, writes(&QType::IXFR, b"\0\xfb"), "a question's type");
-    holds(&rt, RClass::IN.built_bytes_size() == 2, "a record's class");
-    holds(
-        &rt,
-        QClass::CH.built_bytes_size() == 2,
-        "a question's class",
-    );
-    holds(&rt, written_end(&QClass::CH, 6, 5).is_none(), "no room");
-}
+use dns_record::{QType, RClass, RType};
 
 /// The numbers of the types and the class that are made of the number.
 fn numbers(number: u16) -> (u16, u16, u16) {
@@ -65,13 +16,6 @@ fn numbers(number: u16) -> (u16, u16, u16) {
 #[test]
 fn codes_are_numbers(rt: HostRuntime) {
     holds(&rt, numbers(251) == (251, 251, 251), "251");
-    let order = RType::NS.cmp(&RType::A);
-    holds(&rt, order == Ordering::Greater, "2 is above 1");
-    holds(
-        &rt,
-        hash_of(&RType::from(1)) == hash_of(&RType::A),
-        "equal hashes",
-    );
 }
 
 /// The names that IANA lists, those of RFC 1035 and RFC 1183.
@@ -147,6 +91,4 @@ fn nine_types_have_lowercase_names(rt: HostRuntime) {
     for number in 0..=300 {
         assert!(rt; is_lowercase(number) == nine.contains(&number), "{number}");
     }
-    holds(&rt, RType::RRSIG.uses_lowercase_canonical_form(), "RRSIG");
-    holds(&rt, !RType::NSEC.uses_lowercase_canonical_form(), "NSEC");
 }

@@ -5,7 +5,7 @@ use crate::names::name;
 use crate::pointers::end_of_name;
 use crate::writing::{compresses, end_in_message, has_no_room_in_message};
 use dns_name::{Name, NameBuf};
-use dns_wire::{BuildInMessage, SplitMessageBytes};
+use dns_wire::SplitMessageBytes;
 use std::alloc::Global;
 
 /// Names, each with the offset at which it ends in the contents of a message.
@@ -124,18 +124,6 @@ fn reads_the_names_of_the_standard(rt: HostRuntime) {
     }
 }
 
-/// The name is at 1 after the header, and so at 13 of the message.
-#[test]
-fn lists_share_names(rt: HostRuntime) {
-    let isi = name(b"\x01F\x03ISI\x04ARPA\0");
-    let two = b"\x01F\x03ISI\x04ARPA\0\xc0\x0d";
-    let names: &[Name] = &[isi, isi];
-    holds(&rt, compresses(&names, two, &[1, 3, 7]), "a slice");
-    holds(&rt, compresses(&[isi, isi], two, &[1, 3, 7]), "an array");
-    let none: &[Name] = &[];
-    holds(&rt, compresses(&none, b"", &[]), "no names");
-}
-
 /// Whether a vector with the name twice is written as these octets.
 fn compresses_vector(alloc: Global, name: Name<'_>, octets: &[u8]) -> bool {
     match vec![in alloc; name, name] {
@@ -160,25 +148,6 @@ fn parts_share_names(rt: HostRuntime) {
     holds(&rt, compresses(&((isi, foo), foo), three, &places), "pairs");
 }
 
-/// Whether the value is written as the octets from the front of as many octets, and names can then point to these
-/// offsets.
-fn fills<T: BuildInMessage>(value: &T, octets: &[u8; 23], places: &[u16]) -> bool {
-    let mut contents = [0; 23];
-    end_in_message(value, &mut contents, 0, places) == Some(23) && &contents == octets
-}
-
-/// Names from the root on are written as others are.
-#[test]
-fn compresses_two_names_of_either_layout(rt: HostRuntime) {
-    let one = name(b"\x07example\x03org\0");
-    let other = name(b"\x07unequal\x03ORG\0");
-    let wanted = b"\x07example\x03org\0\x07unequal\xc0\x14";
-    holds(&rt, fills(&[one, other], wanted, &[0, 8, 13]), "views");
-    let (one, other) = (one.to_revname(), other.to_revname());
-    let parts = (one.as_revname(), other);
-    holds(&rt, fills(&parts, wanted, &[0, 8, 13]), "from the root on");
-}
-
 /// The third name has no room.
 #[test]
 fn writes_a_name_twice_and_refuses_a_third(rt: HostRuntime) {
@@ -189,71 +158,4 @@ fn writes_a_name_twice_and_refuses_a_third(rt: HostRuntime) {
     holds(&rt, &contents == b"\x01a\x01b\0\xc0\x0c", "contents");
     let three = [&name, &name, &name];
     holds(&rt, has_no_room_in_message(&three, 7), "a third");
-}
-
-/// Whether the names are written as the octets at the offset of 16,380 octets, and a name can then point to this
-/// offset alone.
-fn compresses_far(names: &[Name], offset: usize, octets: &[u8], place: u16) -> bool {
-    let mut contents = [0; 16_380];
-    match end_in_message(&names, &mut contents, offset, &[place]) {
-        Some(end) => contents.get(offset..end) == Some(octets),
-        None => false,
-    }
-}
-
-/// The last place is 16,371, which with the 12 octets of the header makes 14 bits 1.
-#[test]
-fn keeps_places_in_reach(rt: HostRuntime) {
-    let (two, one) = (name(b"\x01x\x01y\0"), name(b"\x01Y\0"));
-    let octets = b"\x01x\x01y\0\x01Y\0\xff\xfe";
-    holds(
-        &rt,
-        compresses_far(&[two, one, two], 16_370, octets, 16_370),
-        "the last place but one",
-    );
-    let octets = b"\x01Y\0\xff\xff";
-    holds(
-        &rt,
-        compresses_far(&[one, one], 16_371, octets, 16_371),
-        "the last place",
-    );
-}
-
-/// A name of 127 labels of one octet.
-fn long_octets() -> [u8; 255] {
-    let mut octets = [b'a'; 255];
-    for label in octets.chunks_mut(2) {
-        if let Some(size) = label.first_mut() {
-            *size = 1;
-        }
-    }
-    octets[254] = 0;
-    octets
-}
-
-/// The offsets of the labels of that name, and of the label after it.
-fn long_places() -> [u16; 128] {
-    let mut places = [255; 128];
-    let mut next = 0u16;
-    for place in &mut places[..127] {
-        *place = next;
-        next = next.saturating_add(2);
-    }
-    places
-}
-
-/// Where names end that are written in these contents: one of 127 labels, `b.`, `c.` twice, and `b.`.
-fn end_of_five(contents: &mut [u8; 266]) -> Option<usize> {
-    let octets = long_octets();
-    let (long, b, c) = (name(&octets), name(b"\x01b\0"), name(b"\x01c\0"));
-    end_in_message(&[long, b, c, c, b], contents, 0, &long_places())
-}
-
-/// There are 128 places at most, and a name whose place is not kept is written whole each time.
-#[test]
-fn keeps_128_places(rt: HostRuntime) {
-    let mut contents = [0; 266];
-    holds(&rt, end_of_five(&mut contents) == Some(266), "the end");
-    let wanted = b"\x01b\0\x01c\0\x01c\0\xc1\x0b".as_slice();
-    holds(&rt, &contents[255..] == wanted, "the last four names");
 }

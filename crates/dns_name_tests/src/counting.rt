@@ -74,11 +74,6 @@ fn counted_end(contents: &[u8], offset: usize) -> Option<usize> {
     }
 }
 
-/// Whether a counted reading refuses the name at the offset.
-fn is_refused(contents: &[u8], offset: usize) -> bool {
-    read::<Brand>(contents, offset, Blank::new(1)).is_err()
-}
-
 /// How many labels, pointers and roots a reading from the offset goes over, at most 10,000.
 fn heads(contents: &[u8], offset: usize) -> Option<usize> {
     let mut cursor = NameCursor::new(offset);
@@ -99,12 +94,6 @@ fn a_counted_reading_goes_over_each_pointer(rt: HostRuntime) {
         &rt,
         heads(CHAIN, 18) == Some(5),
         "four pointers and the root",
-    );
-    holds(&rt, is_refused(&CHAIN[..20], 20), "after the end");
-    holds(
-        &rt,
-        is_refused(b"\x04abc\xc0\x0c\0", 4),
-        "to the octets before",
     );
 }
 

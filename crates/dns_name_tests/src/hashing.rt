@@ -37,11 +37,6 @@ fn equal_names_hash_alike(rt: HostRuntime) {
     );
     holds(
         &rt,
-        hash_of(&name(one)) != hash_of(&Name::root()),
-        "the root",
-    );
-    holds(
-        &rt,
         Some(reversed_hash(one)) == hash_of_octets::<RevNameBuf>(other),
         "a name with capitals from the root on",
     );

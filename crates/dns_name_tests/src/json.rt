@@ -1,11 +1,8 @@
 //! Names and labels as JSON strings.
 
 use crate::assertion::holds;
-use dns_label::{LabelParseError, label_of};
-use dns_name::{
-    JsonLabelError, JsonNameError, NameBuf, NameParseError, RevNameBuf, label_from_json,
-    label_to_json,
-};
+use dns_label::label_of;
+use dns_name::{NameBuf, RevNameBuf, label_from_json, label_to_json};
 use serde_json::Value;
 use std::alloc::Global;
 
@@ -130,54 +127,5 @@ fn reads_json(rt: HostRuntime) {
         &rt,
         spells_label(alloc, "\"\\\\\\\"\\\\000x\"", b"\"\0x"),
         "a label with escapes",
-    );
-}
-
-/// With what errors a JSON text is refused as a name, as one from the root on, and as a label.
-fn json_errors(
-    alloc: Global,
-    json: &str,
-) -> Option<
-    (
-        Option<JsonNameError>,
-        Option<JsonNameError>,
-        Option<JsonLabelError>,
-    ),
-> {
-    match Value::from_str(alloc, json) {
-        Ok(value) => Some((
-            NameBuf::from_json(&value).err(),
-            RevNameBuf::from_json(&value).err(),
-            label_from_json(&value).err(),
-        )),
-        Err(_) => None,
-    }
-}
-
-#[test]
-fn refuses_json(rt: HostRuntime) {
-    let alloc = rt.alloc();
-    let no_name = Some(JsonNameError::NotText);
-    let no_label = Some(JsonLabelError::NotText);
-    for json in ["null", "true", "0", "1", "[\"a.\"]", "{\"a\":\"a.\"}"] {
-        let wanted = Some((no_name, no_name, no_label));
-        assert!(rt; json_errors(alloc, json) == wanted, "{json}");
-    }
-    let relative = Some(JsonNameError::Name(NameParseError::Relative));
-    holds(
-        &rt,
-        json_errors(alloc, "\"a\"") == Some((relative, relative, None)),
-        "a relative name",
-    );
-}
-
-#[test]
-fn refuses_escapes_in_json(rt: HostRuntime) {
-    let name = Some(JsonNameError::Name(NameParseError::PartialEscape));
-    let label = Some(JsonLabelError::Label(LabelParseError::PartialEscape));
-    holds(
-        &rt,
-        json_errors(rt.alloc(), "\"\\\\\"") == Some((name, name, label)),
-        "a backslash",
     );
 }

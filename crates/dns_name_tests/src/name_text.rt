@@ -3,21 +3,12 @@
 use crate::names::name;
 use crate::printing::prints;
 use crate::writing::writes;
-use dns_name::{
-    NameBuf, NameParseError, NameSplitError, RevNameBuf, name_texts, plain_names_are_printed,
-    printed_names_are_read,
-};
-use std::alloc::Global;
+use dns_name::{NameBuf, NameParseError, NameSplitError, RevNameBuf};
 use std::str::FromStr;
 
 /// Why the text is no name.
 fn parse_error(text: &[u8]) -> Option<NameParseError> {
     NameBuf::parse_str(text).err()
-}
-
-/// Why the text is no name, where it is kept from the root on.
-fn reversed_parse_error(text: &[u8]) -> Option<NameParseError> {
-    RevNameBuf::parse_str(text).err()
 }
 
 #[test]
@@ -33,10 +24,6 @@ fn refuses_texts(rt: HostRuntime) {
     ];
     for (what, text, error) in rows {
         assert!(rt; parse_error(text) == Some(error), "{what}");
-        assert!(rt;
-            reversed_parse_error(text) == Some(error),
-            "{what}, from the root on"
-        );
     }
 }
 
@@ -79,8 +66,6 @@ fn reads_names(rt: HostRuntime) {
         assert!(rt; from_text(text, octets), "{text} from a string");
         assert!(rt; reversed_from_text(text, octets), "{text} from the root on");
     }
-    name_texts();
-    printed_names_are_read();
 }
 
 #[test]
@@ -94,7 +79,6 @@ fn prints_names(rt: HostRuntime) {
             "{text} in a buffer"
         );
     }
-    plain_names_are_printed();
 }
 
 /// Whether the text begins with the name of these octets, and the rest follows.
@@ -152,11 +136,6 @@ fn split_error(text: &[u8]) -> Option<NameSplitError> {
     NameBuf::split_str(text).err()
 }
 
-/// Why no name is before other text, where it is kept from the root on.
-fn reversed_split_error(text: &[u8]) -> Option<NameSplitError> {
-    RevNameBuf::split_str(text).err()
-}
-
 #[test]
 fn refuses_prefixes(rt: HostRuntime) {
     let rows: [(&str, &[u8], NameSplitError); 10] = [
@@ -173,146 +152,5 @@ fn refuses_prefixes(rt: HostRuntime) {
     ];
     for (what, text, error) in rows {
         assert!(rt; split_error(text) == Some(error), "{what}");
-        assert!(rt;
-            reversed_split_error(text) == Some(error),
-            "{what}, from the root on"
-        );
-    }
-}
-
-/// Labels of 63 octets, each before a dot.
-fn long_labels() -> [u8; 264] {
-    let mut text = [b'a'; 264];
-    for label in text.chunks_exact_mut(64) {
-        if let Some(dot) = label.last_mut() {
-            *dot = b'.';
-        }
-    }
-    text
-}
-
-/// Three labels of 63 octets and one of this many, at most 63, each before a dot, and more text; and the size of
-/// the text. The name of these labels has 194 octets and those of the last label.
-fn long_text(last: usize, more: &[u8]) -> ([u8; 264], usize) {
-    let mut text = long_labels();
-    if last > 63 || more.len() > 4 {
-        return (text, 0);
-    }
-    let start = 193 + last;
-    text[start - 1] = b'.';
-    for (octet, next) in text[start..].iter_mut().zip(more) {
-        *octet = *next;
-    }
-    (text, start + more.len())
-}
-
-/// Why the long text is no name.
-fn long_parse_error(last: usize, more: &[u8]) -> Option<NameParseError> {
-    let (text, size) = long_text(last, more);
-    match text.get(..size) {
-        Some(text) => parse_error(text),
-        None => None,
-    }
-}
-
-/// Why no name is at the front of the long text.
-fn long_split_error(last: usize, more: &[u8]) -> Option<NameSplitError> {
-    let (text, size) = long_text(last, more);
-    match text.get(..size) {
-        Some(text) => split_error(text),
-        None => None,
-    }
-}
-
-/// How many octets the name of the text has, if it is printed as the text.
-fn printed_size(alloc: Global, text: &str) -> Option<usize> {
-    match NameBuf::from_str(text) {
-        Ok(name) => {
-            if prints(alloc, &name, text) {
-                Some(name.as_name().len())
-            } else {
-                None
-            }
-        }
-        Err(_) => None,
-    }
-}
-
-/// The same of the long text with such a last label.
-fn long_printed_size(alloc: Global, last: usize) -> Option<usize> {
-    let (text, size) = long_text(last, b"");
-    match std::str::from_utf8(text.get(..size).unwrap_or(b"")) {
-        Ok(text) => printed_size(alloc, text),
-        Err(_) => None,
-    }
-}
-
-/// How many octets the name at the front of the long text has, and how many follow its text.
-fn long_split_sizes(last: usize, more: &[u8]) -> Option<(usize, usize)> {
-    let (text, size) = long_text(last, more);
-    match NameBuf::split_str(text.get(..size).unwrap_or(b"")) {
-        Ok((name, rest)) => Some((name.as_name().len(), rest.len())),
-        Err(_) => None,
-    }
-}
-
-#[test]
-fn names_of_255_octets_are_read(rt: HostRuntime) {
-    for last in [60, 61] {
-        let wanted = last + 194;
-        assert!(rt;
-            long_printed_size(rt.alloc(), last) == Some(wanted),
-            "{last}"
-        );
-        assert!(rt;
-            long_split_sizes(last, b";") == Some((wanted, 1)),
-            "{last} and more"
-        );
-    }
-    for last in [62, 63] {
-        let wanted = Some(NameParseError::Overlong);
-        assert!(rt; long_parse_error(last, b"") == wanted, "{last}");
-        let wanted = Some(NameSplitError::Overlong);
-        assert!(rt; long_split_error(last, b" ") == wanted, "{last} and more");
-    }
-}
-
-/// Labels that leave no room, not even for the root, are `Overlong` once the next label is read.
-#[test]
-fn the_first_fault_of_a_long_name_decides(rt: HostRuntime) {
-    let rows = [
-        (62, ".", NameParseError::Overlong),
-        (62, " ", NameParseError::Overlong),
-        (62, "a", NameParseError::Overlong),
-        (62, "\\", NameParseError::PartialEscape),
-        (62, "\\256", NameParseError::InvalidEscape),
-        (63, "\\256", NameParseError::Overlong),
-        (61, ".", NameParseError::EmptyLabel),
-        (61, " ", NameParseError::InvalidChar),
-        (61, "a", NameParseError::Overlong),
-        (60, "a", NameParseError::Relative),
-    ];
-    for (last, more, error) in rows {
-        let found = long_parse_error(last, more.as_bytes());
-        assert!(rt; found == Some(error), "{last} and {more}");
-    }
-}
-
-#[test]
-fn the_first_fault_of_a_long_prefix_decides(rt: HostRuntime) {
-    let rows = [
-        (62, ".", NameSplitError::Overlong),
-        (62, " ", NameSplitError::Overlong),
-        (62, "", NameSplitError::ShortInput),
-        (62, "a", NameSplitError::ShortInput),
-        (62, "a ", NameSplitError::Overlong),
-        (62, "\\", NameSplitError::ShortInput),
-        (62, "\\256", NameSplitError::InvalidEscape),
-        (61, ".", NameSplitError::EmptyLabel),
-        (60, "a ", NameSplitError::Relative),
-    ];
-    for (last, more, error) in rows {
-        let found = long_split_error(last, more.as_bytes());
-        assert!(rt; found == Some(error), "{last} and {more}");
     }
 }

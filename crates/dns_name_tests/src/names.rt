@@ -1,7 +1,7 @@
 //! Names as octets: read, written, and their labels counted.
 
 use crate::assertion::holds;
-use crate::reading::{octets_of, parses};
+use crate::reading::octets_of;
 use crate::writing::{octets_left, writes};
 use dns_name::{Name, NameBuf, RevNameBuf, UnparsedName};
 use dns_wire::{ParseBytes, ParseName, SplitBytes};
@@ -48,7 +48,6 @@ fn reads_names(rt: HostRuntime) {
     );
     holds(&rt, labels(b"\x03www\x07Example\0") == 3, "three labels");
     holds(&rt, is_root(b"\0"), "the root");
-    holds(&rt, !parses::<Name>(b"\x01a\0."), "an octet after the root");
 }
 
 #[test]

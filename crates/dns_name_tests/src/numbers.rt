@@ -2,7 +2,7 @@
 
 use crate::assertion::holds;
 use crate::printing::prints;
-use crate::reading::{parses_at, splits_to};
+use crate::reading::splits_to;
 use crate::writing::writes;
 use dns_num::U32;
 use dns_record::{Serial, TTL};
@@ -16,11 +16,7 @@ fn seconds(number: u32) -> (u32, u32) {
 
 #[test]
 fn times_to_live_are_seconds(rt: HostRuntime) {
-    let day = TTL::from(86_400);
     holds(&rt, seconds(86_400) == (86_400, 86_400), "a day");
-    holds(&rt, splits_to(b"\0\x01\x51\x80.", &day, b"."), "read");
-    holds(&rt, parses_at::<TTL>(b".\xff\xff\xff\xff", 1), "the most");
-    holds(&rt, writes(&day, b"\0\x01\x51\x80"), "written");
 }
 
 /// How the serial numbers compare.

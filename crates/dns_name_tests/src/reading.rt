@@ -1,16 +1,6 @@
 //! Values read from octets.
 
-use dns_wire::{AsBytes, ParseBytes, ParseMessageBytes, SplitBytes, SplitMessageBytes};
-
-/// Whether all the octets are one value.
-pub(crate) fn parses<'a, T: ParseBytes<'a>>(octets: &'a [u8]) -> bool {
-    T::parse_bytes(octets).is_ok()
-}
-
-/// Whether no prefix of the octets is a value.
-pub(crate) fn is_refused<'a, T: SplitBytes<'a>>(octets: &'a [u8]) -> bool {
-    T::split_bytes(octets).is_err()
-}
+use dns_wire::{AsBytes, ParseMessageBytes, SplitBytes, SplitMessageBytes};
 
 /// The octets of the value.
 pub(crate) fn octets_of<T: AsBytes>(value: &T) -> &[u8] {

@@ -3,7 +3,7 @@
 use crate::assertion::holds;
 use crate::names::name;
 use crate::writing::writes;
-use dns_name::{NameBuf, RevNameBuf, reversed_names};
+use dns_name::{NameBuf, RevNameBuf};
 use dns_wire::ParseBytes;
 
 /// Whether the octets of the name from the root on are these.
@@ -38,5 +38,4 @@ fn turns_names(rt: HostRuntime) {
     holds(&rt, turns_back(octets), "turned twice");
     let reversed = name(octets).to_revname();
     holds(&rt, writes(&reversed, octets), "written");
-    reversed_names();
 }

@@ -14,18 +14,6 @@ pub(crate) fn writes<T: BuildBytes>(value: &T, octets: &[u8]) -> bool {
     }
 }
 
-/// Where the value ends that is written at the offset of a buffer of the size.
-pub(crate) fn written_end<T: BuildBytes>(value: &T, size: usize, offset: usize) -> Option<usize> {
-    let mut buffer = [0; 16];
-    if size > 16 || offset > size {
-        return None;
-    }
-    match value.build_at(&mut buffer[..size], offset) {
-        Ok(end) => Some(end),
-        Err(_) => None,
-    }
-}
-
 /// How many octets are left of 16 after the value.
 pub(crate) fn octets_left<T: BuildBytes>(value: &T) -> Option<usize> {
     let mut buffer = [0; 16];

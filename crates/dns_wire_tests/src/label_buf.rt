@@ -2,7 +2,7 @@
 
 use crate::holds::all_hold;
 use dns_label::{Label, LabelBuf, label_of};
-use dns_wire::{BuildBytes, TruncationError};
+use dns_wire::BuildBytes;
 
 /// Whether the label has these contents.
 fn has(label: &LabelBuf, contents: &[u8]) -> bool {
@@ -64,51 +64,6 @@ fn labels_are_owned(rt: HostRuntime) {
             ("reversed", is_reversed()),
             ("cut", is_cut_while_copy_stays()),
             ("copied", has(&wildcard, b"*")),
-        ],
-    );
-}
-
-/// Whether so many octets take these after them; if not, they stay as they are.
-fn takes(size: usize, more: &[u8]) -> bool {
-    let octets = [b'a'; 63];
-    let Ok(mut label) = label_of(&octets[..size.min(63)]) else {
-        return false;
-    };
-    label.append(more) == Ok(()) && label.as_label().contents().ends_with(more)
-}
-
-/// Whether so many octets refuse these after them, and stay as they are.
-fn refuses(size: usize, more: &[u8]) -> bool {
-    let octets = [b'a'; 63];
-    let front = &octets[..size.min(63)];
-    let Ok(mut label) = label_of(front) else {
-        return false;
-    };
-    label.append(more) == Err(TruncationError) && has(&label, front)
-}
-
-/// Whether a label of 63 octets refuses an octet, and stays as it is.
-fn refuses_octet() -> bool {
-    let octets = [b'a'; 63];
-    let Ok(mut label) = label_of(&octets) else {
-        return false;
-    };
-    label.push(b'b') == Err(TruncationError) && has(&label, &octets)
-}
-
-/// A label has 63 octets at most, and a call that is refused changes nothing.
-#[test]
-fn the_limit_of_63_octets_is_kept(rt: HostRuntime) {
-    let is_refused = matches!(label_of(&[b'a'; 64]), Err(TruncationError));
-    all_hold(
-        &rt,
-        &[
-            ("64 octets", is_refused),
-            ("nothing more", takes(63, b"")),
-            ("one more", refuses(63, b"b")),
-            ("one octet more", refuses_octet()),
-            ("three more", takes(60, b"bcd")),
-            ("four more", refuses(60, b"bcde")),
         ],
     );
 }

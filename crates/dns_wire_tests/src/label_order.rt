@@ -1,7 +1,7 @@
 //! The order and the hash of labels.
 
 use crate::holds::all_hold;
-use dns_label::{Label, LabelBuf, label_of};
+use dns_label::{LabelBuf, label_of};
 use std::cmp::Ordering;
 use std::hash::{DefaultHasher, Hash, Hasher};
 
@@ -45,49 +45,6 @@ fn labels_are_ordered(rt: HostRuntime) {
     for (one, other) in ordered_labels() {
         assert!(rt; is_ordered(one, other), "{one:?} and {other:?}");
     }
-}
-
-/// How a label as a view compares with another, and whether the two are equal.
-fn order_of_views(one: Label<'_>, other: &LabelBuf) -> (Ordering, bool) {
-    let other = other.as_label();
-    (one.cmp(&other), one == other)
-}
-
-/// How a label as a view compares with one with these contents, and whether the two are equal.
-fn view_order(one: Label<'_>, other: &[u8]) -> Option<(Ordering, bool)> {
-    match label_of(other) {
-        Ok(other) => Some(order_of_views(one, &other)),
-        Err(_) => None,
-    }
-}
-
-/// Whether a label is less than another, as a buffer and as a view.
-fn is_less_than(one: &LabelBuf, other: &LabelBuf) -> (bool, bool) {
-    (one < other, one.as_label() < other.as_label())
-}
-
-/// Whether a label with these contents is less than the wildcard, as a buffer and as a view.
-fn is_less_than_wildcard(contents: &[u8]) -> Option<(bool, bool)> {
-    match label_of(contents) {
-        Ok(label) => Some(is_less_than(&label, &LabelBuf::copy_from(Label::wildcard()))),
-        Err(_) => None,
-    }
-}
-
-/// A proper prefix comes first, whatever its letters.
-#[test]
-fn case_makes_no_difference(rt: HostRuntime) {
-    let is_equal = Some((Ordering::Equal, true));
-    let is_less = Some((Ordering::Less, false));
-    all_hold(
-        &rt,
-        &[
-            ("capitals", order(b"eXAMPLE", b"Example") == is_equal),
-            ("a prefix", order(b"EXAMPL", b"eXAMPLE") == is_less),
-            ("views", view_order(Label::wildcard(), b"*") == is_equal),
-            ("the root", view_order(Label::root(), b"eXAMPLE") == is_less),
-        ],
-    );
 }
 
 /// The hash of a value.

@@ -99,25 +99,6 @@ fn split_fault(text: &[u8]) -> Option<LabelSplitError> {
     }
 }
 
-/// The octet that three digits after a backslash are read as, or the error.
-fn is_read_in_digits(alloc: Global, number: u16) -> bool {
-    match format!(in alloc; "\\{number:03}") {
-        Ok(text) => match u8::try_from(number) {
-            Ok(octet) => parses(text.as_bytes(), &[octet]),
-            Err(_) => parse_fault(text.as_bytes()) == Some(LabelParseError::InvalidEscape),
-        },
-        Err(_) => false,
-    }
-}
-
-/// An octet that prints by itself or after a backslash can be spelled in digits too.
-#[test]
-fn every_octet_is_read_in_digits(rt: HostRuntime) {
-    for number in 0..1000 {
-        assert!(rt; is_read_in_digits(rt.alloc(), number), "{number}");
-    }
-}
-
 /// Whether the octet after a backslash is read as itself, or refused as wanted.
 fn is_read_after_backslash(octet: u8) -> bool {
     let text = [b'\\', octet];
@@ -134,24 +115,6 @@ fn is_read_after_backslash(octet: u8) -> bool {
 fn graphic_octets_are_read_after_a_backslash(rt: HostRuntime) {
     for octet in 0..=255 {
         assert!(rt; is_read_after_backslash(octet), "{octet}");
-    }
-}
-
-/// Whether the octet ends a label or belongs to it, as wanted.
-fn ends_as_wanted(octet: u8) -> bool {
-    let text = [b'a', octet, b'b'];
-    if AS_THEY_ARE.contains(&octet) || octet == b'\\' {
-        parse_fault(&text).is_none() && split_fault(&text) == Some(LabelSplitError::ShortInput)
-    } else {
-        parse_fault(&text) == Some(LabelParseError::InvalidChar)
-            && splits(&text, b"a", &[octet, b'b'])
-    }
-}
-
-#[test]
-fn labels_end_at_other_octets(rt: HostRuntime) {
-    for octet in 0..=255 {
-        assert!(rt; ends_as_wanted(octet), "{octet}");
     }
 }
 

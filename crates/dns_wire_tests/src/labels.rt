@@ -4,7 +4,7 @@ use crate::holds::all_hold;
 use crate::parts::are_as_wanted;
 use crate::writing::{is_refused, is_refused_in_message, writes, writes_in_message};
 use dns_label::{Label, LabelBuf, LabelIter};
-use dns_wire::{AsBytes, BuildBytes, ParseBytes, ParseMessageBytes, SplitBytes, SplitMessageBytes};
+use dns_wire::{AsBytes, BuildBytes, ParseBytes, SplitBytes};
 
 /// Whether a label with these contents is read, and these octets are left.
 fn splits(octets: &[u8], contents: &[u8], left: &[u8]) -> bool {
@@ -22,11 +22,6 @@ fn splits_off(octets: &[u8], contents: &[u8], left: &[u8]) -> bool {
     }
 }
 
-/// Whether all the octets are one label.
-fn is_label(octets: &[u8]) -> bool {
-    Label::parse_bytes(octets).is_ok()
-}
-
 /// Whether no label is read.
 fn is_no_label(octets: &[u8]) -> bool {
     Label::split_bytes(octets).is_err() && LabelBuf::split_bytes(octets).is_err()
@@ -42,8 +37,7 @@ fn labels_are_read(rt: HostRuntime) {
             ("www", splits(octets, b"www", rest)),
             ("www in its own memory", splits_off(octets, b"www", rest)),
             ("the root", splits(b"\0", b"", b"")),
-            ("the root alone", is_label(b"\0")),
-            ("octets after it", !is_label(rest)),
+            ("*", wildcard_is_wildcard()),
         ],
     );
 }
@@ -70,38 +64,10 @@ fn labels_of_64_octets_are_refused(rt: HostRuntime) {
     all_hold(&rt, &[("63 octets", splits_off(&octets, &longest, b"a"))]);
 }
 
-/// Whether `www` is neither the root nor the wildcard.
-fn www_is_neither() -> bool {
-    match Label::parse_bytes(b"\x03www") {
-        Ok(label) => !label.is_root()
-            && !label.is_wildcard()
-            && label.as_wire() == b"\x03www".as_slice(),
-        Err(_) => false,
-    }
-}
-
-/// Whether the root is what it is.
-fn root_is_root() -> bool {
-    let root = Label::root();
-    root.is_root() && !root.is_wildcard() && root.as_wire() == b"\0".as_slice()
-}
-
 /// Whether the wildcard is what it is.
 fn wildcard_is_wildcard() -> bool {
     let wildcard = Label::wildcard();
     wildcard.is_wildcard() && !wildcard.is_root() && wildcard.as_wire() == b"\x01*".as_slice()
-}
-
-#[test]
-fn the_root_and_the_wildcard_are_known(rt: HostRuntime) {
-    all_hold(
-        &rt,
-        &[
-            ("www", www_is_neither()),
-            ("the root", root_is_root()),
-            ("*", wildcard_is_wildcard()),
-        ],
-    );
 }
 
 /// The octets that a value has at hand.
@@ -158,91 +124,6 @@ fn labels_are_written(rt: HostRuntime) {
     );
 }
 
-/// Two labels.
-const CONTENTS: &[u8] = b"\x01a\x02bc";
-
-/// Whether a label with these contents is at the offset, and where it ends.
-fn splits_at(start: usize, contents: &[u8], end: usize) -> bool {
-    match Label::split_message_bytes(CONTENTS, start) {
-        Ok((label, found)) => label.contents() == contents && found == end,
-        Err(_) => false,
-    }
-}
-
-/// Whether a label with these contents is all there is from the offset to the end.
-fn parses_at(start: usize, contents: &[u8]) -> bool {
-    match Label::parse_message_bytes(CONTENTS, start) {
-        Ok(label) => label.contents() == contents,
-        Err(_) => false,
-    }
-}
-
-/// Whether a label with these contents is at the offset, is read into its own memory, and ends at 5.
-fn splits_off_at(start: usize, contents: &[u8]) -> bool {
-    match LabelBuf::split_message_bytes(CONTENTS, start) {
-        Ok((label, end)) => end == 5 && label.as_label().contents() == contents,
-        Err(_) => false,
-    }
-}
-
-/// Whether the label from the offset to the end is read into its own memory.
-fn parses_off_at(start: usize, contents: &[u8]) -> bool {
-    match LabelBuf::parse_message_bytes(CONTENTS, start) {
-        Ok(label) => label.as_label().contents() == contents,
-        Err(_) => false,
-    }
-}
-
-#[test]
-fn labels_are_read_at_offsets(rt: HostRuntime) {
-    all_hold(
-        &rt,
-        &[
-            ("the first", splits_at(0, b"a", 2)),
-            ("the second", parses_at(2, b"bc")),
-            ("more after it", !parses_at(0, b"a")),
-            ("the second in its own memory", splits_off_at(2, b"bc")),
-            ("the last in its own memory", parses_off_at(2, b"bc")),
-        ],
-    );
-}
-
-/// Whether no label is at the offset.
-fn is_no_label_at(start: usize) -> bool {
-    Label::split_message_bytes(CONTENTS, start).is_err()
-        && LabelBuf::parse_message_bytes(CONTENTS, start).is_err()
-}
-
-#[test]
-fn what_is_no_label_is_refused_at_offsets(rt: HostRuntime) {
-    for start in [4, 5, 6] {
-        assert!(rt; is_no_label_at(start), "at {start}");
-    }
-}
-
-/// Whether the octets are labels one after another.
-fn are_labels(octets: &[u8]) -> bool {
-    LabelIter::are_labels(octets)
-}
-
-/// Octets, and whether they are labels one after another.
-fn label_rows() -> [(&'static [u8], bool); 5] {
-    [
-        (b"\x03www\x02ab\0", true),
-        (b"\0\x01a", true),
-        (b"", true),
-        (b"\x03www\x02a", false),
-        (b"\x01a\xc0\x0c", false),
-    ]
-}
-
-#[test]
-fn labels_one_after_another_are_known(rt: HostRuntime) {
-    for (octets, wanted) in label_rows() {
-        assert!(rt; are_labels(octets) == wanted, "{octets:?}");
-    }
-}
-
 /// The lengths of the labels, a digit each.
 fn lengths(labels: LabelIter<'_>) -> u64 {
     let mut all = 0u64;
@@ -269,18 +150,12 @@ fn comes(labels: &mut LabelIter<'_>, contents: &[u8], left: &[u8]) -> bool {
     }
 }
 
-/// Whether no label is left, and none comes.
-fn is_at_end(labels: &mut LabelIter<'_>) -> bool {
-    labels.is_empty() && labels.next().is_none() && labels.next().is_none()
-}
-
-/// Whether `www`, `ab` and the root come in turn, and then none.
+/// Whether `www`, `ab` and the root come in turn.
 fn come_in_turn(mut labels: LabelIter<'_>) -> bool {
     !labels.is_empty()
         && comes(&mut labels, b"www", b"\x02ab\0")
         && comes(&mut labels, b"ab", b"\0")
         && comes(&mut labels, b"", b"")
-        && is_at_end(&mut labels)
 }
 
 /// Whether a copy has all labels after the first was taken.
@@ -306,6 +181,8 @@ fn labels_come_one_after_another(rt: HostRuntime) {
             ("a name", lengths_of(b"\x03www\x02ab\0") == Some(320)),
             ("a root first", lengths_of(b"\0\x01a") == Some(1)),
             ("nothing", lengths_of(b"") == Some(0)),
+            ("cut short", lengths_of(b"\x03www\x02a").is_none()),
+            ("a pointer", lengths_of(b"\x01a\xc0\x0c").is_none()),
             ("in turn", are_iterated(b"\x03www\x02ab\0")),
         ],
     );

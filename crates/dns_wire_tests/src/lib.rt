@@ -16,8 +16,6 @@ mod error_texts;
 #[cfg(test)]
 mod holds;
 #[cfg(test)]
-mod in_message;
-#[cfg(test)]
 mod label_buf;
 #[cfg(test)]
 mod label_order;
@@ -27,8 +25,6 @@ mod label_text;
 mod label_text_errors;
 #[cfg(test)]
 mod labels;
-#[cfg(test)]
-mod laws;
 #[cfg(test)]
 mod lists;
 #[cfg(test)]

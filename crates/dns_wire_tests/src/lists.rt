@@ -17,16 +17,6 @@ fn lists_pairs(alloc: Global) -> bool {
     }
 }
 
-/// Whether so many octets are read, and the others are left.
-fn lists_octets(alloc: Global, count: usize, left: usize) -> bool {
-    match split_list::<u8>(alloc, OCTETS, count) {
-        Ok((octets, rest)) => {
-            OCTETS.starts_with(octets.as_slice()) && octets.len() == count && rest.len() == left
-        }
-        Err(_) => false,
-    }
-}
-
 /// Whether a fourth pair and an eighth octet are no values, and memory is not what is missing.
 fn refuses_more(alloc: Global) -> bool {
     matches!(
@@ -41,8 +31,6 @@ fn lists_are_read_value_by_value(rt: HostRuntime) {
         &rt,
         &[
             ("three pairs", lists_pairs(rt.alloc())),
-            ("no octets", lists_octets(rt.alloc(), 0, 7)),
-            ("all octets", lists_octets(rt.alloc(), 7, 0)),
             ("too many", refuses_more(rt.alloc())),
         ],
     );

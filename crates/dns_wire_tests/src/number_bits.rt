@@ -1,7 +1,7 @@
 //! Bits of numbers, with one another and with plain numbers.
 
 use crate::holds::all_hold;
-use dns_num::{U16, U32, U64};
+use dns_num::U16;
 
 /// Both, either, one alone and none of the bits of two numbers of two octets.
 fn bits_of_two(one: u16, other: u16) -> [u16; 4] {
@@ -45,98 +45,6 @@ fn bits_of_two_octets(rt: HostRuntime) {
             ("bits", bits == [0b1000, 0b1110, 0b0110, !0b1100]),
             ("a plain number", with_plain == [0b1000, 0b1110, 0b0110]),
             ("in place", bits_in_place_two() == 0b1001),
-        ],
-    );
-}
-
-/// Both, either, one alone and none of the bits of two numbers of four octets.
-fn bits_of_four(one: u32, other: u32) -> [u32; 4] {
-    let (one, other) = (U32::new(one), U32::new(other));
-    [
-        (one & other).get(),
-        (one | other).get(),
-        (one ^ other).get(),
-        (!one).get(),
-    ]
-}
-
-/// The same with a plain number, without the last.
-fn bits_with_plain_four(one: u32, other: u32) -> [u32; 3] {
-    let one = U32::new(one);
-    [
-        (one & other).get(),
-        (one | other).get(),
-        (one ^ other).get(),
-    ]
-}
-
-/// The bits of a number of four octets, changed in place.
-fn bits_in_place_four() -> u32 {
-    let mut number = U32::new(0b1100);
-    number |= 0b0001;
-    number |= U32::new(0b0010);
-    number &= 0b0111;
-    number &= U32::new(0b1110);
-    number ^= U32::new(0b1111);
-    number.get()
-}
-
-#[test]
-fn bits_of_four_octets(rt: HostRuntime) {
-    let bits = bits_of_four(0b1100, 0b1010);
-    let with_plain = bits_with_plain_four(0b1100, 0b1010);
-    all_hold(
-        &rt,
-        &[
-            ("bits", bits == [0b1000, 0b1110, 0b0110, !0b1100]),
-            ("a plain number", with_plain == [0b1000, 0b1110, 0b0110]),
-            ("in place", bits_in_place_four() == 0b1001),
-        ],
-    );
-}
-
-/// Both, either, one alone and none of the bits of two numbers of eight octets.
-fn bits_of_eight(one: u64, other: u64) -> [u64; 4] {
-    let (one, other) = (U64::new(one), U64::new(other));
-    [
-        (one & other).get(),
-        (one | other).get(),
-        (one ^ other).get(),
-        (!one).get(),
-    ]
-}
-
-/// The same with a plain number, without the last.
-fn bits_with_plain_eight(one: u64, other: u64) -> [u64; 3] {
-    let one = U64::new(one);
-    [
-        (one & other).get(),
-        (one | other).get(),
-        (one ^ other).get(),
-    ]
-}
-
-/// The bits of a number of eight octets, changed in place.
-fn bits_in_place_eight() -> u64 {
-    let mut number = U64::new(0b1100);
-    number |= 0b0001;
-    number |= U64::new(0b0010);
-    number &= 0b0111;
-    number &= U64::new(0b1110);
-    number ^= U64::new(0b1111);
-    number.get()
-}
-
-#[test]
-fn bits_of_eight_octets(rt: HostRuntime) {
-    let bits = bits_of_eight(0b1100, 0b1010);
-    let with_plain = bits_with_plain_eight(0b1100, 0b1010);
-    all_hold(
-        &rt,
-        &[
-            ("bits", bits == [0b1000, 0b1110, 0b0110, !0b1100]),
-            ("a plain number", with_plain == [0b1000, 0b1110, 0b0110]),
-            ("in place", bits_in_place_eight() == 0b1001),
         ],
     );
 }

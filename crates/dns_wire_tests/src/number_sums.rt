@@ -1,7 +1,7 @@
 //! Sums and differences of numbers, with one another and with plain numbers.
 
 use crate::holds::all_hold;
-use dns_num::{U16, U32, U64};
+use dns_num::U16;
 
 /// The sums and differences of a number of two octets, in place.
 fn two_in_place() -> bool {
@@ -20,48 +20,13 @@ fn two_octets() -> bool {
     sum.get() == 299 && other.get() == 299
 }
 
-/// The sums and differences of a number of four octets, in place.
-fn four_in_place() -> bool {
-    let mut number = U32::new(70000);
-    number += 5;
-    number += U32::new(1);
-    number -= 2;
-    number -= U32::new(3);
-    number.get() == 70001
-}
-
-/// The sums and differences of a number of four octets.
-fn four_octets() -> bool {
-    let sum = U32::new(70000) + U32::new(3) - 4;
-    let other = U32::new(70000) + 1 - U32::new(2);
-    sum.get() == 69999 && other.get() == 69999
-}
-
-/// The sums and differences of a number of eight octets, in place.
-fn eight_in_place() -> bool {
-    let mut number = U64::new(5000000000);
-    number += 5;
-    number += U64::new(1);
-    number -= 2;
-    number -= U64::new(3);
-    number.get() == 5000000001
-}
-
-/// The sums and differences of a number of eight octets.
-fn eight_octets() -> bool {
-    let sum = U64::new(5000000000) + U64::new(3) - 4;
-    let other = U64::new(5000000000) + 1 - U64::new(2);
-    sum.get() == 4999999999 && other.get() == 4999999999
-}
-
 #[test]
 fn numbers_are_added_and_subtracted(rt: HostRuntime) {
     all_hold(
         &rt,
         &[
-            ("two octets", two_octets() && two_in_place()),
-            ("four octets", four_octets() && four_in_place()),
-            ("eight octets", eight_octets() && eight_in_place()),
+            ("two octets", two_octets()),
+            ("two octets in place", two_in_place()),
         ],
     );
 }

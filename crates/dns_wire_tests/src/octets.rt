@@ -16,11 +16,6 @@ fn splits_one(octets: &[u8], first: u8, left: &[u8]) -> bool {
     }
 }
 
-/// Whether no octet is at the front.
-fn is_nothing(octets: &[u8]) -> bool {
-    u8::split_bytes(octets).is_err()
-}
-
 /// Whether the octets are these two and nothing else.
 fn splits_two(octets: &[u8], two: [u8; 2]) -> bool {
     match <[u8; 2]>::split_bytes(octets) {
@@ -52,7 +47,6 @@ fn octets_are_read(rt: HostRuntime) {
         &rt,
         &[
             ("one of three", splits_one(b"abc", b'a', rest)),
-            ("one of none", is_nothing(b"")),
             ("two of two", splits_two(rest, *b"bc")),
             ("two", is_one_or_three(rest) == (false, false)),
             ("one", is_one_or_three(b"a") == (true, false)),
@@ -90,16 +84,6 @@ fn are_built() -> bool {
     }
 }
 
-/// The sizes of no octet, of one, and of two.
-fn sizes() -> (usize, usize, usize) {
-    let octets: &[u8] = b"cd";
-    (
-        ().built_bytes_size(),
-        b'x'.built_bytes_size(),
-        octets.built_bytes_size(),
-    )
-}
-
 #[test]
 fn octets_are_written(rt: HostRuntime) {
     all_hold(
@@ -107,20 +91,9 @@ fn octets_are_written(rt: HostRuntime) {
         &[
             ("put", are_put()),
             ("built", are_built()),
-            ("sizes", sizes() == (0, 1, 2)),
             ("three octets", writes(b"abc", b"abc")),
         ],
     );
-}
-
-/// The octet at the offset, and where it ends.
-fn split_one_at(contents: &[u8], start: usize) -> Option<(u8, usize)> {
-    u8::split_message_bytes(contents, start).ok()
-}
-
-/// The octet from the offset to the end.
-fn parse_one_at(contents: &[u8], start: usize) -> Option<u8> {
-    u8::parse_message_bytes(contents, start).ok()
 }
 
 /// The two octets at the offset, and where they end.
@@ -141,32 +114,14 @@ fn parses_all_at(contents: &[u8], start: usize, octets: &[u8]) -> bool {
     }
 }
 
-/// Whether single octets are read where they are.
-fn ones_are_at_offsets(contents: &[u8]) -> bool {
-    split_one_at(contents, 1) == Some((b'b', 2))
-        && split_one_at(contents, 4).is_none()
-        && parse_one_at(contents, 3) == Some(b'd')
-        && parse_one_at(contents, 2).is_none()
-}
-
-/// Whether pairs of octets are read where they are.
-fn twos_are_at_offsets(contents: &[u8]) -> bool {
-    split_two_at(contents, 1) == Some((*b"bc", 3)) && parse_two_at(contents, 2) == Some(*b"cd")
-}
-
-/// Whether all octets are read from an offset on.
-fn all_are_at_offsets(contents: &[u8]) -> bool {
-    parses_all_at(contents, 4, b"") && !parses_all_at(contents, 5, b"")
-}
-
 #[test]
 fn octets_are_read_at_offsets(rt: HostRuntime) {
     all_hold(
         &rt,
         &[
-            ("one octet", ones_are_at_offsets(b"abcd")),
-            ("two octets", twos_are_at_offsets(b"abcd")),
-            ("all octets", all_are_at_offsets(b"abcd")),
+            ("two", split_two_at(b"abcd", 1) == Some((*b"bc", 3))),
+            ("the last two", parse_two_at(b"abcd", 2) == Some(*b"cd")),
+            ("all octets", parses_all_at(b"abcd", 4, b"")),
         ],
     );
 }

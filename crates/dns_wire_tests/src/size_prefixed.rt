@@ -1,10 +1,9 @@
-//! Data after the number of their octets, written and compared.
+//! Data after the number of their octets, written.
 
 use crate::holds::all_hold;
 use crate::writing::{is_refused, writes, writes_in_message};
 use dns_num::{SizePrefixed, U16, U32};
 use dns_wire::{BuildBytes, BuildInMessage};
-use std::cmp::Ordering;
 
 /// Whether the value is written as the octets, in a message too, and refused where an octet of room is
 /// missing.
@@ -16,11 +15,6 @@ fn builds<T: BuildBytes + BuildInMessage>(value: &T, octets: &[u8]) -> bool {
 fn builds_text(text: &str, after_one: &[u8], after_two: &[u8]) -> bool {
     builds(&SizePrefixed::<u8, &str>::new(text), after_one)
         && builds(&SizePrefixed::<U16, &str>::new(text), after_two)
-}
-
-/// Whether nothing is written after its size.
-fn builds_nothing() -> bool {
-    builds(&SizePrefixed::<u8, ()>::new(()), b"\0")
 }
 
 /// Whether a number of four octets is written after its size and the size of both.
@@ -37,11 +31,6 @@ fn builds_twice_in_one() -> bool {
     builds(&twice, b"\x03\x02\0\x07")
 }
 
-/// How many octets a number of four octets and its size are.
-fn size_of_number() -> usize {
-    SizePrefixed::<U16, U32>::new(U32::new(7)).built_bytes_size()
-}
-
 #[test]
 fn data_are_written_after_their_size(rt: HostRuntime) {
     let is_text = builds_text("Hello", b"\x05Hello", b"\0\x05Hello");
@@ -49,30 +38,8 @@ fn data_are_written_after_their_size(rt: HostRuntime) {
         &rt,
         &[
             ("a text", is_text),
-            ("nothing", builds_nothing()),
             ("a number in two sizes", builds_twice()),
             ("a short number in two sizes", builds_twice_in_one()),
-            ("octets", size_of_number() == 6),
-        ],
-    );
-}
-
-/// How two numbers after their sizes compare.
-fn order(one: u32, other: u32) -> (Ordering, bool) {
-    let one = SizePrefixed::<u8, U32>::new(U32::new(one));
-    let other = SizePrefixed::<u8, U32>::new(U32::new(other));
-    let copy = one;
-    (copy.cmp(&other), one == other)
-}
-
-/// As their data, whatever the prefix.
-#[test]
-fn prefixed_data_are_compared(rt: HostRuntime) {
-    all_hold(
-        &rt,
-        &[
-            ("7 and 8", order(7, 8) == (Ordering::Less, false)),
-            ("7 and 7", order(7, 7) == (Ordering::Equal, true)),
         ],
     );
 }
