@@ -52,11 +52,13 @@ has_all() {
 # share them. The estimate of what is left goes by these.
 seconds_of() {
     case $1 in
-    dns_wire | dns_name | dns_record) echo 60 ;;
-    dns_rdata | dns_canon) echo 130 ;;
-    dns_message) echo 110 ;;
-    dnscanon) echo 70 ;;
-    *) echo 30 ;;
+    dns_wire) echo 71 ;;
+    dns_num | dns_label) echo 35 ;;
+    dns_name | dns_record) echo 82 ;;
+    dns_rdata | dns_canon) echo 256 ;;
+    dns_message) echo 160 ;;
+    dnscanon) echo 108 ;;
+    *) echo 41 ;;
     esac
 }
 
