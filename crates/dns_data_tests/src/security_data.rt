@@ -4,7 +4,7 @@ use crate::security_calls::{are_alike, forms, holds, rewrites};
 use dns_edns::Opt;
 use dns_nsec::{Nsec, Nsec3, Nsec3Param};
 use dns_record::CanonicalRecordData;
-use dns_sec::{DNSKey, Ds, Rrsig, ZoneMD};
+use dns_sec::{CDNSKey, Cds, DNSKey, Ds, Rrsig, ZoneMD};
 use dns_wire::ParseBytes;
 use std::cmp::Ordering;
 
@@ -14,6 +14,17 @@ pub(crate) const DIGEST: &[u8] =
 
 /// The DNSKEY 256 3 5 AQPSKmynfzW4kyBv015MUG2DeIQ3, as `to_wire` of dnspython 2.3.0 writes it.
 pub(crate) const KEY: &[u8] = b"\x01\0\x03\x05\x01\x03\xd2*l\xa7\x7f5\xb8\x93 o\xd3^LPm\x83x\x847";
+
+/// A CDS of a SHA-256 digest from `samples/child-digests`, as `to_wire` of dnspython 2.3.0 writes it.
+const CHILD_DIGEST: &[u8] =
+    b"\xeey\x0d\x02Z\x98N[L\x8b~\x9b\xa2W\xe1\xbbl\xa4\xda\x9a^F\xba\x97\xb9\xa5\x9d\xb2\xa2\x88\x86\xebg\x82\x11\xfd";
+
+/// The CDNSKEY of an Ed25519 key from `samples/child-keys-signed`, as `to_wire` of dnspython 2.3.0 writes it.
+const CHILD_KEY: &[u8] =
+    b"\x01\x01\x03\x0f\xf8\xb7\x0c\x0e\x83\xf9\xa4@f\xbc\xafx\xd4m\xba\0L.\xac\x83\xd8N\x88$i\x80'F\x10\xb3\x0dx";
+
+/// The CDNSKEY 0 3 0 AA== of RFC 8078 section 4, as `to_wire` of dnspython 2.3.0 writes it.
+const NO_KEY: &[u8] = b"\0\0\x03\0\0";
 
 /// The RRSIG A 5 3 86400 20030322173103 20030220173103 2642 Example.COM. oJB1Wg==, as `to_wire` of dnspython 2.3.0
 /// writes it.
@@ -133,6 +144,8 @@ fn rewrites_kind(kind: &str, octets: &[u8], canonical: &[u8]) -> bool {
     match kind {
         "DS" => rewrites::<Ds>(octets, canonical),
         "DNSKEY" => rewrites::<DNSKey>(octets, canonical),
+        "CDS" => rewrites::<Cds>(octets, canonical),
+        "CDNSKEY" => rewrites::<CDNSKey>(octets, canonical),
         "RRSIG" => rewrites::<Rrsig>(octets, canonical),
         "ZONEMD" => rewrites::<ZoneMD<&[u8]>>(octets, canonical),
         "NSEC" => rewrites::<Nsec>(octets, canonical),
@@ -147,9 +160,12 @@ fn rewrites_kind(kind: &str, octets: &[u8], canonical: &[u8]) -> bool {
 #[test]
 fn data_are_written(rt: HostRuntime) {
     let option: &[u8] = b"\0\x03\0\x02ns";
-    let rows: [(&str, &[u8], &[u8]); 8] = [
+    let rows: [(&str, &[u8], &[u8]); 11] = [
         ("DS", DIGEST, DIGEST),
         ("DNSKEY", KEY, KEY),
+        ("CDS", CHILD_DIGEST, CHILD_DIGEST),
+        ("CDNSKEY", CHILD_KEY, CHILD_KEY),
+        ("CDNSKEY", NO_KEY, NO_KEY),
         ("RRSIG", SIGNATURE, LOWERCASE_SIGNATURE),
         ("ZONEMD", ZONE_DIGEST, ZONE_DIGEST),
         ("NSEC", NEXT_NAME, NEXT_NAME),

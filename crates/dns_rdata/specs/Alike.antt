@@ -13,6 +13,8 @@ use Rattle.dns_record.specs.CharStrs.{same_charstr}
 use Rattle.dns_record.specs.FieldOrder.{fields_eq, fields_writes}
 use Rattle.dns_record.specs.Fields.{FieldOf}
 use Rattle.dns_record.specs.Fields.FieldOf.{Named, Bare, Raw, Sized, Byte, Number}
+use Rattle.dns_record.specs.Kinds.{Kind}
+use Rattle.dns_record.specs.Rows.{rows}
 use Rattle.dns_rdata.specs.Data.{data_fields, type_number}
 use Rattle.dns_rdata.specs.declared.record_data.RecordData.{RecordData}
 use Rattle.dns_rdata.specs.declared.record_data.RecordData.TheVariants.{Unknown}
@@ -73,7 +75,7 @@ same_content names a b = beq a.known b.known && (nat_eq a.rtype b.rtype && same_
 
 -- the numbers of the types that are read as they say, in the order of the choice among them
 abbrev pub choices : List ℕ
-choices = 1 ∷ 2 ∷ 5 ∷ 6 ∷ 12 ∷ 13 ∷ 15 ∷ 16 ∷ 17 ∷ 33 ∷ 28 ∷ 39 ∷ 41 ∷ 43 ∷ 46 ∷ 47 ∷ 48 ∷ 50 ∷ 51 ∷ 63 ∷ []
+choices = map (λ (typed : ℕ × List Kind). typed.0) rows
 
 -- how many stand before the number
 abbrev pub place_among : List ℕ → ℕ → ℕ

@@ -9,9 +9,9 @@ use Rattle.dns_basic.specs.Types.{ns_fields, cname_fields, soa_fields, ptr_field
 use Rattle.dns_edns.specs.Types.{opt_fields}
 use Rattle.dns_nsec.specs.Types.{nsec_fields, nsec3_fields, nsec3param_fields}
 use Rattle.dns_plain.specs.Types.{a_fields, hinfo_fields, txt_fields, aaaa_fields, srv_fields, dname_fields}
-use Rattle.dns_sec.specs.Types.{ds_fields, rrsig_fields, dnskey_fields, zonemd_fields}
+use Rattle.dns_sec.specs.Types.{ds_fields, cds_fields, rrsig_fields, dnskey_fields, cdnskey_fields, zonemd_fields}
 use Rattle.dns_rdata.specs.declared.record_data.RecordData.{RecordData}
-use Rattle.dns_rdata.specs.declared.record_data.RecordData.TheVariants.{A, Ns, CName, Soa, Ptr, HInfo, Mx, Txt, Rp, Srv, Aaaa, DName, Opt, Ds, Rrsig, Nsec, DNSKey, Nsec3, Nsec3Param, ZoneMD, Unknown}
+use Rattle.dns_rdata.specs.declared.record_data.RecordData.TheVariants.{A, Ns, CName, Soa, Ptr, HInfo, Mx, Txt, Rp, Srv, Aaaa, DName, Opt, Ds, Rrsig, Nsec, DNSKey, Nsec3, Nsec3Param, Cds, CDNSKey, ZoneMD, Unknown}
 
 -- a field of data in which no name may have pointers
 abbrev pub as_plain : {N : Type 0} → Field → FieldOf N
@@ -43,6 +43,8 @@ data_fields (Nsec v) = map as_plain (nsec_fields v)
 data_fields (DNSKey v) = map as_plain (dnskey_fields v)
 data_fields (Nsec3 v) = map as_plain (nsec3_fields v)
 data_fields (Nsec3Param v) = map as_plain (nsec3param_fields v)
+data_fields (Cds v) = map as_plain (cds_fields v)
+data_fields (CDNSKey v) = map as_plain (cdnskey_fields v)
 data_fields (ZoneMD v) = map as_plain (zonemd_fields (λ digest. digest.now) v)
 data_fields (Unknown rtype v) = Raw v.octets.now ∷ []
 
@@ -67,6 +69,8 @@ type_number (Nsec v) = 47
 type_number (DNSKey v) = 48
 type_number (Nsec3 v) = 50
 type_number (Nsec3Param v) = 51
+type_number (Cds v) = 59
+type_number (CDNSKey v) = 60
 type_number (ZoneMD v) = 63
 type_number (Unknown rtype v) = rtype.code.value
 

@@ -2,7 +2,7 @@
 -- another state.
 use Rattle.std.specs.Prelude.{◌≡◌, ⊤, Option, Some, None}
 use Rattle.dns_rdata.specs.declared.record_data.RecordData.{RecordData}
-use Rattle.dns_rdata.specs.declared.record_data.RecordData.TheVariants.{A, Ns, CName, Soa, Ptr, HInfo, Mx, Txt, Rp, Srv, Aaaa, DName, Opt, Ds, Rrsig, Nsec, DNSKey, Nsec3, Nsec3Param, ZoneMD, Unknown}
+use Rattle.dns_rdata.specs.declared.record_data.RecordData.TheVariants.{A, Ns, CName, Soa, Ptr, HInfo, Mx, Txt, Rp, Srv, Aaaa, DName, Opt, Ds, Rrsig, Nsec, DNSKey, Nsec3, Nsec3Param, Cds, CDNSKey, ZoneMD, Unknown}
 
 -- it may be called on one name, and then, whatever that call left, on the other
 abbrev pub TakesBoth : {N R F : Type 0} → (F → N → Type 0) → (F → N → R → F → Type 0) → F → N → N → Type 0
@@ -17,35 +17,6 @@ TakesNames takes calls f (Ptr v) = takes f v.name
 TakesNames takes calls f (Mx v) = takes f v.exchange
 TakesNames takes calls f (Rp v) = TakesBoth takes calls f v.mailbox v.texts
 TakesNames takes calls f v = ⊤
-
--- these are the data with what the calls gave in place of the names; all else is as it was
-abbrev pub HoldsGiven : {N R F : Type 0} → (F → N → R → F → Type 0) → F → RecordData N → RecordData R → Type 0
-HoldsGiven calls f (A v) result = result ≡ A v
-HoldsGiven {R = R} {F = F} calls f (Ns v) result = (given : R) × (last : F) × calls f v.server given last × (result ≡ Ns (record { server = given }))
-HoldsGiven {R = R} {F = F} calls f (CName v) result = (given : R) × (last : F) × calls f v.name given last × (result ≡ CName (record { name = given }))
-HoldsGiven {R = R} {F = F} calls f (Soa v) result =
-    (mname : R) × (rname : R) × (between : F) × (last : F) × calls f v.mname mname between × calls between v.rname rname last
-    × (result ≡ Soa (record { mname = mname; rname = rname; serial = v.serial; refresh = v.refresh; retry = v.retry; expire = v.expire; minimum = v.minimum }))
-HoldsGiven {R = R} {F = F} calls f (Ptr v) result = (given : R) × (last : F) × calls f v.name given last × (result ≡ Ptr (record { name = given }))
-HoldsGiven calls f (HInfo v) result = result ≡ HInfo v
-HoldsGiven {R = R} {F = F} calls f (Mx v) result =
-    (given : R) × (last : F) × calls f v.exchange given last × (result ≡ Mx (record { preference = v.preference; exchange = given }))
-HoldsGiven calls f (Txt v) result = result ≡ Txt v
-HoldsGiven {R = R} {F = F} calls f (Rp v) result =
-    (mailbox : R) × (texts : R) × (between : F) × (last : F) × calls f v.mailbox mailbox between × calls between v.texts texts last
-    × (result ≡ Rp (record { mailbox = mailbox; texts = texts }))
-HoldsGiven calls f (Srv v) result = result ≡ Srv v
-HoldsGiven calls f (Aaaa v) result = result ≡ Aaaa v
-HoldsGiven calls f (DName v) result = result ≡ DName v
-HoldsGiven calls f (Opt v) result = result ≡ Opt v
-HoldsGiven calls f (Ds v) result = result ≡ Ds v
-HoldsGiven calls f (Rrsig v) result = result ≡ Rrsig v
-HoldsGiven calls f (Nsec v) result = result ≡ Nsec v
-HoldsGiven calls f (DNSKey v) result = result ≡ DNSKey v
-HoldsGiven calls f (Nsec3 v) result = result ≡ Nsec3 v
-HoldsGiven calls f (Nsec3Param v) result = result ≡ Nsec3Param v
-HoldsGiven calls f (ZoneMD v) result = result ≡ ZoneMD v
-HoldsGiven calls f (Unknown rtype v) result = result ≡ Unknown rtype v
 
 -- data without names that pointers may lead through, as data with names of another type
 abbrev pub without_names : {N R : Type 0} → RecordData N → Option (RecordData R)
@@ -62,6 +33,23 @@ without_names (Nsec v) = Some (Nsec v)
 without_names (DNSKey v) = Some (DNSKey v)
 without_names (Nsec3 v) = Some (Nsec3 v)
 without_names (Nsec3Param v) = Some (Nsec3Param v)
+without_names (Cds v) = Some (Cds v)
+without_names (CDNSKey v) = Some (CDNSKey v)
 without_names (ZoneMD v) = Some (ZoneMD v)
 without_names (Unknown rtype v) = Some (Unknown rtype v)
 without_names v = None
+
+-- these are the data with what the calls gave in place of the names; all else is as it was
+abbrev pub HoldsGiven : {N R F : Type 0} → (F → N → R → F → Type 0) → F → RecordData N → RecordData R → Type 0
+HoldsGiven {R = R} {F = F} calls f (Ns v) result = (given : R) × (last : F) × calls f v.server given last × (result ≡ Ns (record { server = given }))
+HoldsGiven {R = R} {F = F} calls f (CName v) result = (given : R) × (last : F) × calls f v.name given last × (result ≡ CName (record { name = given }))
+HoldsGiven {R = R} {F = F} calls f (Soa v) result =
+    (mname : R) × (rname : R) × (between : F) × (last : F) × calls f v.mname mname between × calls between v.rname rname last
+    × (result ≡ Soa (record { mname = mname; rname = rname; serial = v.serial; refresh = v.refresh; retry = v.retry; expire = v.expire; minimum = v.minimum }))
+HoldsGiven {R = R} {F = F} calls f (Ptr v) result = (given : R) × (last : F) × calls f v.name given last × (result ≡ Ptr (record { name = given }))
+HoldsGiven {R = R} {F = F} calls f (Mx v) result =
+    (given : R) × (last : F) × calls f v.exchange given last × (result ≡ Mx (record { preference = v.preference; exchange = given }))
+HoldsGiven {R = R} {F = F} calls f (Rp v) result =
+    (mailbox : R) × (texts : R) × (between : F) × (last : F) × calls f v.mailbox mailbox between × calls between v.texts texts last
+    × (result ≡ Rp (record { mailbox = mailbox; texts = texts }))
+HoldsGiven calls f v result = without_names v ≡ Some result

@@ -9,7 +9,7 @@ use dns_edns::Opt;
 use dns_nsec::{Nsec, Nsec3, Nsec3Param};
 use dns_plain::{A, Aaaa, DName, HInfo, Srv, Txt};
 use dns_record::RType;
-use dns_sec::{DNSKey, Ds, Rrsig, ZoneMD};
+use dns_sec::{CDNSKey, Cds, DNSKey, Ds, Rrsig, ZoneMD};
 use dns_wire::{ParseBytes, ParseError};
 
 /// What was read as data of one type, as data of any type.
@@ -46,6 +46,8 @@ pub(crate) fn read_plain<'a, N>(
         RType::DNSKEY => as_data(DNSKey::parse_bytes(bytes)),
         RType::NSEC3 => as_data(Nsec3::parse_bytes(bytes)),
         RType::NSEC3PARAM => as_data(Nsec3Param::parse_bytes(bytes)),
+        RType::CDS => as_data(Cds::parse_bytes(bytes)),
+        RType::CDNSKEY => as_data(CDNSKey::parse_bytes(bytes)),
         RType::ZONEMD => as_data(ZoneMD::parse_bytes(bytes)),
         _ => Ok(RecordData::Unknown(rtype, UnknownRecordData { octets: bytes })),
     }

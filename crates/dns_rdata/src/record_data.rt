@@ -24,7 +24,7 @@ use dns_name::CanonicalName;
 use dns_nsec::{Nsec, Nsec3, Nsec3Param};
 use dns_plain::{A, Aaaa, DName, HInfo, Srv, Txt};
 use dns_record::{CanonicalRecordData, ParseRecordData, ParseRecordDataBytes, RType};
-use dns_sec::{DNSKey, Ds, Rrsig, ZoneMD};
+use dns_sec::{CDNSKey, Cds, DNSKey, Ds, Rrsig, ZoneMD};
 use dns_wire::{
     BuildBytes, BuildInMessage, NameCompressor, ParseBytes, ParseError, ParseMessageBytes,
     ParseName, SplitMessageBytes, TruncationError,
@@ -57,6 +57,8 @@ fn has_row(rtype: RType) -> bool
             | RType::DNSKEY
             | RType::NSEC3
             | RType::NSEC3PARAM
+            | RType::CDS
+            | RType::CDNSKEY
             | RType::ZONEMD
     )
 }
@@ -102,6 +104,10 @@ pub enum RecordData<'a, N> {
     Nsec3(Nsec3<'a>),
     /// How names are hashed (RFC 5155 section 4.2).
     Nsec3Param(Nsec3Param<'a>),
+    /// The digest of a key that the parent is asked to publish (RFC 7344 section 3.1).
+    Cds(Cds<'a>),
+    /// A key that the parent is asked to digest and publish (RFC 7344 section 3.2).
+    CDNSKey(CDNSKey<'a>),
     /// The digest of a zone (RFC 8976 section 2.2).
     ZoneMD(ZoneMD<&'a [u8]>),
     /// Data of a type that has no row of its own (RFC 3597).
@@ -152,6 +158,8 @@ impl<'a, N> RecordData<'a, N> {
             RecordData::DNSKey(_) => RType::DNSKEY,
             RecordData::Nsec3(_) => RType::NSEC3,
             RecordData::Nsec3Param(_) => RType::NSEC3PARAM,
+            RecordData::Cds(_) => RType::CDS,
+            RecordData::CDNSKey(_) => RType::CDNSKEY,
             RecordData::ZoneMD(_) => RType::ZONEMD,
             RecordData::Unknown(rtype, _) => *rtype,
         }
@@ -185,6 +193,8 @@ impl<'a, N> RecordData<'a, N> {
             RecordData::DNSKey(v) => Some(RecordData::DNSKey(*v)),
             RecordData::Nsec3(v) => Some(RecordData::Nsec3(*v)),
             RecordData::Nsec3Param(v) => Some(RecordData::Nsec3Param(*v)),
+            RecordData::Cds(v) => Some(RecordData::Cds(*v)),
+            RecordData::CDNSKey(v) => Some(RecordData::CDNSKey(*v)),
             RecordData::ZoneMD(v) => Some(RecordData::ZoneMD(*v)),
             RecordData::Unknown(rtype, v) => Some(RecordData::Unknown(*rtype, *v)),
             _ => None,
@@ -216,6 +226,8 @@ impl<'a, N> RecordData<'a, N> {
             RecordData::DNSKey(v) => RecordData::DNSKey(v),
             RecordData::Nsec3(v) => RecordData::Nsec3(v),
             RecordData::Nsec3Param(v) => RecordData::Nsec3Param(v),
+            RecordData::Cds(v) => RecordData::Cds(v),
+            RecordData::CDNSKey(v) => RecordData::CDNSKey(v),
             RecordData::ZoneMD(v) => RecordData::ZoneMD(v),
             RecordData::Unknown(rtype, v) => RecordData::Unknown(rtype, v),
         }
@@ -310,6 +322,8 @@ impl<N: BuildBytes> BuildBytes for RecordData<'_, N> {
             RecordData::DNSKey(v) => v.build_at(bytes, start),
             RecordData::Nsec3(v) => v.build_at(bytes, start),
             RecordData::Nsec3Param(v) => v.build_at(bytes, start),
+            RecordData::Cds(v) => v.build_at(bytes, start),
+            RecordData::CDNSKey(v) => v.build_at(bytes, start),
             RecordData::ZoneMD(v) => v.build_at(bytes, start),
             RecordData::Unknown(_, v) => v.build_at(bytes, start),
         }
@@ -336,6 +350,8 @@ impl<N: BuildBytes> BuildBytes for RecordData<'_, N> {
             RecordData::DNSKey(v) => v.built_bytes_size(),
             RecordData::Nsec3(v) => v.built_bytes_size(),
             RecordData::Nsec3Param(v) => v.built_bytes_size(),
+            RecordData::Cds(v) => v.built_bytes_size(),
+            RecordData::CDNSKey(v) => v.built_bytes_size(),
             RecordData::ZoneMD(v) => v.built_bytes_size(),
             RecordData::Unknown(_, v) => v.built_bytes_size(),
         }
@@ -378,6 +394,8 @@ impl<N: BuildInMessage> BuildInMessage for RecordData<'_, N> {
             RecordData::DNSKey(v) => v.build_in_message(contents, start, compressor),
             RecordData::Nsec3(v) => v.build_in_message(contents, start, compressor),
             RecordData::Nsec3Param(v) => v.build_in_message(contents, start, compressor),
+            RecordData::Cds(v) => v.build_in_message(contents, start, compressor),
+            RecordData::CDNSKey(v) => v.build_in_message(contents, start, compressor),
             RecordData::ZoneMD(v) => v.build_in_message(contents, start, compressor),
             RecordData::Unknown(_, v) => v.build_in_message(contents, start, compressor),
         }
@@ -412,6 +430,8 @@ impl<N: CanonicalName> RecordData<'_, N> {
             (RecordData::DNSKey(v), RecordData::DNSKey(w)) => v.cmp_canonical(w),
             (RecordData::Nsec3(v), RecordData::Nsec3(w)) => v.cmp_canonical(w),
             (RecordData::Nsec3Param(v), RecordData::Nsec3Param(w)) => v.cmp_canonical(w),
+            (RecordData::Cds(v), RecordData::Cds(w)) => v.cmp_canonical(w),
+            (RecordData::CDNSKey(v), RecordData::CDNSKey(w)) => v.cmp_canonical(w),
             (RecordData::ZoneMD(v), RecordData::ZoneMD(w)) => v.cmp_canonical(w),
             (RecordData::Unknown(_, v), RecordData::Unknown(_, w)) => v.cmp_canonical(w),
             _ => Ordering::Equal,
@@ -450,6 +470,8 @@ impl<N: CanonicalName> CanonicalRecordData for RecordData<'_, N> {
             RecordData::DNSKey(v) => v.build_canonical_at(bytes, start),
             RecordData::Nsec3(v) => v.build_canonical_at(bytes, start),
             RecordData::Nsec3Param(v) => v.build_canonical_at(bytes, start),
+            RecordData::Cds(v) => v.build_canonical_at(bytes, start),
+            RecordData::CDNSKey(v) => v.build_canonical_at(bytes, start),
             RecordData::ZoneMD(v) => v.build_canonical_at(bytes, start),
             RecordData::Unknown(_, v) => v.build_canonical_at(bytes, start),
         }
@@ -650,6 +672,26 @@ impl<'a, N> From<Nsec3Param<'a>> for RecordData<'a, N> {
 
     fn from(value: Nsec3Param<'a>) -> RecordData<'a, N> {
         RecordData::Nsec3Param(value)
+    }
+}
+
+impl<'a, N> From<Cds<'a>> for RecordData<'a, N> {
+    ghost use Rattle.dns_rdata.specs.declared.record_data.RecordData.TheVariants.{Cds as variant};
+
+    ghost from_gives = { λ v w. w ≡ variant v };
+
+    fn from(value: Cds<'a>) -> RecordData<'a, N> {
+        RecordData::Cds(value)
+    }
+}
+
+impl<'a, N> From<CDNSKey<'a>> for RecordData<'a, N> {
+    ghost use Rattle.dns_rdata.specs.declared.record_data.RecordData.TheVariants.{CDNSKey as variant};
+
+    ghost from_gives = { λ v w. w ≡ variant v };
+
+    fn from(value: CDNSKey<'a>) -> RecordData<'a, N> {
+        RecordData::CDNSKey(value)
     }
 }
 

@@ -48,7 +48,7 @@ row_dname = Plain ∷ []
 abbrev pub row_opt : List Kind
 row_opt = Options ∷ []
 
--- DS (RFC 4034 section 5.1): key tag, algorithm, type of the digest, and the digest
+-- DS (RFC 4034 section 5.1) and CDS (RFC 7344 section 3.1): key tag, algorithm, type of the digest, and the digest
 abbrev pub row_ds : List Kind
 row_ds = OneNumber w16 ∷ OneByte ∷ OneByte ∷ Rest ∷ []
 
@@ -61,7 +61,7 @@ row_rrsig = OneNumber w16 ∷ OneByte ∷ OneByte ∷ OneNumber w32 ∷ OneNumbe
 abbrev pub row_nsec : List Kind
 row_nsec = Plain ∷ SomeWindows ∷ []
 
--- DNSKEY (RFC 4034 section 2.1): flags, protocol, algorithm, and the key
+-- DNSKEY (RFC 4034 section 2.1) and CDNSKEY (RFC 7344 section 3.2): flags, protocol, algorithm, and the key
 abbrev pub row_dnskey : List Kind
 row_dnskey = OneNumber w16 ∷ OneByte ∷ OneByte ∷ Rest ∷ []
 
@@ -81,7 +81,8 @@ row_zonemd = OneNumber w32 ∷ OneByte ∷ OneByte ∷ Rest ∷ []
 abbrev pub row_unknown : List Kind
 row_unknown = Rest ∷ []
 
--- the types that have a row, by their numbers (IANA, DNS Resource Record (RR) TYPEs)
+-- the types that have a row, by their numbers (IANA, DNS Resource Record (RR) TYPEs), in the order in which the choice among
+-- all data types has them
 abbrev pub rows : List (ℕ × List Kind)
 rows =
     (1, row_a)
@@ -93,8 +94,8 @@ rows =
     ∷ (15, row_mx)
     ∷ (16, row_txt)
     ∷ (17, row_rp)
-    ∷ (28, row_aaaa)
     ∷ (33, row_srv)
+    ∷ (28, row_aaaa)
     ∷ (39, row_dname)
     ∷ (41, row_opt)
     ∷ (43, row_ds)
@@ -103,6 +104,8 @@ rows =
     ∷ (48, row_dnskey)
     ∷ (50, row_nsec3)
     ∷ (51, row_nsec3param)
+    ∷ (59, row_ds)
+    ∷ (60, row_dnskey)
     ∷ (63, row_zonemd)
     ∷ []
 

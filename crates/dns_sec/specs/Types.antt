@@ -5,6 +5,8 @@ use Rattle.dns_wire.specs.Names.{name_labels}
 use Rattle.dns_record.specs.Fields.{Field}
 use Rattle.dns_record.specs.Fields.FieldOf.{Bare, Raw, Byte, Number}
 use Rattle.dns_sec.specs.Flags.{key_flag_bits}
+use Rattle.dns_sec.specs.declared.cdnskey.CDNSKey.{CDNSKey}
+use Rattle.dns_sec.specs.declared.cds.Cds.{Cds}
 use Rattle.dns_sec.specs.declared.dnskey.DNSKey.{DNSKey}
 use Rattle.dns_sec.specs.declared.ds.Ds.{Ds}
 use Rattle.dns_sec.specs.declared.rrsig.Rrsig.{Rrsig}
@@ -13,8 +15,28 @@ use Rattle.dns_sec.specs.declared.zonemd.ZoneMD.{ZoneMD}
 abbrev pub ds_fields : Ds → List Field
 ds_fields v = Number w16 v.keytag.value ∷ Byte v.algorithm.code ∷ Byte v.digest_type.code ∷ Raw v.digest.now ∷ []
 
+-- CDS data as DS data, and back (RFC 7344 section 3.1)
+abbrev pub as_ds : Cds → Ds
+as_ds v = record { keytag = v.keytag; algorithm = v.algorithm; digest_type = v.digest_type; digest = v.digest }
+
+abbrev pub as_cds : Ds → Cds
+as_cds v = record { keytag = v.keytag; algorithm = v.algorithm; digest_type = v.digest_type; digest = v.digest }
+
+abbrev pub cds_fields : Cds → List Field
+cds_fields v = ds_fields (as_ds v)
+
 abbrev pub dnskey_fields : DNSKey → List Field
 dnskey_fields v = Number w16 (key_flag_bits v.flags) ∷ Byte v.protocol ∷ Byte v.algorithm.code ∷ Raw v.key.now ∷ []
+
+-- CDNSKEY data as DNSKEY data, and back (RFC 7344 section 3.2)
+abbrev pub as_dnskey : CDNSKey → DNSKey
+as_dnskey v = record { flags = v.flags; protocol = v.protocol; algorithm = v.algorithm; key = v.key }
+
+abbrev pub as_cdnskey : DNSKey → CDNSKey
+as_cdnskey v = record { flags = v.flags; protocol = v.protocol; algorithm = v.algorithm; key = v.key }
+
+abbrev pub cdnskey_fields : CDNSKey → List Field
+cdnskey_fields v = dnskey_fields (as_dnskey v)
 
 abbrev pub rrsig_fields : Rrsig → List Field
 rrsig_fields v =

@@ -1,6 +1,8 @@
-//! Data of records of DNSSEC: DS, RRSIG, DNSKEY and ZONEMD, and the codes, flags and times in them.
+//! Data of records of DNSSEC: DS, CDS, RRSIG, DNSKEY, CDNSKEY and ZONEMD, and the codes, flags and times in them.
 #![tactic(auto)]
 
+mod cdnskey;
+mod cds;
 mod digest_type;
 mod dnskey;
 mod dnskey_flags;
@@ -15,6 +17,8 @@ mod zonemd;
 mod zonemd_hash_alg;
 mod zonemd_scheme;
 
+pub use cdnskey::CDNSKey;
+pub use cds::Cds;
 pub use digest_type::DigestType;
 pub use dnskey::DNSKey;
 pub use dnskey_flags::DNSKeyFlags;

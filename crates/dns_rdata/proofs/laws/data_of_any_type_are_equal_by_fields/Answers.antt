@@ -1,6 +1,6 @@
 use Rattle.std.proofs.Common.{refl}
 use Rattle.std.proofs.Math.Bool.{and-true, and_assoc}
-use Rattle.dns_rdata.specs.declared.record_data.RecordData.TheVariants.{A, Ns, CName, Soa, Ptr, HInfo, Mx, Txt, Rp, Srv, Aaaa, DName, Opt, Ds, Rrsig, Nsec, DNSKey, Nsec3, Nsec3Param, ZoneMD, Unknown}
+use Rattle.dns_rdata.specs.declared.record_data.RecordData.TheVariants.{A, Ns, CName, Soa, Ptr, HInfo, Mx, Txt, Rp, Srv, Aaaa, DName, Opt, Ds, Rrsig, Nsec, DNSKey, Nsec3, Nsec3Param, Cds, CDNSKey, ZoneMD, Unknown}
 use Rattle.dns_plain.specs.Strings.{strings_in}
 use Rattle.dns_rdata.proofs.Alike.{strings_compared}
 use Rattle.dns_rdata.proofs.laws.data_of_any_type_are_equal_by_fields.Goals as goal
@@ -25,6 +25,8 @@ returns g c (Nsec v) (Nsec w) = simp and-true
 returns g c (DNSKey v) (DNSKey w) = simp and-true
 returns g c (Nsec3 v) (Nsec3 w) = simp (and-true, and_assoc)
 returns g c (Nsec3Param v) (Nsec3Param w) = simp and-true
+returns g c (Cds v) (Cds w) = simp and-true
+returns g c (CDNSKey v) (CDNSKey w) = simp and-true
 returns g c (ZoneMD v) (ZoneMD w) = simp and-true
 returns g c (Unknown n v) (Unknown m w) = simp and-true
 returns g c a b = refl

@@ -1,6 +1,6 @@
 use Rattle.std.proofs.Common.{ℕ, List, ◌∷◌, ap}
 use Rattle.std.proofs.lemmas.List.{append-nil}
-use Rattle.dns_rdata.specs.declared.record_data.RecordData.TheVariants.{A, Ns, CName, Soa, Ptr, HInfo, Mx, Txt, Rp, Srv, Aaaa, DName, Opt, Ds, Rrsig, Nsec, DNSKey, Nsec3, Nsec3Param, ZoneMD, Unknown}
+use Rattle.dns_rdata.specs.declared.record_data.RecordData.TheVariants.{A, Ns, CName, Soa, Ptr, HInfo, Mx, Txt, Rp, Srv, Aaaa, DName, Opt, Ds, Rrsig, Nsec, DNSKey, Nsec3, Nsec3Param, Cds, CDNSKey, ZoneMD, Unknown}
 use Rattle.std.specs.Hash.{le_bytes}
 use Rattle.dns_plain.specs.Strings.{strings_in}
 use Rattle.dns_rdata.proofs.Alike.{strings_fed}
@@ -26,5 +26,7 @@ returns g c (Nsec v) = simp append-nil
 returns g c (DNSKey v) = simp append-nil
 returns g c (Nsec3 v) = simp append-nil
 returns g c (Nsec3Param v) = simp append-nil
+returns g c (Cds v) = simp append-nil
+returns g c (CDNSKey v) = simp append-nil
 returns g c (ZoneMD v) = simp append-nil
 returns g c (Unknown n v) = simp append-nil

@@ -2,10 +2,10 @@ use Rattle.std.proofs.Common.{◌≡◌, false, refl, rules}
 use Rattle.dns_record.specs.Rows.{has_row}
 use Rattle.dns_plain.specs.Types.{a_fields, hinfo_fields, txt_fields, srv_fields, aaaa_fields, dname_fields}
 use Rattle.dns_edns.specs.Types.{opt_fields}
-use Rattle.dns_sec.specs.Types.{ds_fields, rrsig_fields, dnskey_fields, zonemd_fields}
+use Rattle.dns_sec.specs.Types.{ds_fields, cds_fields, rrsig_fields, dnskey_fields, cdnskey_fields, zonemd_fields}
 use Rattle.dns_nsec.specs.Types.{nsec_fields, nsec3_fields, nsec3param_fields}
 use Rattle.dns_rdata.specs.Plain.{no_pointed}
-use Rattle.dns_rdata.specs.declared.record_data.RecordData.TheVariants.{A, HInfo, Txt, Srv, Aaaa, DName, Opt, Ds, Rrsig, Nsec, DNSKey, Nsec3, Nsec3Param, ZoneMD}
+use Rattle.dns_rdata.specs.declared.record_data.RecordData.TheVariants.{A, HInfo, Txt, Srv, Aaaa, DName, Opt, Ds, Rrsig, Nsec, DNSKey, Nsec3, Nsec3Param, Cds, CDNSKey, ZoneMD}
 use Rattle.dns_rdata.proofs.Plain.{plain_made, plain_is_not, named_types, unknown_read}
 use Rattle.dns_rdata.proofs.plain_data.read_plain.Goals as goal
 
@@ -47,6 +47,12 @@ returns-in-NSEC3 g c = plain_made Nsec3 nsec3_fields 50 c.args.rtype.code.value 
 
 pub returns-in-NSEC3PARAM : goal.returns-in-NSEC3PARAM
 returns-in-NSEC3PARAM g c = plain_made Nsec3Param nsec3param_fields 51 c.args.rtype.code.value c.args.bytes.now c.parse_bytes-in-NSEC3PARAM.result c.as_data-in-NSEC3PARAM.result (search rules) refl (λ v. (refl, (refl, tt))) c.parse_bytes-in-NSEC3PARAM.ensures c.as_data-in-NSEC3PARAM.ensures
+
+pub returns-in-CDS : goal.returns-in-CDS
+returns-in-CDS g c = plain_made Cds cds_fields 59 c.args.rtype.code.value c.args.bytes.now c.parse_bytes-in-CDS.result c.as_data-in-CDS.result (search rules) refl (λ v. (refl, (refl, tt))) c.parse_bytes-in-CDS.ensures c.as_data-in-CDS.ensures
+
+pub returns-in-CDNSKEY : goal.returns-in-CDNSKEY
+returns-in-CDNSKEY g c = plain_made CDNSKey cdnskey_fields 60 c.args.rtype.code.value c.args.bytes.now c.parse_bytes-in-CDNSKEY.result c.as_data-in-CDNSKEY.result (search rules) refl (λ v. (refl, (refl, tt))) c.parse_bytes-in-CDNSKEY.ensures c.as_data-in-CDNSKEY.ensures
 
 pub returns-in-ZONEMD : goal.returns-in-ZONEMD
 returns-in-ZONEMD g c = plain_made ZoneMD (zonemd_fields (λ digest. digest.now)) 63 c.args.rtype.code.value c.args.bytes.now c.parse_bytes-in-ZONEMD.result c.as_data-in-ZONEMD.result (search rules) refl (λ v. (refl, (refl, tt))) c.parse_bytes-in-ZONEMD.ensures c.as_data-in-ZONEMD.ensures

@@ -1,5 +1,5 @@
 use Rattle.dns_plain.specs.Types.{srv_fields, dname_fields}
-use Rattle.dns_sec.specs.Types.{ds_fields, rrsig_fields, dnskey_fields, zonemd_fields}
+use Rattle.dns_sec.specs.Types.{ds_fields, cds_fields, rrsig_fields, dnskey_fields, cdnskey_fields, zonemd_fields}
 use Rattle.dns_nsec.specs.Types.{nsec3_fields, nsec3param_fields}
 use Rattle.dns_rdata.proofs.Canonical.{plain_compared}
 use Rattle.dns_rdata.proofs.record_data.RecordData.cmp_of_one_type.Goals as goal
@@ -24,6 +24,12 @@ returns-in-Nsec3-Nsec3 g c = rw (c.in-Nsec3-Nsec3.is-0, c.in-Nsec3-Nsec3.is-1) (
 
 pub returns-in-Nsec3Param-Nsec3Param : goal.returns-in-Nsec3Param-Nsec3Param
 returns-in-Nsec3Param-Nsec3Param g c = rw (c.in-Nsec3Param-Nsec3Param.is-0, c.in-Nsec3Param-Nsec3Param.is-1) (plain_compared g.N.CanonicalName.name 51 (nsec3param_fields c.in-Nsec3Param-Nsec3Param.v) (nsec3param_fields c.in-Nsec3Param-Nsec3Param.w) _ c.cmp_canonical-in-Nsec3Param-Nsec3Param.ensures)
+
+pub returns-in-Cds-Cds : goal.returns-in-Cds-Cds
+returns-in-Cds-Cds g c = rw (c.in-Cds-Cds.is-0, c.in-Cds-Cds.is-1) (plain_compared g.N.CanonicalName.name 59 (cds_fields c.in-Cds-Cds.v) (cds_fields c.in-Cds-Cds.w) _ c.cmp_canonical-in-Cds-Cds.ensures)
+
+pub returns-in-CDNSKey-CDNSKey : goal.returns-in-CDNSKey-CDNSKey
+returns-in-CDNSKey-CDNSKey g c = rw (c.in-CDNSKey-CDNSKey.is-0, c.in-CDNSKey-CDNSKey.is-1) (plain_compared g.N.CanonicalName.name 60 (cdnskey_fields c.in-CDNSKey-CDNSKey.v) (cdnskey_fields c.in-CDNSKey-CDNSKey.w) _ c.cmp_canonical-in-CDNSKey-CDNSKey.ensures)
 
 pub returns-in-ZoneMD-ZoneMD : goal.returns-in-ZoneMD-ZoneMD
 returns-in-ZoneMD-ZoneMD g c = rw (c.in-ZoneMD-ZoneMD.is-0, c.in-ZoneMD-ZoneMD.is-1) (plain_compared g.N.CanonicalName.name 63 (zonemd_fields (λ digest. digest.now) c.in-ZoneMD-ZoneMD.v) (zonemd_fields (λ digest. digest.now) c.in-ZoneMD-ZoneMD.w) _ c.cmp_canonical-in-ZoneMD-ZoneMD.ensures)

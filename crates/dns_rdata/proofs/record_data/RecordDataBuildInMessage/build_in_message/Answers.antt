@@ -4,7 +4,7 @@ use Rattle.dns_record.specs.Fields.FieldOf.{Raw}
 use Rattle.dns_edns.specs.Types.{opt_fields}
 use Rattle.dns_nsec.specs.Types.{nsec_fields, nsec3_fields, nsec3param_fields}
 use Rattle.dns_plain.specs.Types.{a_fields, hinfo_fields, txt_fields, srv_fields, aaaa_fields, dname_fields}
-use Rattle.dns_sec.specs.Types.{ds_fields, rrsig_fields, dnskey_fields, zonemd_fields}
+use Rattle.dns_sec.specs.Types.{ds_fields, cds_fields, rrsig_fields, dnskey_fields, cdnskey_fields, zonemd_fields}
 use Rattle.dns_rdata.proofs.Pressed.{plain_built}
 use Rattle.dns_rdata.proofs.record_data.RecordDataBuildInMessage.build_in_message.Goals as goal
 
@@ -46,6 +46,12 @@ returns-in-Nsec3 g c = rw c.in-Nsec3.is (plain_built g.N.BuildInMessage.fits_in 
 
 pub returns-in-Nsec3Param : goal.returns-in-Nsec3Param
 returns-in-Nsec3Param g c = rw c.in-Nsec3Param.is (plain_built g.N.BuildInMessage.fits_in g.N.BuildInMessage.presses (nsec3param_fields c.in-Nsec3Param.v) refl c.build_in_message-in-Nsec3Param.ensures)
+
+pub returns-in-Cds : goal.returns-in-Cds
+returns-in-Cds g c = rw c.in-Cds.is (plain_built g.N.BuildInMessage.fits_in g.N.BuildInMessage.presses (cds_fields c.in-Cds.v) refl c.build_in_message-in-Cds.ensures)
+
+pub returns-in-CDNSKey : goal.returns-in-CDNSKey
+returns-in-CDNSKey g c = rw c.in-CDNSKey.is (plain_built g.N.BuildInMessage.fits_in g.N.BuildInMessage.presses (cdnskey_fields c.in-CDNSKey.v) refl c.build_in_message-in-CDNSKey.ensures)
 
 pub returns-in-ZoneMD : goal.returns-in-ZoneMD
 returns-in-ZoneMD g c = rw c.in-ZoneMD.is (plain_built g.N.BuildInMessage.fits_in g.N.BuildInMessage.presses (zonemd_fields (λ digest. digest.now) c.in-ZoneMD.v) refl c.build_in_message-in-ZoneMD.ensures)
