@@ -24,7 +24,8 @@ struct row {
 static const struct row rows[] = {
     {1, "4", 0}, {2, "P", 1}, {5, "P", 1}, {6, "PP4444 4", 1}, {12, "P", 1}, {13, "SS", 0}, {15, "2P", 1},
     {16, "T", 0}, {17, "PP", 1}, {28, "8 8", 0}, {33, "6N", 1}, {39, "N", 1}, {41, "O", 0}, {43, "4R", 0},
-    {46, "9 9NR", 1}, {47, "NB", 0}, {48, "4R", 0}, {50, "4SSb", 0}, {51, "4S", 0}, {63, "6R", 0},
+    {46, "9 9NR", 1}, {47, "NB", 0}, {48, "4R", 0}, {50, "4SSb", 0}, {51, "4S", 0}, {59, "4R", 0},
+    {60, "4R", 0}, {63, "6R", 0},
 };
 
 static const struct row unknown = {0, "R", 0};
@@ -222,13 +223,18 @@ static int data_cmp(const struct record *r, const struct record *s) {
     return 0;
 }
 
-static int record_cmp(const void *x, const void *y) {
-    const struct record *r = x, *s = y;
+/* Alike records tie: those of one owner, class, type and canonical data. */
+static int cmp_but_ttl(const struct record *r, const struct record *s) {
     int d = owners_cmp(r, s);
     if (d) return d;
     if (r->class != s->class) return r->class < s->class ? -1 : 1;
     if (r->type != s->type) return r->type < s->type ? -1 : 1;
-    d = data_cmp(r, s);
+    return data_cmp(r, s);
+}
+
+static int record_cmp(const void *x, const void *y) {
+    const struct record *r = x, *s = y;
+    int d = cmp_but_ttl(r, s);
     if (d) return d;
     return r->ttl < s->ttl ? -1 : r->ttl > s->ttl;
 }
@@ -349,6 +355,8 @@ int main(void) {
         }
     qsort(records, kept, sizeof *records, record_cmp);
     for (size_t i = 0; i < kept; i++) {
+        /* Of alike records the first has the least TTL. */
+        if (i > 0 && cmp_but_ttl(&records[i - 1], &records[i]) == 0) continue;
         size_t octets = spell(&records[i]);
         if (filled + 2 * octets + 1 > sizeof out) flush();
         for (size_t j = 0; j < octets; j++) {

@@ -1,5 +1,6 @@
 #!/usr/bin/python3
-"""The canonical lines of one message's records, as dnspython reads and writes them, in the order of dnscanon."""
+"""The canonical lines of one message's records, as dnspython reads and writes them, in the order of dnscanon, alike ones once."""
+import itertools
 import struct
 import sys
 
@@ -31,7 +32,8 @@ def key(found):
 
 def main():
     octets = bytes.fromhex(sys.stdin.read().strip())
-    for owner, rclass, rtype, data, ttl in sorted(records(octets), key=key):
+    for _, alike in itertools.groupby(sorted(records(octets), key=key), lambda found: key(found)[:-1]):
+        owner, rclass, rtype, data, ttl = next(alike)
         line = owner.to_digestable() + struct.pack(">HHIH", rtype, rclass, ttl, len(data)) + data
         print(line.hex())
 

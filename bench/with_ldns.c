@@ -36,9 +36,14 @@ int main(void) {
     keep(all, ldns_pkt_additional(pkt));
     ldns_rr_list_sort(all);
     ldns_buffer *buffer = ldns_buffer_new(65800);
-    for (size_t i = 0; i < ldns_rr_list_rr_count(all); i++) {
+    size_t count = ldns_rr_list_rr_count(all);
+    for (size_t i = 0; i < count;) {
+        /* Alike records stand together, since ldns does not compare TTLs: of those that are alike the one with the least is written. */
+        ldns_rr *least = ldns_rr_list_rr(all, i);
+        for (i++; i < count && ldns_rr_compare(least, ldns_rr_list_rr(all, i)) == 0; i++)
+            if (ldns_rr_ttl(ldns_rr_list_rr(all, i)) < ldns_rr_ttl(least)) least = ldns_rr_list_rr(all, i);
         ldns_buffer_clear(buffer);
-        if (ldns_rr2buffer_wire_canonical(buffer, ldns_rr_list_rr(all, i), LDNS_SECTION_ANSWER) != LDNS_STATUS_OK) fail("no octets");
+        if (ldns_rr2buffer_wire_canonical(buffer, least, LDNS_SECTION_ANSWER) != LDNS_STATUS_OK) fail("no octets");
         const uint8_t *octets = ldns_buffer_begin(buffer);
         for (size_t j = 0; j < ldns_buffer_position(buffer); j++) {
             putchar_unlocked("0123456789abcdef"[octets[j] >> 4]);

@@ -113,7 +113,7 @@ def runs():
     refused = Ended(8, b"", b"out of memory\n", None)
     for name, words, text, printed in (
         ("canon", ["canon"], samples.text(apex), samples.lines(apex)),
-        ("canon of 1,000 equal records", ["canon"], samples.THOUSAND_ALIKE, samples.THOUSAND_LINES),
+        ("canon of 1,000 equal records", ["canon"], samples.THOUSAND_ALIKE, samples.THOUSAND_LINE),
         ("same", ["same"], samples.TWO_ALIKE, b"same\n"),
         ("make 1", ["make", "1"], b"", samples.MADE_1),
     ):

@@ -37,10 +37,10 @@ MADE_4 = b"records 4 octets 135 message 112\n"
 MADE_1000 = b"records 1000 octets 35113 message 19257\n"
 
 
-# A thousand equal records, and their lines.
+# A thousand equal records, and their one line.
 RECORD_ALIKE = b"016100000100010000003c0004c0000201"
 THOUSAND_ALIKE = b"12348180000003e800000000" + 1000 * RECORD_ALIKE
-THOUSAND_LINES = 1000 * (RECORD_ALIKE + b"\n")
+THOUSAND_LINE = RECORD_ALIKE + b"\n"
 
 
 def long_message():

@@ -5,7 +5,7 @@ use Rattle.std.specs.declared.option.Option.{Option}
 use Rattle.std.proofs.KnownBytes.{Appends-trans}
 use Rattle.dns_wire.specs.Outside.{WritesFront, Puts}
 use Rattle.dns_wire.specs.declared.outside.Failed.{Failed}
-use Rattle.dns_canon.proofs.Transfers.{front_behind, front_longer, puts_behind}
+use Rattle.dns_text.proofs.Transfers.{front_behind, front_longer, puts_behind}
 use Rattle.std.specs.Io.KnownBytes.{Appends}
 use Rattle.std.proofs.lemmas.Grind.{take-set_at, flat_map-append}
 use Rattle.std.proofs.lemmas.List.{length-append, length-take-le, map-append, take_at, take_more}
@@ -13,7 +13,7 @@ use Rattle.std.proofs.lemmas.List.Concat.{flat_map-cons}
 use Rattle.hex.specs.Hex.{encode_lower}
 use Rattle.dns_wire.specs.Building.{Builds}
 use Rattle.dns_wire.specs.Hexadecimal.{shown, line, lines}
-use Rattle.dns_canon.proofs.Decoding.{encoded}
+use Rattle.dns_canon.proofs.Encoding.{encoded}
 
 -- ---- octets in front of others
 

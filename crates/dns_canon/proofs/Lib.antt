@@ -1,8 +1,7 @@
 -- The crate's own lemmas.
 pub mod Chained
-pub mod Decoding
-pub mod DigitTable
 pub mod Digits
+pub mod Encoding
 pub mod Exclusive
 pub mod GeneratedRecords
 pub mod HeldLines
@@ -10,11 +9,10 @@ pub mod MadeLemmas
 pub mod Pairs
 pub mod Parting
 pub mod PlainNames
+pub mod PrintedTexts
 pub mod PushedAnswers
 pub mod Sameness
 pub mod Sorting
-pub mod Transfers
-pub mod Trimming
 pub mod Verdicts
 pub mod WordLemmas
 pub mod Written

@@ -2,9 +2,10 @@
 use Rattle.std.proofs.Common.{◌≡◌, ℕ, zero, suc, ◌+◌, ◌*◌, ◌<◌, ◌≤◌, Bool, true, false, cond, List, [], ◌∷◌, ◌++◌, length, map, drop, refl, sym, ap, ◌∙◌, arith, add-zero, zero-add}
 use Rattle.std.specs.Prelude.{codes, decimal, replicate, set, filter, sum_by, nat_lt, slice_index, IsOk, Result, Ok, Err}
 use Rattle.std.specs.Int.{w16, w32, to_be_bytes}
-use Rattle.std.specs.List.{list_any, range_with_len}
+use Rattle.std.specs.List.{list_any, range_with_len, dedup, dedup_from}
 use Rattle.std.proofs.lemmas.List.{length-append, map-append}
 use Rattle.std.proofs.lemmas.List.Recursion.{is_sum_by}
+use Rattle.std.proofs.lemmas.List.Sorted.{IsPermutation-map}
 use Rattle.dns_wire.specs.Compression.{FitsIn, Pressing}
 use Rattle.dns_wire.specs.Names.{wire}
 use Rattle.dns_wire.specs.Pieces.{list_presses}
@@ -17,14 +18,14 @@ use Rattle.dns_message.specs.Canonical.{fold, canon, is_kept, record_octets}
 use Rattle.dns_message.specs.Messages.{Rec, Valid, counts_of, records_among}
 use Rattle.dns_message.specs.Messages.Item.{Told}
 use Rattle.dns_message.specs.Messages.Reading.{Whole}
-use Rattle.dns_message.specs.Order.{output}
+use Rattle.dns_message.specs.Order.{in_order, are_alike, output}
 use Rattle.dns_message.specs.Pushes.Push.{Add}
 use Rattle.dns_message.specs.Sorted.{times}
 use Rattle.dns_message.specs.declared.build_error.MessageBuildError.{MessageBuildError}
 use Rattle.dns_message.specs.declared.build_error.MessageBuildError.TheVariants.{Misplaced, TooMany, Truncated}
 use Rattle.dns_message.proofs.Accepted.{push_fits}
 use Rattle.dns_message.proofs.OneReading.{valid_one}
-use Rattle.dns_message.proofs.Ordering.{output_moves}
+use Rattle.dns_message.proofs.Ordering.{in_order_moves}
 use Rattle.dns_message.proofs.Pushed.{counts_with, header_long, new_whole, records_told}
 use Rattle.dns_message.proofs.Repushed.{pushed_record}
 use Rattle.dns_message.proofs.Sameness.{output_of_folds}
@@ -174,14 +175,28 @@ canon_short (suc n) first few = by (is_kept (generated_record first)) (canon_sho
   by true short = omega (arith, short, record_long (generated_record first), generated_short first (omega (arith, few)))
   by false short = omega (arith, short)
 
+-- where alike records are dropped there are no more octets
+octets_dropped : (E : Rec → Rec → Bool) (k : Rec) (rs : List Rec) → times length (map canon (dedup_from E k rs)) ≤ length (canon k) + times length (map canon rs)
+octets_dropped E k [] = omega arith
+octets_dropped E k (r ∷ rs) = by (E r k) (octets_dropped E k rs) (octets_dropped E r rs) where
+  by : (b : Bool) → times length (map canon (dedup_from E k rs)) ≤ length (canon k) + times length (map canon rs) → times length (map canon (dedup_from E r rs)) ≤ length (canon r) + times length (map canon rs)
+      → times length (map canon (cond b (dedup_from E k rs) (k ∷ dedup_from E r rs))) ≤ length (canon k) + (length (canon r) + times length (map canon rs))
+  by true one other = omega (arith, one)
+  by false one other = omega (arith, other)
+
+dropped_short : (E : Rec → Rec → Bool) (rs : List Rec) → times length (map canon (dedup E rs)) ≤ times length (map canon rs)
+dropped_short E [] = omega arith
+dropped_short E (r ∷ rs) = octets_dropped E r rs
+
 pub output_short : (n : ℕ) → n ≤ 1000 → sum_by length (output (generated n)) ≤ 65000
 output_short n few =
-    let kept = map canon (filter is_kept (generated n)) in
+    let kept = filter is_kept (generated n) in
     omega (
       arith,
       few,
       canon_short n 0 (omega (arith, few)),
-      sums_permuted kept (output (generated n)) (output_moves (generated n)) length,
+      dropped_short are_alike (in_order kept),
+      sums_permuted (map canon kept) (map canon (in_order kept)) (IsPermutation-map canon kept (in_order kept) (in_order_moves kept)) length,
       is_sum_by (times length) length refl (λ _ _. refl) (output (generated n)),
     )
 

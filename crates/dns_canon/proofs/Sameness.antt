@@ -11,8 +11,7 @@ use Rattle.dns_message.proofs.Octets.{no_octets, one_more}
 use Rattle.dns_message.proofs.Sameness.{message_outputs}
 use Rattle.dns_message.proofs.OneReading.{valid_one}
 use Rattle.std.specs.Ordering.{eq_by_cmp}
-use Rattle.dns_message.specs.Order.{record_cmp, sort_key}
-use Rattle.dns_canon.specs.Ordered.{AreInOrder}
+use Rattle.dns_message.specs.Order.{record_cmp, sort_key, collapsed}
 use Rattle.std.specs.Prelude.{filter}
 use Rattle.dns_message.specs.Canonical.{is_kept}
 use Rattle.dns_canon.specs.Parts.{first_text, second_text}
@@ -31,7 +30,7 @@ digit_below c v = by (nat_le 65 c && nat_le c 70) (nat_le 97 c && nat_le c 102) 
   by false false true p q r e = let is : c - 48 ≡ v = cc in grind (arith, nat_tests)
   by false false false p q r e = absurd cc
 
-spelled_octets : (s m : List ℕ) → spelled s ≡ Some m → AreOctets m
+pub spelled_octets : (s m : List ℕ) → spelled s ≡ Some m → AreOctets m
 unfolding spelled
 spelled_octets [] m e = let is : [] ≡ m = cc in subst AreOctets is no_octets
 spelled_octets (c ∷ []) m e = absurd cc
@@ -50,7 +49,7 @@ spelled_octets (c ∷ d ∷ rest) m e = by (digit_value c) (digit_value d) (spel
 -- ---- what is told
 
 -- the word for the records of two messages, in order
-pub told : (t u m n : List ℕ) (rs ss records others : List Rec) (printed : List ℕ) → Spells t m → Spells u n → Valid m rs → Valid n ss → AreInOrder (filter is_kept rs) records → AreInOrder (filter is_kept ss) others
+pub told : (t u m n : List ℕ) (rs ss records others : List Rec) (printed : List ℕ) → Spells t m → Spells u n → Valid m rs → Valid n ss → map sort_key records ≡ map sort_key (collapsed (filter is_kept rs)) → map sort_key others ≡ map sort_key (collapsed (filter is_kept ss))
     → (map sort_key records ≡ map sort_key others → printed ≡ codes "same" ++ 10 ∷ []) → (¬ (map sort_key records ≡ map sort_key others) → printed ≡ codes "different" ++ 10 ∷ [])
     → TellsSameness rs ss printed
 told t u m n rs ss records others printed first second valid also sorted sorted-too same different = by (pointwise (eq_by_cmp record_cmp) records others) refl where

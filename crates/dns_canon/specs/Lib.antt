@@ -1,7 +1,6 @@
 -- What the contracts of the canonical list and of the top call cite.
 pub mod Generated
 pub mod Making
-pub mod Ordered
 pub mod Parts
 pub mod Refusals
 pub mod Run

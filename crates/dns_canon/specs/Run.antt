@@ -1,6 +1,6 @@
 -- What a run answers, writes and leaves.
-use Rattle.std.specs.Prelude.{◌≡◌, ◌≢◌, ◌⊎◌, ℕ, ◌≤◌, List, [], ◌∷◌, ◌++◌, codes, length, Option, Some, IfSome, Result, Ok, Err}
-use Rattle.std.specs.Io.KnownBytes.{Appends, Consumes}
+use Rattle.std.specs.Prelude.{◌≡◌, ◌≢◌, ◌⊎◌, ℕ, List, [], ◌∷◌, ◌++◌, codes, Option, Some, IfSome, Result, Ok, Err}
+use Rattle.std.specs.Io.KnownBytes.{Appends}
 use Rattle.dns_wire.specs.Hexadecimal.{Spells, lines}
 use Rattle.dns_wire.specs.Outside.{WritesFront}
 use Rattle.dns_message.specs.Messages.{Rec, Valid}
@@ -52,10 +52,6 @@ WritesText command text old new answer = Unit {0}
 -- nothing is left of what was told
 abbrev pub IsEmptied : Option (List ℕ) → Option (List ℕ) → Type 0
 IsEmptied old new = IfSome old (λ _. new ≡ Some [])
-
--- no more octets than so many have been taken of what was told
-abbrev pub TakesAtMost : Option (List ℕ) → Option (List ℕ) → ℕ → Type 0
-TakesAtMost old new most = (taken : List ℕ) × Consumes old new taken × (length taken ≤ most)
 
 -- where the whole text has been read, nothing of it is left
 abbrev pub Empties : Status → Option (List ℕ) → Option (List ℕ) → Type 0

@@ -1,12 +1,12 @@
 -- How a run ends: codes, lines, and the status of each refusal.
-use Rattle.std.specs.Prelude.{ℕ, List, [], ◌∷◌, ◌++◌, codes, flat_map}
-use Rattle.std.specs.Fmt.{decimal}
+use Rattle.std.specs.Prelude.{ℕ, List, [], ◌∷◌, codes}
+use Rattle.dns_text.specs.Notes.{note_line}
 use Rattle.dns_canon.specs.declared.error.CanonError.{CanonError}
 use Rattle.dns_canon.specs.declared.error.CanonError.TheVariants as canon
-use Rattle.dns_canon.specs.declared.error.SpellingError.{SpellingError}
-use Rattle.dns_canon.specs.declared.error.SpellingError.TheVariants as spelling
-use Rattle.dns_canon.specs.declared.error.TextError.{TextError}
-use Rattle.dns_canon.specs.declared.error.TextError.TheVariants as text
+use Rattle.dns_text.specs.declared.error.HexError.{HexError}
+use Rattle.dns_text.specs.declared.error.HexError.TheVariants as hexadecimal
+use Rattle.dns_text.specs.declared.error.TextError.{TextError}
+use Rattle.dns_text.specs.declared.error.TextError.TheVariants as text
 use Rattle.dns_canon.specs.declared.status.Status.{Status}
 use Rattle.dns_canon.specs.declared.status.Status.TheVariants.{Done, Short, Item, BadHex, TooLong, Usage, ReadFault, WriteFault, Memory}
 
@@ -22,14 +22,6 @@ code_of WriteFault = 7
 code_of Memory = 8
 
 -- ---- the line for a status
-
--- a space, and the digits of a number
-abbrev pub spaced : ℕ → List ℕ
-spaced n = 32 ∷ decimal n
-
--- a word, numbers behind it, and LF
-abbrev pub note_line : List ℕ → List ℕ → List ℕ
-note_line word numbers = word ++ (flat_map spaced numbers ++ 10 ∷ [])
 
 -- the line that is noted for a status; nothing is noted for `Done`
 abbrev pub note_of : Status → List ℕ
@@ -50,9 +42,9 @@ text_status text.TooLong = TooLong
 text_status text.ReadFault = ReadFault
 text_status text.Memory = Memory
 
-abbrev pub spelling_status : SpellingError → Status
-spelling_status spelling.BadHex = BadHex
-spelling_status spelling.Memory = Memory
+abbrev pub hex_status : HexError → Status
+hex_status hexadecimal.BadHex = BadHex
+hex_status hexadecimal.Memory = Memory
 
 -- for the message of a number
 abbrev pub canon_status : ℕ → CanonError → Status

@@ -8,14 +8,13 @@ ghost use Rattle.dns_message.specs.Messages.{Rec, Valid};
 ghost use Rattle.dns_message.specs.Order.{output};
 
 use crate::error::CanonError;
-use crate::message::{in_order, read_records};
-use dns_message::CanonicalRecord;
+use crate::message::read_records;
+use dns_message::{CanonicalRecord, collapsed};
 use dns_wire::BuildBytes;
 use std::alloc::{AllocError, Global};
 use std::marker::Model;
 
-/// The canonical octets of each record of a message other than OPT, in order, each as often as its
-/// record stands.
+/// The canonical octets of each record of a message other than OPT, in order. Records that are alike stand once, with the least TTL.
 #[derive(Drop)]
 pub struct CanonList {
     lists: Vec<Vec<u8>>,
@@ -97,9 +96,9 @@ fn all_octets(alloc: Global, records: &[&CanonicalRecord<'_>]) -> Result<Vec<Vec
     Ok(lists)
 }
 
-/// The canonical list of a message (RFC 4034 section 6): the canonical octets of each record other than
-/// OPT, in order, each as often as its record stands. `Short` and `Item` come exactly where the
-/// message calls for them; `Memory` may come in place of any other answer.
+/// The canonical list of a message (RFC 4034 section 6): the canonical octets of each record other than OPT, in order. Records
+/// that are alike in owner, class, type and data stand once, with the least TTL (RFC 2181 section 5.2). `Short` and `Item`
+/// come exactly where the message calls for them; `Memory` may come in place of any other answer.
 pub fn canonicalise(alloc: Global, message: &[u8]) -> Result<CanonList, CanonError>
     ensures ok { IfOk result (λ list. (rs : List Rec) × Valid message.now rs × (list ≡ output rs)) }
     ensures refused { IfErr result (RefusedOrMemory message.now) }
@@ -110,7 +109,7 @@ pub fn canonicalise(alloc: Global, message: &[u8]) -> Result<CanonList, CanonErr
         → (result ≡ Err error) ⊎ (result ≡ Err CanonError.Memory) }
 {
     let records = read_records(alloc, message)?;
-    let order = in_order(alloc, &records)?;
+    let order = collapsed(alloc, &records)?;
     let lists = all_octets(alloc, &order)?;
     Ok(CanonList { lists })
 }

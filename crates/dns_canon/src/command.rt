@@ -8,20 +8,21 @@ ghost use Rattle.dns_message.specs.Order.{sort_key};
 ghost use Rattle.std.specs.Prelude.{filter};
 ghost use Rattle.dns_message.specs.Canonical.{is_kept};
 ghost use Rattle.dns_canon.specs.Refusals.{RefusedOrMemory};
-ghost use Rattle.dns_canon.specs.Run.{Answers, ended, Prints, WritesText, TakesAtMost, Empties};
+ghost use Rattle.dns_canon.specs.Run.{Answers, ended, Prints, WritesText, Empties};
 ghost use Rattle.dns_canon.specs.Statuses.{canon_status, note_of};
+ghost use Rattle.dns_text.specs.Taken.{TakesAtMost};
 ghost use Rattle.dns_canon.specs.Verdict.{reads, text_read, limit_of, verdict};
 ghost use Rattle.dns_canon.specs.Words.{command_of};
 ghost use Rattle.dns_canon.specs.declared.error.CanonError.{CanonError};
 
 use crate::lines::{LineBuffer, put_records};
 use crate::make::make_text;
-use crate::message::{in_order, read_records};
-use crate::spelling::{octets_of, parted};
+use crate::message::read_records;
+use crate::parts::parted;
 use crate::status::Status;
-use crate::transfer::{PIECE, put_line, put_text, read_text};
 use crate::words::{Command, LIMIT, LIMIT_OF_TWO, Words};
-use dns_message::CanonicalRecord;
+use dns_message::{CanonicalRecord, collapsed};
+use dns_text::{PIECE, octets_of, put_line, put_text, read_text};
 use dns_wire::{Failed, Sink, Source};
 use std::alloc::Global;
 
@@ -64,8 +65,8 @@ fn same_line(alloc: Global, text: &[u8]) -> Result<&'static [u8], Status>
     let second_message = octets_of(alloc, second)?;
     let first_records = records_of(alloc, &first_message, 0)?;
     let second_records = records_of(alloc, &second_message, 1)?;
-    let first_order = in_order(alloc, &first_records)?;
-    let second_order = in_order(alloc, &second_records)?;
+    let first_order = collapsed(alloc, &first_records)?;
+    let second_order = collapsed(alloc, &second_records)?;
     Ok(sameness(&first_order, &second_order))
 }
 
@@ -93,7 +94,7 @@ fn put_canon<K: Sink>(alloc: Global, text: &[u8], sink: &mut K) -> Result<(), St
 {
     let message = octets_of(alloc, text)?;
     let records = records_of(alloc, &message, 0)?;
-    let order = in_order(alloc, &records)?;
+    let order = collapsed(alloc, &records)?;
     let mut lines = LineBuffer::new(alloc)?;
     written(put_records(sink, &order, &mut lines))
 }

@@ -2,7 +2,6 @@
 
 ghost use Rattle.std.specs.Prelude.{◌≡◌};
 
-use dns_wire::Failed;
 use std::alloc::{AllocError, AllocFailed};
 
 /// Why a message has no canonical list.
@@ -34,50 +33,5 @@ impl<T: Drop> From<AllocFailed<T>> for CanonError {
 
     fn from(_error: AllocFailed<T>) -> CanonError {
         CanonError::Memory
-    }
-}
-
-/// Why a text was not read.
-#[derive(Clone, Copy, Debug, PartialEq, Eq)]
-pub(crate) enum TextError {
-    TooLong,
-    ReadFault,
-    Memory,
-}
-
-impl From<Failed> for TextError {
-    ghost use Rattle.dns_canon.specs.declared.error.TextError.TheVariants.{ReadFault};
-
-    ghost from_gives = { λ _ e. e ≡ ReadFault };
-
-    fn from(_error: Failed) -> TextError {
-        TextError::ReadFault
-    }
-}
-
-impl From<AllocError> for TextError {
-    ghost use Rattle.dns_canon.specs.declared.error.TextError.TheVariants.{Memory};
-
-    ghost from_gives = { λ _ e. e ≡ Memory };
-
-    fn from(_error: AllocError) -> TextError {
-        TextError::Memory
-    }
-}
-
-/// Why a text gave no octets.
-#[derive(Clone, Copy, Debug, PartialEq, Eq)]
-pub(crate) enum SpellingError {
-    BadHex,
-    Memory,
-}
-
-impl From<AllocError> for SpellingError {
-    ghost use Rattle.dns_canon.specs.declared.error.SpellingError.TheVariants.{Memory};
-
-    ghost from_gives = { λ _ e. e ≡ Memory };
-
-    fn from(_error: AllocError) -> SpellingError {
-        SpellingError::Memory
     }
 }

@@ -1,8 +1,9 @@
 //! What follows from the definitions.
 
 ghost use Rattle.std.specs.Prelude.{◌≡◌, ◌≤◌, ◌<◌, ◌⊎◌, ◌↔◌, ℕ, List, [], ◌∷◌, ◌++◌, Some, None, codes, decimal, length};
-ghost use Rattle.dns_wire.specs.Hexadecimal.{Spells, SpellsNothing};
+ghost use Rattle.dns_wire.specs.Hexadecimal.{Spells, SpellsNothing, lines};
 ghost use Rattle.dns_message.specs.Messages.{Rec, Valid, BadAt};
+ghost use Rattle.dns_message.specs.Order.{output};
 ghost use Rattle.dns_message.specs.Same.{Same};
 ghost use Rattle.dns_canon.specs.Run.{Prints};
 ghost use Rattle.dns_canon.specs.Parts.{before_lf, behind_lf, first_text, second_text, HasParts};
@@ -30,6 +31,11 @@ pub fn answers_on_sameness()
         Prints Command.Same t (codes "different" ++ 10 ∷ []) ↔ (¬ Same rs ss) }
     ensures no_others { (t printed : List ℕ) → Prints Command.Same t printed →
         (printed ≡ codes "same" ++ 10 ∷ []) ⊎ (printed ≡ codes "different" ++ 10 ∷ []) }
+{}
+
+/// What `canon` prints for two texts that spell valid messages is the same exactly where these carry the same records.
+pub fn equal_lines()
+    ensures { (t u m n : List ℕ) (rs ss : List Rec) → Spells t m → Spells u n → Valid m rs → Valid n ss → (lines (output rs) ≡ lines (output ss)) ↔ Same rs ss }
 {}
 
 /// A text is parted at its first LF; where there is none, the first part is the text, and the second is empty.

@@ -3,21 +3,21 @@
 
 mod canonical;
 mod command;
-mod digit_pairs;
 mod error;
 mod laws;
 mod lines;
 mod make;
 mod message;
-mod spelling;
+mod parts;
 mod status;
-mod transfer;
 mod words;
 
 pub use canonical::{CanonList, canonicalise};
 pub use command::run;
+pub use dns_text::PIECE;
 pub use error::CanonError;
-pub use laws::{answers_on_sameness, parted_texts, verdicts_in_words, words_of_commands};
+pub use laws::{
+    answers_on_sameness, equal_lines, parted_texts, verdicts_in_words, words_of_commands,
+};
 pub use status::Status;
-pub use transfer::PIECE;
 pub use words::{Command, LIMIT, LIMIT_OF_TWO, MOST_RECORDS, Words};

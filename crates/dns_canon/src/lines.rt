@@ -5,8 +5,8 @@ ghost use Rattle.dns_wire.specs.Hexadecimal.{line, lines};
 ghost use Rattle.dns_wire.specs.Outside.{HasCause, BecomesFlag, Puts};
 ghost use Rattle.dns_message.specs.Canonical.{canon};
 
-use crate::transfer::{put_all, put_text};
 use dns_message::CanonicalRecord;
+use dns_text::{put_all, put_text};
 use dns_wire::{BuildBytes, Failed, Sink};
 use std::alloc::{AllocError, Global};
 use std::marker::Model;

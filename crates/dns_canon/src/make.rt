@@ -11,7 +11,7 @@ ghost use Rattle.dns_canon.specs.Making.{HasMade};
 use crate::command::records_of;
 use crate::status::Status;
 use dns_basic::{Mx, Ns};
-use dns_message::{CanonicalRecord, HeaderFlags, MessageBuilder};
+use dns_message::{CanonicalRecord, HeaderFlags, MessageBuilder, collapsed};
 use dns_name::NameBuf;
 use dns_num::U16;
 use dns_plain::{A, Txt};
@@ -23,7 +23,7 @@ use std::alloc::{AllocError, Global};
 /// The most octets of a message (RFC 1035 section 4.2.2).
 const MESSAGE_LIMIT: usize = 65_535;
 
-/// The line on the message of so many generated records, at most 1,000: how many canonical records it has, how many octets
+/// The line on the message of so many generated records, at most 1,000: how many records its canonical list has, how many octets
 /// these have, and how many the message has, whose names are shared.
 pub(crate) fn make_text(alloc: Global, count: u16) -> Result<Vec<u8>, Status>
     requires { count ≤ 1000 }
@@ -37,19 +37,20 @@ pub(crate) fn make_text(alloc: Global, count: u16) -> Result<Vec<u8>, Status>
     push_records(alloc, &mut builder, count)?;
     let message = builder.message().as_bytes();
     let records = records_of(alloc, message, 0)?;
+    let order = collapsed(alloc, &records)?;
     let line = format!(in alloc;
         "records {} octets {} message {}\n",
-        records.len(),
-        octets_in(&records),
+        order.len(),
+        octets_in(&order),
         message.len()
     )?;
     Ok(line.into_bytes())
 }
 
 /// The number of canonical octets of all the records.
-fn octets_in(records: &[CanonicalRecord<'_>]) -> usize
-    requires { sum_by length (map canon records.now) < 2 ^ 64 }
-    ensures { result ≡ sum_by length (map canon records.now) }
+fn octets_in(records: &[&CanonicalRecord<'_>]) -> usize
+    requires { sum_by length (map (λ r. canon r.now) records.now) < 2 ^ 64 }
+    ensures { result ≡ sum_by length (map (λ r. canon r.now) records.now) }
 {
     records.iter().map(|found| found.size()).sum()
 }

@@ -1,14 +1,13 @@
-//! The records of a message, and their order.
+//! The records of a message.
 
-ghost use Rattle.std.specs.Prelude.{◌≡◌, List, IfOk, IfErr, filter, map};
-ghost use Rattle.dns_canon.specs.Ordered.{AreInOrder};
+ghost use Rattle.std.specs.Prelude.{◌≡◌, List, IfOk, IfErr, filter};
 ghost use Rattle.dns_canon.specs.Refusals.{RefusedOrMemory};
 ghost use Rattle.dns_message.specs.Canonical.{is_kept};
 ghost use Rattle.dns_message.specs.Messages.{Rec, Valid};
 
 use crate::error::CanonError;
 use dns_message::{CanonicalRecord, MessageParser};
-use std::alloc::{AllocError, Global};
+use std::alloc::Global;
 
 /// The fewest octets of a record: a root, and ten octets behind it (RFC 1035 section 3.2.1).
 const FEWEST_OCTETS: usize = 11;
@@ -41,19 +40,4 @@ pub(crate) fn read_records(
         }
     }
     Ok(records)
-}
-
-/// The records in canonical order (RFC 4034 section 6). They stay where they are, since each takes some hundred octets.
-pub(crate) fn in_order<'r, 'a>(
-    alloc: Global,
-    records: &'r [CanonicalRecord<'a>],
-) -> Result<Vec<&'r CanonicalRecord<'a>>, AllocError>
-    ensures { IfOk result (λ order. AreInOrder records.now (map (λ r. r.now) order.items)) }
-{
-    let mut order = Vec::with_capacity(alloc, records.len())?;
-    for found in records {
-        order.push(found)?;
-    }
-    order.sort_unstable();
-    Ok(order)
 }

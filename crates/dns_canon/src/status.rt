@@ -1,6 +1,7 @@
 //! How a run ends.
 
-use crate::error::{CanonError, SpellingError, TextError};
+use crate::error::CanonError;
+use dns_text::{HexError, TextError};
 use std::alloc::AllocError;
 
 /// How a run ends.
@@ -48,16 +49,16 @@ impl From<TextError> for Status {
     }
 }
 
-impl From<SpellingError> for Status {
+impl From<HexError> for Status {
     ghost use Rattle.std.specs.Prelude.{◌≡◌};
-    ghost use Rattle.dns_canon.specs.Statuses.{spelling_status};
+    ghost use Rattle.dns_canon.specs.Statuses.{hex_status};
 
-    ghost from_gives = { λ e s. s ≡ spelling_status e };
+    ghost from_gives = { λ e s. s ≡ hex_status e };
 
-    fn from(error: SpellingError) -> Status {
+    fn from(error: HexError) -> Status {
         match error {
-            SpellingError::BadHex => Status::BadHex,
-            SpellingError::Memory => Status::Memory,
+            HexError::BadHex => Status::BadHex,
+            HexError::Memory => Status::Memory,
         }
     }
 }

@@ -61,32 +61,44 @@ fn pointers(alloc: Global, count: u16) -> Result<Vec<u8>, AllocError> {
     Ok(data)
 }
 
-/// Data that are a chain of pointers, and A records whose owners lead to the last of them, and so are the root.
+/// Data that are a chain of pointers, and A records whose owners lead to the last of them, and so are the root: they are alike.
 fn chain_of_pointers(alloc: Global, count: u16, records: u16) -> Result<Generated, AllocError> {
     let data = private_record(alloc, &pointers(alloc, count)?)?;
     let owner = 0xc000 | count.wrapping_mul(2).wrapping_add(22);
     let mut message = header(alloc, records.saturating_add(1))?;
     message.extend_from_slice(&data)?;
-    let mut lines = Vec::new(alloc);
     for _ in 0..records {
         append_number(&mut message, owner)?;
         message.extend_from_slice(ADDRESS)?;
-        append_line(alloc, &mut lines, ROOT_ADDRESS)?;
     }
+    let mut lines = Vec::new(alloc);
+    append_line(alloc, &mut lines, ROOT_ADDRESS)?;
     append_line(alloc, &mut lines, &data)?;
     let text = hex::encode(alloc, &message)?.into_bytes();
     Ok(Generated { text, lines })
 }
 
-/// The same record again and again.
-fn alike_records(alloc: Global, records: u16) -> Result<Generated, AllocError> {
-    let record = b"\x01a\0\0\x01\0\x01\0\0\0\x3c\0\x04\xc0\0\x02\x01";
+/// Appends an A record of `a.` with this TTL, in canonical octets.
+fn append_address(octets: &mut Vec<u8>, ttl: u16) -> Result<(), AllocError> {
+    octets.extend_from_slice(b"\x01a\0\0\x01\0\x01\0\0")?;
+    append_number(octets, ttl)?;
+    octets.extend_from_slice(b"\0\x04\xc0\0\x02\x01")
+}
+
+/// Records that are alike, the TTL of each by a step above that of the one before it, modulo 1009.
+fn alike_records(alloc: Global, step: u16, records: u16) -> Result<Generated, AllocError> {
     let mut message = header(alloc, records)?;
-    let mut lines = Vec::new(alloc);
+    let mut ttl = 0u16;
+    let mut least = u16::MAX;
     for _ in 0..records {
-        message.extend_from_slice(record)?;
-        append_line(alloc, &mut lines, record)?;
+        ttl = ttl.wrapping_add(step) % 1009;
+        least = least.min(ttl);
+        append_address(&mut message, ttl)?;
     }
+    let mut record = Vec::new(alloc);
+    append_address(&mut record, least)?;
+    let mut lines = Vec::new(alloc);
+    append_line(alloc, &mut lines, &record)?;
     let text = hex::encode(alloc, &message)?.into_bytes();
     Ok(Generated { text, lines })
 }
@@ -119,24 +131,23 @@ fn longest_exchange(alloc: Global) -> Result<Vec<u8>, AllocError> {
 }
 
 /// Data of the longest name and twenty pointers to it, and twenty MX records whose owners and exchanges lead to it by
-/// one of these pointers.
+/// one of these pointers: they are alike.
 fn fan_of_pointers(alloc: Global) -> Result<Generated, AllocError> {
     let mut data = longest_name(alloc, b'A')?;
     for _ in 0..20u8 {
         data.extend_from_slice(b"\xc0\x17")?;
     }
     let record = private_record(alloc, &data)?;
-    let exchange = longest_exchange(alloc)?;
     let mut message = header(alloc, 21)?;
     message.extend_from_slice(&record)?;
-    let mut lines = Vec::new(alloc);
-    append_line(alloc, &mut lines, &record)?;
     for step in 0..20u16 {
         append_number(&mut message, 0xc116 + 2 * step)?;
         message.extend_from_slice(b"\0\x0f\0\x01\0\0\0\0\0\x04\0\x0a")?;
         append_number(&mut message, 0xc13c - 2 * step)?;
-        append_line(alloc, &mut lines, &exchange)?;
     }
+    let mut lines = Vec::new(alloc);
+    append_line(alloc, &mut lines, &record)?;
+    append_line(alloc, &mut lines, &longest_exchange(alloc)?)?;
     let text = hex::encode(alloc, &message)?.into_bytes();
     Ok(Generated { text, lines })
 }
@@ -145,7 +156,7 @@ fn fan_of_pointers(alloc: Global) -> Result<Generated, AllocError> {
 fn by_rule(alloc: Global, rule: &str, count: u16, records: u16) -> Result<Generated, AllocError> {
     match rule {
         "chain-of-pointers" => chain_of_pointers(alloc, count, records),
-        "alike-records" => alike_records(alloc, records),
+        "alike-records" => alike_records(alloc, count, records),
         _ => fan_of_pointers(alloc),
     }
 }

@@ -16,7 +16,7 @@ use Rattle.dns_rdata.specs.Data.{type_number, IsDataOf}
 use Rattle.dns_rdata.specs.Edns.{EdnsOf}
 use Rattle.dns_rdata.specs.EdnsForms.{edns_ttl, edns_fields, option_octets, edns_in}
 use Rattle.dns_rdata.specs.declared.record_data.RecordData.{RecordData}
-use Rattle.dns_rdata.specs.declared.record_data.RecordData.TheVariants.{A, Ns, CName, Soa, Ptr, HInfo, Mx, Txt, Rp, Srv, Aaaa, DName, Opt, Ds, Rrsig, Nsec, DNSKey, Nsec3, Nsec3Param, ZoneMD, Unknown}
+use Rattle.dns_rdata.specs.declared.record_data.RecordData.TheVariants.{Opt, Unknown}
 use Rattle.dns_message.specs.Messages.{Rec, item_at}
 use Rattle.dns_message.specs.Messages.Item.{Told}
 use Rattle.dns_message.specs.Seen.{data_seen, record_told, edns_told, BeginsEdns}
@@ -65,25 +65,7 @@ IsUnknown v = (rtype : RType) × (u : UnknownRecordData) × (v ≡ Unknown rtype
 options_or_unknown : (v : RecordData (List (List ℕ))) → 41 ≡ type_number v → Options v ⊎ IsUnknown v
 options_or_unknown (Opt v) is = inl (v.slice.now, refl)
 options_or_unknown (Unknown rtype v) is = inr (rtype, v, refl)
-options_or_unknown (A v) is = absurd (other_number 1 refl is)
-options_or_unknown (Ns v) is = absurd (other_number 2 refl is)
-options_or_unknown (CName v) is = absurd (other_number 5 refl is)
-options_or_unknown (Soa v) is = absurd (other_number 6 refl is)
-options_or_unknown (Ptr v) is = absurd (other_number 12 refl is)
-options_or_unknown (HInfo v) is = absurd (other_number 13 refl is)
-options_or_unknown (Mx v) is = absurd (other_number 15 refl is)
-options_or_unknown (Txt v) is = absurd (other_number 16 refl is)
-options_or_unknown (Rp v) is = absurd (other_number 17 refl is)
-options_or_unknown (Srv v) is = absurd (other_number 33 refl is)
-options_or_unknown (Aaaa v) is = absurd (other_number 28 refl is)
-options_or_unknown (DName v) is = absurd (other_number 39 refl is)
-options_or_unknown (Ds v) is = absurd (other_number 43 refl is)
-options_or_unknown (Rrsig v) is = absurd (other_number 46 refl is)
-options_or_unknown (Nsec v) is = absurd (other_number 47 refl is)
-options_or_unknown (DNSKey v) is = absurd (other_number 48 refl is)
-options_or_unknown (Nsec3 v) is = absurd (other_number 50 refl is)
-options_or_unknown (Nsec3Param v) is = absurd (other_number 51 refl is)
-options_or_unknown (ZoneMD v) is = absurd (other_number 63 refl is)
+options_or_unknown v is = absurd (other_number (type_number v) refl is)
 
 known_options : (v : RecordData (List (List ℕ))) → IsDataOf v 41 → Options v ⊎ IsUnknown v → Options v
 known_options v is (inl there) = there
@@ -105,25 +87,7 @@ options_seen (Unknown rtype v) octets e = by ((rtype.code.value == 41) && is_opt
   by : (b : Bool) → cond b (Some v.octets.now) None ≡ Some octets → ◌≡◌ {A = List Field} (Raw v.octets.now ∷ []) (Raw octets ∷ [])
   by true h = let same : v.octets.now ≡ octets = cc in ap (λ (l : List ℕ). single (Raw l)) same
   by false h = absurd cc
-options_seen (A v) octets e = absurd cc
-options_seen (Ns v) octets e = absurd cc
-options_seen (CName v) octets e = absurd cc
-options_seen (Soa v) octets e = absurd cc
-options_seen (Ptr v) octets e = absurd cc
-options_seen (HInfo v) octets e = absurd cc
-options_seen (Mx v) octets e = absurd cc
-options_seen (Txt v) octets e = absurd cc
-options_seen (Rp v) octets e = absurd cc
-options_seen (Srv v) octets e = absurd cc
-options_seen (Aaaa v) octets e = absurd cc
-options_seen (DName v) octets e = absurd cc
-options_seen (Ds v) octets e = absurd cc
-options_seen (Rrsig v) octets e = absurd cc
-options_seen (Nsec v) octets e = absurd cc
-options_seen (DNSKey v) octets e = absurd cc
-options_seen (Nsec3 v) octets e = absurd cc
-options_seen (Nsec3Param v) octets e = absurd cc
-options_seen (ZoneMD v) octets e = absurd cc
+options_seen v octets e = absurd cc
 
 -- the four octets of a time to live are its parts
 parts_whole : (t : ℕ) → edns_ttl (t / 2 ^ 24) ((t / 2 ^ 16) % 2 ^ 8) (t % 2 ^ 16) ≡ t

@@ -2,6 +2,7 @@
 pub mod Accepted
 pub mod BuiltSo
 pub mod CanonBuilt
+pub mod Collapsing
 pub mod Counting
 pub mod Drafts
 pub mod EdnsBuilt
@@ -10,7 +11,6 @@ pub mod Headed
 pub mod Laid
 pub mod Lengths
 pub mod Octets
-pub mod Often
 pub mod OneReading
 pub mod Ordering
 pub mod Parsed
@@ -18,8 +18,9 @@ pub mod Phrased
 pub mod Placed
 pub mod Pushed
 pub mod Rebuilt
-pub mod Sameness
 pub mod Repushed
+pub mod Runs
+pub mod Sameness
 pub mod Shorter
 pub mod SizedRead
 pub mod Slots

@@ -1,4 +1,4 @@
--- The order of records, and the canonical list.
+-- The order of records.
 use Rattle.std.proofs.Common.{◌≡◌, ℕ, ◌+◌, ◌/◌, ◌%◌, ◌^◌, ◌<◌, ◌⊎◌, inl, inr, Bool, true, false, cond, List, [], ◌∷◌, ◌++◌, length, map, filter, refl, sym, ap, ◌∙◌, arith}
 use Rattle.std.specs.Prelude.{◌↔◌, reverse}
 use Rattle.std.specs.Int.{w16, w32, to_be_bytes}
@@ -9,7 +9,7 @@ use Rattle.std.specs.Cmp.{IsTotalOrder}
 use Rattle.std.specs.List.Sorted.{IsPermutation}
 use Rattle.std.proofs.lemmas.Cmp.{on_total, tied_itself}
 use Rattle.std.proofs.lemmas.List.{reverse-reverse, length-append}
-use Rattle.std.proofs.lemmas.List.Sorted.{IsPermutation-refl, IsPermutation-cons, IsPermutation-middle, IsPermutation-trans, IsPermutation-map}
+use Rattle.std.proofs.lemmas.List.Sorted.{IsPermutation-refl, IsPermutation-cons, IsPermutation-middle, IsPermutation-trans}
 use Rattle.dns_wire.specs.Names.{lowered}
 use Rattle.dns_wire.proofs.Lowered.{wire_parts, name_lowered, lowered_long}
 use Rattle.dns_message.specs.Canonical.{canon, is_kept, octets_of_parts}
@@ -17,10 +17,10 @@ use Rattle.dns_record.specs.Types.{is_lowercased}
 use Rattle.dns_record.specs.Fields.{Field, field_octets, fields_octets, folded_field, canonical_fields}
 use Rattle.dns_record.specs.Fields.FieldOf.{Named, Bare, Raw, Sized, Byte, Number}
 use Rattle.dns_message.specs.Messages.{Rec}
-use Rattle.dns_message.specs.Order.{SortKey, sort_key, sort_key_cmp, record_cmp, Before, precedes, inserted, in_order, octets_of_key, output}
+use Rattle.dns_message.specs.Order.{SortKey, sort_key, sort_key_cmp, record_cmp, Before, precedes, inserted, in_order, octets_of_key}
 use Rattle.dns_message.specs.Sorted.{times, NoneBelow, Ascends}
 use Rattle.dns_message.specs.WellFormed.{WellFormed}
-use Rattle.dns_message.proofs.Sorting.{SameSums, sort_key_cmp_total, sort_key_cmp_same, sorted_unique, sums_permuted, in_order_sums, ascends_in_order, octets_of_keys}
+use Rattle.dns_message.proofs.Sorting.{SameSums, sort_key_cmp_total, sort_key_cmp_same, sorted_unique, sums_permuted, in_order_sums, ascends_in_order}
 
 -- ---- the order
 
@@ -66,11 +66,11 @@ octets_long r is = by (is_lowercased r.rtype) where
   by false = is.size
 
 -- the canonical octets are those of what is compared
-key_canon : (r : Rec) → octets_of_key (sort_key r) ≡ canon r
+pub key_canon : (r : Rec) → octets_of_key (sort_key r) ≡ canon r
 key_canon r = ap (λ (small : List (List ℕ)). octets_of_parts small r.rtype r.class r.ttl (fields_octets (canonical_fields r.rtype r.content))) (reverse-reverse (lowered r.owner))
 
 -- equal canonical octets are of records that are compared as equal
-keys_from_canon : (r s : Rec) → WellFormed r → WellFormed s → canon r ≡ canon s → sort_key r ≡ sort_key s
+pub keys_from_canon : (r s : Rec) → WellFormed r → WellFormed s → canon r ≡ canon s → sort_key r ≡ sort_key s
 keys_from_canon r s is js e =
     let owner = wire_parts (lowered r.owner) (lowered s.owner) _ _ (name_lowered r.owner is.owner) (name_lowered s.owner js.owner) e in
     let rtype = two_octets r.rtype s.rtype _ _ is.rtype js.rtype owner.1 in
@@ -106,13 +106,10 @@ inserted_moves r (s ∷ rs) =
       | false ↦ IsPermutation-trans (r ∷ s ∷ rs) (s ∷ r ∷ rs) (s ∷ inserted r rs) (IsPermutation-middle (r ∷ []) s rs) (IsPermutation-cons s (r ∷ rs) (inserted r rs) (inserted_moves r rs))
     ]
 
-in_order_moves : (rs : List Rec) → IsPermutation rs (in_order rs)
+pub in_order_moves : (rs : List Rec) → IsPermutation rs (in_order rs)
 unfolding in_order
 in_order_moves [] = IsPermutation-refl []
 in_order_moves (r ∷ rs) = IsPermutation-trans (r ∷ rs) (r ∷ in_order rs) (inserted r (in_order rs)) (IsPermutation-cons r rs (in_order rs) (in_order_moves rs)) (inserted_moves r (in_order rs))
-
-pub output_moves : (rs : List Rec) → IsPermutation (map canon (filter is_kept rs)) (output rs)
-output_moves rs = IsPermutation-map canon (filter is_kept rs) (in_order (filter is_kept rs)) (in_order_moves (filter is_kept rs))
 
 none_unmapped : (x : Rec) (zs : List Rec) → NoneBelow sort_key_cmp (sort_key x) (map sort_key zs) → NoneBelow record_cmp x zs
 none_unmapped x [] h = tt
@@ -121,9 +118,6 @@ none_unmapped x (z ∷ zs) h = (h.0, none_unmapped x zs h.1)
 pub ascends_unmapped : (rs : List Rec) → Ascends sort_key_cmp (map sort_key rs) → Ascends record_cmp rs
 ascends_unmapped [] h = tt
 ascends_unmapped (r ∷ rs) h = (none_unmapped r rs h.0, ascends_unmapped rs h.1)
-
-pub output_ascends : (rs : List Rec) → Ascends record_cmp (in_order (filter is_kept rs))
-output_ascends rs = ascends_unmapped (in_order (filter is_kept rs)) (ascends_in_order (filter is_kept rs))
 
 -- what is added up over the kept records is added up over all
 kept_sums : (f : SortKey → ℕ) (rs : List Rec) → times f (map sort_key (filter is_kept rs)) ≡ times (λ r. cond (is_kept r) (f (sort_key r)) 0) rs
@@ -134,11 +128,11 @@ kept_sums f (r ∷ rs) = by (is_kept r) (kept_sums f rs) where
   by true h = ap (λ (n : ℕ). f (sort_key r) + n) h
   by false h = h ∙ omega arith
 
-pub output_one : (rs ss : List Rec) → IsPermutation rs ss → output rs ≡ output ss
-output_one rs ss moved =
+-- the order in which records come does not count
+pub keys_one : (rs ss : List Rec) → IsPermutation rs ss → map sort_key (in_order (filter is_kept rs)) ≡ map sort_key (in_order (filter is_kept ss))
+keys_one rs ss moved =
     let one = in_order (filter is_kept rs) in
     let two = in_order (filter is_kept ss) in
     let sums : SameSums (map sort_key one) (map sort_key two) = λ f.
     in_order_sums (filter is_kept rs) f ∙ kept_sums f rs ∙ sym (sums_permuted rs ss moved (λ r. cond (is_kept r) (f (sort_key r)) 0)) ∙ sym (kept_sums f ss) ∙ sym (in_order_sums (filter is_kept ss) f) in
-    let keys = sorted_unique sort_key_cmp sort_key_cmp_total sort_key_cmp_same (map sort_key one) (map sort_key two) (ascends_in_order (filter is_kept rs)) (ascends_in_order (filter is_kept ss)) sums in
-    sym (octets_of_keys one) ∙ ap (map octets_of_key) keys ∙ octets_of_keys two
+    sorted_unique sort_key_cmp sort_key_cmp_total sort_key_cmp_same (map sort_key one) (map sort_key two) (ascends_in_order (filter is_kept rs)) (ascends_in_order (filter is_kept ss)) sums

@@ -1,21 +1,24 @@
 -- Canonical lists are equal where the records are the same.
 use Rattle.std.proofs.Common.{◌≡◌, ℕ, true, false, cond, List, [], ◌∷◌, map, filter, Option, Some, None, refl, sym, ap, subst, ◌∙◌}
-use Rattle.std.specs.Prelude.{◌↔◌, reverse}
-use Rattle.std.specs.List.{All, AllByRecursion}
+use Rattle.std.specs.Prelude.{◌↔◌, Contains, reverse}
+use Rattle.std.specs.List.{All, AllByRecursion, dedup}
 use Rattle.std.specs.List.Sorted.{IsPermutation}
+use Rattle.std.specs.Ordering.{eq_by_cmp}
 use Rattle.std.proofs.lemmas.List.Elements.{recursion_from_All}
-use Rattle.std.proofs.lemmas.List.Sorted.{IsPermutation-refl, IsPermutation-trans, IsPermutation-sym, IsPermutation-map}
 use Rattle.dns_record.specs.Fields.{fields_octets}
 use Rattle.dns_wire.specs.Reading.{AreOctets}
 use Rattle.dns_message.specs.Canonical.{canon, fold, is_kept, plain_record}
 use Rattle.dns_message.specs.Messages.{Rec, Valid}
-use Rattle.dns_message.specs.Order.{SortKey, sort_key, sort_key_cmp, in_order, output, octets_of_key}
-use Rattle.dns_message.specs.Same.{folded_kept, Same}
+use Rattle.dns_message.specs.Order.{SortKey, sort_key, alike_cmp, in_order, collapsed, output}
+use Rattle.dns_message.specs.Same.{Same, least}
+use Rattle.dns_message.specs.Sorted.{Climbs}
 use Rattle.dns_message.specs.WellFormed.{WellFormed}
-use Rattle.dns_message.proofs.Ordering.{output_moves}
-use Rattle.dns_message.proofs.Sorting.{SameSums, sort_key_cmp_total, sort_key_cmp_same, sorted_unique, sums_permuted, in_order_sums, ascends_in_order, octets_of_keys}
+use Rattle.dns_message.proofs.Collapsing.{IsLeastKey, all_left, keys_climb, keys_collapsed, least_keys, least_members, octets_alike}
+use Rattle.dns_message.proofs.Ordering.{keys_one}
+use Rattle.dns_message.proofs.Runs.{one_list}
+use Rattle.dns_message.proofs.Sorting.{alike_total, keys_in_order}
 use Rattle.dns_message.proofs.Told.{all_well}
-use Rattle.dns_message.proofs.Whole.{lowered_twice, canonical_twice, canon_back}
+use Rattle.dns_message.proofs.Whole.{lowered_twice, canonical_twice, canon_back, canon_twice}
 
 -- ---- from octets to folded records
 
@@ -34,24 +37,25 @@ first_back : (r : Rec) → WellFormed r → read (canon r) ≡ fold r
 unfolding read
 first_back r is = ap (first_of nothing) (canon_back r is)
 
-all_back : (rs : List Rec) → AllByRecursion WellFormed rs → map read (map canon (filter is_kept rs)) ≡ folded_kept rs
+all_back : (rs : List Rec) → AllByRecursion WellFormed rs → map read (map canon rs) ≡ map fold rs
 all_back [] are = refl
 all_back (r ∷ rs) are =
-    let kept = filter is_kept rs in
     let back : read (canon r) ≡ fold r = first_back r are.0 in
-    let later : map read (map canon kept) ≡ map fold kept = all_back rs are.1 in
-    elim (is_kept r) as (λ b. map read (map canon (cond b (r ∷ kept) kept)) ≡ map fold (cond b (r ∷ kept) kept)) [
-      | true ↦ λ i. back i ∷ later i
-      | false ↦ later
-    ]
+    let later : map read (map canon rs) ≡ map fold rs = all_back rs are.1 in
+    λ i. back i ∷ later i
 
-pub same_from_output : (rs ss : List Rec) → AllByRecursion WellFormed rs → AllByRecursion WellFormed ss → output rs ≡ output ss → Same rs ss
-same_from_output rs ss are also e =
-    let over : IsPermutation (map canon (filter is_kept rs)) (output ss) = subst (IsPermutation (map canon (filter is_kept rs))) e (output_moves rs) in
-    let octets : IsPermutation (map canon (filter is_kept rs)) (map canon (filter is_kept ss)) =
-    IsPermutation-trans (map canon (filter is_kept rs)) (output ss) (map canon (filter is_kept ss)) over (IsPermutation-sym (map canon (filter is_kept ss)) (output ss) (output_moves ss)) in
-    let records = IsPermutation-map read (map canon (filter is_kept rs)) (map canon (filter is_kept ss)) octets in
-    subst (λ (l : List Rec). IsPermutation l (folded_kept ss)) (all_back rs are) (subst (IsPermutation (map read (map canon (filter is_kept rs)))) (all_back ss also) records)
+-- canonical lists are read back as the records that they have
+least_read : (rs : List Rec) → All WellFormed rs → map read (output rs) ≡ least rs
+least_read rs are = all_back (collapsed (filter is_kept rs)) (recursion_from_All WellFormed (collapsed (filter is_kept rs)) (all_left WellFormed rs are))
+
+least_from_output : (rs ss : List Rec) → All WellFormed rs → All WellFormed ss → output rs ≡ output ss → least rs ≡ least ss
+least_from_output rs ss are also e = sym (least_read rs are) ∙ ap (map read) e ∙ least_read ss also
+
+same_from_least : (rs ss : List Rec) → All WellFormed rs → All WellFormed ss → least rs ≡ least ss → Same rs ss
+same_from_least rs ss are also e = λ x. (
+  λ h. (least_members ss also x).0 (subst (λ (l : List Rec). Contains l x) e ((least_members rs are x).1 h)),
+  λ h. (least_members rs are x).0 (subst (λ (l : List Rec). Contains l x) (sym e) ((least_members ss also x).1 h)),
+)
 
 -- ---- from folded records to octets
 
@@ -63,24 +67,35 @@ keys_folded : (rs : List Rec) → map sort_key (map fold rs) ≡ map sort_key rs
 keys_folded [] = refl
 keys_folded (r ∷ rs) = λ i. key_folded r i ∷ keys_folded rs i
 
--- records that are the same have one order
-pub keys_from_same : (rs ss : List Rec) → Same rs ss → map sort_key (in_order (filter is_kept rs)) ≡ map sort_key (in_order (filter is_kept ss))
+-- what is compared of the records of one list that have the least times to live is so of the other's
+least_key_of : (rs ss : List Rec) → Same rs ss → (k : SortKey) → IsLeastKey rs k → IsLeastKey ss k
+least_key_of rs ss same k h =
+    let other = (same (fold h.found)).0 (record { found = h.found; stands = h.stands; kept = h.kept; folded = refl; least = h.least }) in
+    record {
+      found = other.found;
+      stands = other.stands;
+      kept = other.kept;
+      compared = sym (key_folded other.found) ∙ ap sort_key other.folded ∙ key_folded h.found ∙ h.compared;
+      least = other.least;
+    }
+
+-- records that are the same are compared by the same, one by one
+pub keys_from_same : (rs ss : List Rec) → Same rs ss → map sort_key (collapsed (filter is_kept rs)) ≡ map sort_key (collapsed (filter is_kept ss))
 keys_from_same rs ss same =
-    let kept = filter is_kept rs in
-    let other = filter is_kept ss in
-    let moved : IsPermutation (map sort_key kept) (map sort_key other) = subst (λ (l : List SortKey). IsPermutation l (map sort_key other)) (keys_folded kept)
-    (subst (IsPermutation (map sort_key (map fold kept))) (keys_folded other) (IsPermutation-map sort_key (map fold kept) (map fold other) same)) in
-    let sums : SameSums (map sort_key (in_order kept)) (map sort_key (in_order other)) = λ f. in_order_sums kept f ∙ sym (sums_permuted (map sort_key kept) (map sort_key other) moved f) ∙ sym (in_order_sums other f) in
-    sorted_unique sort_key_cmp sort_key_cmp_total sort_key_cmp_same (map sort_key (in_order kept)) (map sort_key (in_order other)) (ascends_in_order kept) (ascends_in_order other) sums
+    let one = map sort_key (collapsed (filter is_kept rs)) in
+    let two = map sort_key (collapsed (filter is_kept ss)) in
+    one_list alike_cmp alike_total one two (keys_climb (filter is_kept rs)) (keys_climb (filter is_kept ss)) (λ k. (
+      λ m. (least_keys ss k).1 (least_key_of rs ss same k ((least_keys rs k).0 m)),
+      λ m. (least_keys rs k).1 (least_key_of ss rs (λ x. ((same x).1, (same x).0)) k ((least_keys ss k).0 m)),
+    ))
 
 pub output_from_same : (rs ss : List Rec) → Same rs ss → output rs ≡ output ss
-output_from_same rs ss same =
-    sym (octets_of_keys (in_order (filter is_kept rs))) ∙ ap (map octets_of_key) (keys_from_same rs ss same) ∙ octets_of_keys (in_order (filter is_kept ss))
+output_from_same rs ss same = octets_alike (collapsed (filter is_kept rs)) (collapsed (filter is_kept ss)) (keys_from_same rs ss same)
 
 -- ---- from folded records, in this order
 
 -- a folded record has the type that it had, so it is kept where the record is
-kept_folded : (rs : List Rec) → filter is_kept (map fold rs) ≡ folded_kept rs
+kept_folded : (rs : List Rec) → filter is_kept (map fold rs) ≡ map fold (filter is_kept rs)
 kept_folded [] = refl
 kept_folded (r ∷ rs) =
     let kept = filter is_kept rs in
@@ -89,17 +104,40 @@ kept_folded (r ∷ rs) =
       | false ↦ kept_folded rs
     ]
 
+-- lists whose records are compared by the same have one canonical list
+output_of_keys : (rs ss : List Rec) → map sort_key (in_order (filter is_kept rs)) ≡ map sort_key (in_order (filter is_kept ss)) → output rs ≡ output ss
+output_of_keys rs ss e =
+    octets_alike (collapsed (filter is_kept rs)) (collapsed (filter is_kept ss))
+    (keys_collapsed (filter is_kept rs) ∙ ap (dedup (eq_by_cmp alike_cmp)) e ∙ sym (keys_collapsed (filter is_kept ss)))
+
+pub output_one : (rs ss : List Rec) → IsPermutation rs ss → output rs ≡ output ss
+output_one rs ss moved = output_of_keys rs ss (keys_one rs ss moved)
+
 -- records that are the same when folded, in the same order, have one canonical list
 pub output_of_folds : (rs ss : List Rec) → map fold rs ≡ map fold ss → output rs ≡ output ss
 output_of_folds rs ss e =
-    let same : folded_kept rs ≡ folded_kept ss = sym (kept_folded rs) ∙ ap (filter is_kept) e ∙ kept_folded ss in
-    output_from_same rs ss (subst (IsPermutation (folded_kept rs)) same (IsPermutation-refl (folded_kept rs)))
+    let folds : map fold (filter is_kept rs) ≡ map fold (filter is_kept ss) = sym (kept_folded rs) ∙ ap (filter is_kept) e ∙ kept_folded ss in
+    output_of_keys rs ss (keys_in_order (filter is_kept rs) (filter is_kept ss) (sym (keys_folded (filter is_kept rs)) ∙ ap (map sort_key) folds ∙ keys_folded (filter is_kept ss)))
+
+-- ---- lists and records
+
+folded_octets : (rs : List Rec) → map canon (map fold rs) ≡ map canon rs
+folded_octets [] = refl
+folded_octets (r ∷ rs) = λ i. canon_twice r i ∷ folded_octets rs i
+
+-- the canonical list has the canonical octets of the records with the least times to live
+pub output_least : (rs : List Rec) → output rs ≡ map canon (least rs)
+output_least rs = sym (folded_octets (collapsed (filter is_kept rs)))
+
+-- and these come in order, each before every later one by more than its time to live
+pub least_climb : (rs : List Rec) → Climbs alike_cmp (map sort_key (least rs))
+least_climb rs = subst (Climbs alike_cmp) (sym (keys_folded (collapsed (filter is_kept rs)))) (keys_climb (filter is_kept rs))
+
+pub same_lists : (rs ss : List Rec) → All WellFormed rs → All WellFormed ss → Same rs ss ↔ (least rs ≡ least ss)
+same_lists rs ss are also = (λ same. least_from_output rs ss are also (output_from_same rs ss same), same_from_least rs ss are also)
 
 pub outputs : (rs ss : List Rec) → All WellFormed rs → All WellFormed ss → (output rs ≡ output ss) ↔ Same rs ss
-outputs rs ss are also = (
-  same_from_output rs ss (recursion_from_All WellFormed rs are) (recursion_from_All WellFormed ss also),
-  output_from_same rs ss,
-)
+outputs rs ss are also = (λ e. same_from_least rs ss are also (least_from_output rs ss are also e), output_from_same rs ss)
 
 pub message_outputs : (m n : List ℕ) (rs ss : List Rec) → AreOctets m → AreOctets n → Valid m rs → Valid n ss → (output rs ≡ output ss) ↔ Same rs ss
 message_outputs m n rs ss are also valid other = outputs rs ss (all_well m rs are valid) (all_well n ss also other)

@@ -1,5 +1,5 @@
 -- The order of records, and that a list has one sorted order.
-use Rattle.std.proofs.Common.{◌≡◌, ℕ, suc, ◌+◌, ◌<◌, ◌≤◌, Bool, true, false, cond, List, [], ◌∷◌, length, map, refl, sym, ap, ◌∙◌, arith, get_or, filter}
+use Rattle.std.proofs.Common.{◌≡◌, ℕ, suc, ◌+◌, ◌<◌, ◌≤◌, Bool, true, false, cond, List, [], ◌∷◌, length, map, refl, sym, ap, ◌∙◌, arith, get_or}
 use Rattle.std.specs.Prelude.{not}
 use Rattle.std.specs.declared.cmp.Ordering.{Ordering}
 use Rattle.std.specs.declared.cmp.Ordering.TheVariants.{Less, Equal, Greater}
@@ -13,17 +13,23 @@ use Rattle.std.proofs.lemmas.List.Recursion.{is_sum_by}
 use Rattle.std.proofs.lemmas.List.Sorted.{ranks_by, sum_by-IsPermutation, IsPermutation-map}
 use Rattle.dns_wire.specs.Names.{lowered}
 use Rattle.dns_name.proofs.Sameness.{keys_total}
-use Rattle.dns_message.specs.Canonical.{canon, is_kept, octets_of_parts}
+use Rattle.dns_message.specs.Canonical.{canon, octets_of_parts}
 use Rattle.dns_record.specs.Fields.{fields_octets, canonical_fields}
 use Rattle.dns_message.specs.Messages.{Rec}
-use Rattle.dns_message.specs.Order.{SortKey, sort_key, sort_key_cmp, precedes, inserted, in_order, octets_of_key, output}
+use Rattle.dns_message.specs.Order.{SortKey, sort_key, alike_cmp, ttl_cmp, sort_key_cmp, precedes, inserted, in_order, octets_of_key}
 use Rattle.dns_message.specs.Sorted.{times, NoneBelow, Ascends}
 
 -- ---- the order of what records are compared by
 
+pub alike_total : IsTotalOrder alike_cmp
+alike_total = then_total (on_total (λ k. k.owner) keys_total) (then_total (on_total (λ k. k.class) nat_cmp_total)
+    (then_total (on_total (λ k. k.rtype) nat_cmp_total) (on_total (λ k. k.octets) nat_list_cmp_total)))
+
+pub ttl_total : IsTotalOrder ttl_cmp
+ttl_total = on_total (λ k. k.ttl) nat_cmp_total
+
 pub sort_key_cmp_total : IsTotalOrder sort_key_cmp
-sort_key_cmp_total = then_total (on_total (λ k. k.owner) keys_total) (then_total (on_total (λ k. k.class) nat_cmp_total)
-    (then_total (on_total (λ k. k.rtype) nat_cmp_total) (then_total (on_total (λ k. k.octets) nat_list_cmp_total) (on_total (λ k. k.ttl) nat_cmp_total))))
+sort_key_cmp_total = then_total alike_total ttl_total
 
 -- what ties at both parts
 both_tie : (a b : Ordering) → ordering_then a b ≡ Equal → (a ≡ Equal) × (b ≡ Equal)
@@ -31,18 +37,33 @@ both_tie Less b h = cc
 both_tie Equal b h = (refl, h)
 both_tie Greater b h = cc
 
-pub sort_key_cmp_same : (j k : SortKey) → sort_key_cmp j k ≡ Equal → j ≡ k
-sort_key_cmp_same j k h =
+-- keys that tie but for the time to live have the same other parts
+pub record SameParts (j k : SortKey) : Type 0 where
+  pub owner : j.owner ≡ k.owner
+  pub class : j.class ≡ k.class
+  pub rtype : j.rtype ≡ k.rtype
+  pub octets : j.octets ≡ k.octets
+
+pub alike_parts : (j k : SortKey) → alike_cmp j k ≡ Equal → SameParts j k
+alike_parts j k h =
     let one = both_tie _ _ h in
     let two = both_tie _ _ one.1 in
     let three = both_tie _ _ two.1 in
-    let four = both_tie _ _ three.1 in
-    let owner = slice_cmp-IsAntisymmetric (slice_cmp-IsAntisymmetric nat_cmp-IsAntisymmetric) j.owner k.owner one.0 in
-    let class = nat_cmp-IsAntisymmetric j.class k.class two.0 in
-    let rtype = nat_cmp-IsAntisymmetric j.rtype k.rtype three.0 in
-    let octets = slice_cmp-IsAntisymmetric nat_cmp-IsAntisymmetric j.octets k.octets four.0 in
-    let ttl = nat_cmp-IsAntisymmetric j.ttl k.ttl four.1 in
-    λ i. record { owner = owner i; class = class i; rtype = rtype i; octets = octets i; ttl = ttl i }
+    record {
+      owner = slice_cmp-IsAntisymmetric (slice_cmp-IsAntisymmetric nat_cmp-IsAntisymmetric) j.owner k.owner one.0;
+      class = nat_cmp-IsAntisymmetric j.class k.class two.0;
+      rtype = nat_cmp-IsAntisymmetric j.rtype k.rtype three.0;
+      octets = slice_cmp-IsAntisymmetric nat_cmp-IsAntisymmetric j.octets k.octets three.1;
+    }
+
+pub same_key : (j k : SortKey) → alike_cmp j k ≡ Equal → ttl_cmp j k ≡ Equal → j ≡ k
+same_key j k h t =
+    let same = alike_parts j k h in
+    let ttl = nat_cmp-IsAntisymmetric j.ttl k.ttl t in
+    λ i. record { owner = same.owner i; class = same.class i; rtype = same.rtype i; octets = same.octets i; ttl = ttl i }
+
+pub sort_key_cmp_same : (j k : SortKey) → sort_key_cmp j k ≡ Equal → j ≡ k
+sort_key_cmp_same j k h = let both = both_tie _ _ h in same_key j k both.0 both.1
 
 -- ---- one sorted order
 
@@ -175,12 +196,13 @@ octets_of_keys (r ∷ rs) =
     ∙ ap (λ (l : List (List ℕ)). canon r ∷ l) (octets_of_keys rs)
 
 -- what a sort leaves is what the definition gives
-pub keys_sorted : (rs records : List Rec) → IsPermutation (filter is_kept rs) records → Ascends sort_key_cmp (map sort_key records) → map sort_key records ≡ map sort_key (in_order (filter is_kept rs))
-keys_sorted rs records moved up =
-    let kept = filter is_kept rs in
-    let sums : SameSums (map sort_key records) (map sort_key (in_order kept)) = λ f. sums_permuted (map sort_key kept) (map sort_key records) (IsPermutation-map sort_key kept records moved) f ∙ sym (in_order_sums kept f) in
-    sorted_unique sort_key_cmp sort_key_cmp_total sort_key_cmp_same (map sort_key records) (map sort_key (in_order kept)) up (ascends_in_order kept) sums
+pub keys_sorted : (rs sorted : List Rec) → IsPermutation rs sorted → Ascends sort_key_cmp (map sort_key sorted) → map sort_key sorted ≡ map sort_key (in_order rs)
+keys_sorted rs sorted moved up =
+    let sums : SameSums (map sort_key sorted) (map sort_key (in_order rs)) = λ f. sums_permuted (map sort_key rs) (map sort_key sorted) (IsPermutation-map sort_key rs sorted moved) f ∙ sym (in_order_sums rs f) in
+    sorted_unique sort_key_cmp sort_key_cmp_total sort_key_cmp_same (map sort_key sorted) (map sort_key (in_order rs)) up (ascends_in_order rs) sums
 
-pub output_sorted : (rs records : List Rec) → IsPermutation (filter is_kept rs) records → Ascends sort_key_cmp (map sort_key records) → map canon records ≡ output rs
-output_sorted rs records moved up =
-    sym (octets_of_keys records) ∙ ap (map octets_of_key) (keys_sorted rs records moved up) ∙ octets_of_keys (in_order (filter is_kept rs))
+-- records that are compared alike one by one have one order
+pub keys_in_order : (rs ss : List Rec) → map sort_key rs ≡ map sort_key ss → map sort_key (in_order rs) ≡ map sort_key (in_order ss)
+keys_in_order rs ss e =
+    let sums : SameSums (map sort_key (in_order rs)) (map sort_key (in_order ss)) = λ f. in_order_sums rs f ∙ ap (times f) e ∙ sym (in_order_sums ss f) in
+    sorted_unique sort_key_cmp sort_key_cmp_total sort_key_cmp_same (map sort_key (in_order rs)) (map sort_key (in_order ss)) (ascends_in_order rs) (ascends_in_order ss) sums

@@ -1,21 +1,20 @@
 -- The text of a list of octets tells the list.
-use Rattle.std.proofs.Common.{◌≡◌, ◌≢◌, ℕ, zero, suc, ◌/◌, ◌%◌, ◌<◌, ◌==◌, Bool, true, List, [], ◌∷◌, ◌++◌, length, get_or, slice_index, codes, flat_map, map, filter, Option, Some, refl, sym, ap, subst, ◌∙◌, append_assoc, length-append, arith}
+use Rattle.std.proofs.Common.{◌≡◌, ◌≢◌, ℕ, zero, suc, ◌/◌, ◌%◌, ◌<◌, ◌==◌, Bool, true, List, [], ◌∷◌, ◌++◌, length, get_or, slice_index, codes, flat_map, filter, Option, Some, refl, sym, ap, subst, ◌∙◌, append_assoc, length-append, arith}
 use Rattle.std.specs.Prelude.{◌↔◌, not, ◌&&◌}
 use Rattle.std.specs.Cmp.{first_so, second_so}
 use Rattle.std.specs.List.{All, AllByRecursion}
 use Rattle.std.proofs.lemmas.Bool.Decides.{nat_tests}
 use Rattle.std.proofs.lemmas.List.Concat.{flat_map-cons}
-use Rattle.std.proofs.lemmas.List.Elements.{All-filter, All-map, All-weaker, recursion_from_All}
-use Rattle.std.proofs.lemmas.List.Sorted.{All-permutation}
+use Rattle.std.proofs.lemmas.List.Elements.{All-map, All-weaker, recursion_from_All}
 use Rattle.dns_wire.specs.Hexadecimal.{spelled, shown, line, lines}
 use Rattle.dns_wire.specs.Reading.{AreOctets}
 use Rattle.dns_wire.proofs.Digits.{spelled-shown}
 use Rattle.dns_message.specs.Canonical.{canon, is_kept}
 use Rattle.dns_message.specs.Messages.{Rec, Valid}
-use Rattle.dns_message.specs.Order.{output}
+use Rattle.dns_message.specs.Order.{collapsed, output}
 use Rattle.dns_message.specs.Same.{Same}
 use Rattle.dns_message.specs.WellFormed.{WellFormed}
-use Rattle.dns_message.proofs.Ordering.{output_moves}
+use Rattle.dns_message.proofs.Collapsing.{all_left}
 use Rattle.dns_message.proofs.Sameness.{outputs}
 use Rattle.dns_message.proofs.Told.{all_well}
 use Rattle.dns_message.proofs.Whole.{canon_octets}
@@ -83,9 +82,7 @@ lines_one (x ∷ xs) (y ∷ ys) are also e =
 output_octets : (rs : List Rec) → All WellFormed rs → AllByRecursion AreOctets (output rs)
 output_octets rs are =
     let canonical : All (λ (r : Rec). AreOctets (canon r)) rs = All-weaker WellFormed (λ (r : Rec). AreOctets (canon r)) canon_octets rs are in
-    let kept : All (λ (r : Rec). AreOctets (canon r)) (filter is_kept rs) = All-filter is_kept (λ (r : Rec). AreOctets (canon r)) rs canonical in
-    recursion_from_All AreOctets (output rs)
-    (All-permutation AreOctets (map canon (filter is_kept rs)) (output rs) (output_moves rs) (All-map AreOctets canon (filter is_kept rs) kept))
+    recursion_from_All AreOctets (output rs) (All-map AreOctets canon (collapsed (filter is_kept rs)) (all_left (λ (r : Rec). AreOctets (canon r)) rs canonical))
 
 pub texts_one : (rs ss : List Rec) → All WellFormed rs → All WellFormed ss → (lines (output rs) ≡ lines (output ss)) ↔ (output rs ≡ output ss)
 texts_one rs ss are also = (lines_one (output rs) (output ss) (output_octets rs are) (output_octets ss also), λ e. ap lines e)

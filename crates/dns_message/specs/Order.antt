@@ -3,7 +3,8 @@
 use Rattle.std.specs.Prelude.{◌≡◌, ℕ, Bool, not, if◌then◌else◌, List, [], ◌∷◌, map, reverse, filter}
 use Rattle.std.specs.declared.cmp.Ordering.{Ordering}
 use Rattle.std.specs.declared.cmp.Ordering.TheVariants.{Less}
-use Rattle.std.specs.Ordering.{nat_cmp, on, then_cmp, is_gt}
+use Rattle.std.specs.List.{dedup}
+use Rattle.std.specs.Ordering.{nat_cmp, on, then_cmp, eq_by_cmp, is_gt}
 use Rattle.std.specs.Cmp.Lexicographic.{slice_cmp}
 use Rattle.dns_name.specs.Order.{key, key_cmp}
 use Rattle.dns_record.specs.Fields.{fields_octets, canonical_fields}
@@ -28,10 +29,17 @@ sort_key r = record {
   ttl = r.ttl;
 }
 
--- by the first that differs; lists and octets lexicographically, a proper prefix first
+-- by owner, class, type and data, by the first that differs; lists and octets lexicographically, a proper prefix first
+abbrev pub alike_cmp : SortKey → SortKey → Ordering
+alike_cmp = then_cmp (on (λ k. k.owner) key_cmp) (then_cmp (on (λ k. k.class) nat_cmp) (then_cmp (on (λ k. k.rtype) nat_cmp) (on (λ k. k.octets) (slice_cmp nat_cmp))))
+
+-- by the time to live
+abbrev pub ttl_cmp : SortKey → SortKey → Ordering
+ttl_cmp = on (λ k. k.ttl) nat_cmp
+
+-- by all, the time to live last
 abbrev pub sort_key_cmp : SortKey → SortKey → Ordering
-sort_key_cmp = then_cmp (on (λ k. k.owner) key_cmp) (then_cmp (on (λ k. k.class) nat_cmp) (then_cmp (on (λ k. k.rtype) nat_cmp)
-    (then_cmp (on (λ k. k.octets) (slice_cmp nat_cmp)) (on (λ k. k.ttl) nat_cmp))))
+sort_key_cmp = then_cmp alike_cmp ttl_cmp
 
 -- the order of two records
 abbrev pub record_cmp : Rec → Rec → Ordering
@@ -61,6 +69,14 @@ unfoldable pub in_order : List Rec → List Rec
 in_order [] = []
 in_order (r ∷ rest) = inserted r (in_order rest)
 
--- the canonical list of some records: the canonical octets of each that is no OPT, in order, as often as it comes
+-- the records are the same but for the time to live and the case of letters where it does not count
+abbrev pub are_alike : Rec → Rec → Bool
+are_alike r s = eq_by_cmp alike_cmp (sort_key r) (sort_key s)
+
+-- the records in order, of those that are alike the first, which has the least time to live
+abbrev pub collapsed : List Rec → List Rec
+collapsed rs = dedup are_alike (in_order rs)
+
+-- the canonical list of some records: the canonical octets of those other than OPT, in order, alike ones once
 abbrev pub output : List Rec → List (List ℕ)
-output rs = map canon (in_order (filter is_kept rs))
+output rs = map canon (collapsed (filter is_kept rs))

@@ -4,7 +4,7 @@ use Rattle.std.specs.Prelude.{◌≡◌, ℕ, suc, List, [], ◌∷◌, drop, Bo
 use Rattle.dns_edns.specs.declared.opt.Opt.{Opt}
 use Rattle.dns_rdata.specs.declared.record_data.RecordData.{RecordData}
 use Rattle.dns_message.specs.Messages.{Reading, item_at, counted_slots, reading_from}
-use Rattle.dns_message.specs.Seen.{item_seen, HasSoundData}
+use Rattle.dns_message.specs.Seen.{item_seen, HasSoundData, IsOfSection}
 use Rattle.dns_message.specs.declared.item.MessageItem.{MessageItem}
 use Rattle.dns_message.specs.declared.parser.MessageParser.{MessageParser}
 use Rattle.dns_message.specs.declared.parser.Place.{Place}
@@ -51,7 +51,10 @@ GivesNext old (Some (place, Err error)) new =
     × (item_at place.section (drop 12 (parsed_message old)) (next_start old) ≡ None)
     × (slots_ahead new ≡ []) × (has_ended new ≡ true) × (next_start new ≡ next_start old) × (given_count new ≡ given_count old)
 
--- the same without the place. The data of an item that is read are sound, as all that is read is
+-- The same without the place. The message stays, and an item that is read is one of its section (RFC 1035 section 4.1) with sound
+-- data, as all that is read has.
 abbrev pub GivesItem : {E : Type 0} → MessageParser → Option (Result Parsed E) → MessageParser → Type 0
-GivesItem {E = E} old None new = GivesNext {E = E} old None new
-GivesItem old (Some item) new = IfOk item HasSoundData × ((place : Place) × GivesNext old (Some (place, item)) new)
+GivesItem {E = E} old None new = (parsed_message new ≡ parsed_message old) × GivesNext {E = E} old None new
+GivesItem old (Some item) new =
+    (parsed_message new ≡ parsed_message old) × IfOk item HasSoundData
+    × ((place : Place) × GivesNext old (Some (place, item)) new × IfOk item (IsOfSection place.section (drop (next_start old) (drop 12 (parsed_message old)))))

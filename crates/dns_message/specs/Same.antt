@@ -1,24 +1,31 @@
--- Lists of records that are the same, but for their order, for OPT, and for the case of letters where it does not count.
-use Rattle.std.specs.Prelude.{◌≡◌, ◌≢◌, ◌⊎◌, ◌↔◌, ℕ, suc, List, [], ◌∷◌, map, filter}
-use Rattle.std.specs.List.Sorted.{IsPermutation}
+-- Which records two lists have in common. Records that are alike count once, with the least time to live (RFC 2181 section 5.2), and
+-- the case of letters counts only where it does in canonical form.
+use Rattle.std.specs.Prelude.{◌≡◌, ◌≤◌, ◌↔◌, true, List, Contains, map, filter}
+use Rattle.dns_wire.specs.Names.{lowered}
+use Rattle.dns_record.specs.Fields.{fields_octets, canonical_fields}
 use Rattle.dns_message.specs.Canonical.{fold, is_kept}
 use Rattle.dns_message.specs.Messages.{Rec}
+use Rattle.dns_message.specs.Order.{collapsed}
 
--- the records that are no OPT, folded
-abbrev pub folded_kept : List Rec → List Rec
-folded_kept rs = map fold (filter is_kept rs)
+-- the same owner in lowercase, class, type and canonical data; the times to live may differ
+pub record Alike (r s : Rec) : Type 0 where
+  pub owner : lowered r.owner ≡ lowered s.owner
+  pub class : r.class ≡ s.class
+  pub rtype : r.rtype ≡ s.rtype
+  pub octets : fields_octets (canonical_fields r.rtype r.content) ≡ fields_octets (canonical_fields s.rtype s.content)
 
--- the folded records that are no OPT are the same on both sides, whatever their order
+-- x is a record of the list, folded: one of another type than OPT, to which no alike record of the list has a smaller time to live
+pub record IsLeast (rs : List Rec) (x : Rec) : Type 0 where
+  pub found : Rec
+  pub stands : Contains rs found
+  pub kept : is_kept found ≡ true
+  pub folded : fold found ≡ x
+  pub least : (other : Rec) → Contains rs other → Alike other found → found.ttl ≤ other.ttl
+
+-- each record is so in both lists, or in neither
 abbrev pub Same : List Rec → List Rec → Type 0
-Same rs ss = IsPermutation (folded_kept rs) (folded_kept ss)
+Same rs ss = (x : Rec) → IsLeast rs x ↔ IsLeast ss x
 
--- ---- in other words
-
--- x stands so many times in the list
-abbrev pub StandsTimes : {X : Type 0} → X → List X → ℕ → Type 0
-StandsTimes x [] n = n ≡ 0
-StandsTimes x (y ∷ ys) n = ((x ≡ y) × (others : ℕ) × (n ≡ suc others) × StandsTimes x ys others) ⊎ ((x ≢ y) × StandsTimes x ys n)
-
--- each stands equally often in both lists
-abbrev pub EquallyOften : {X : Type 0} → List X → List X → Type 0
-EquallyOften {X} xs ys = (x : X) (n : ℕ) → StandsTimes x xs n ↔ StandsTimes x ys n
+-- these records as a list, in order
+abbrev pub least : List Rec → List Rec
+least rs = map fold (collapsed (filter is_kept rs))

@@ -1,6 +1,6 @@
 //! Records as they are compared and written in canonical form.
 
-ghost use Rattle.std.specs.Prelude.{◌≡◌, ◌≤◌, ◌<◌, ◌^◌, [], ◌∷◌, length, drop, filter, MatchOption, IfOk, OnOk, OnErr, ⊤};
+ghost use Rattle.std.specs.Prelude.{◌≡◌, ◌↔◌, ◌≤◌, true, IsTrue, ◌<◌, ◌^◌, [], ◌∷◌, length, drop, filter, MatchOption, IfOk, OnOk, OnErr, ⊤};
 ghost use Rattle.std.proofs.Common.{rules};
 ghost use Rattle.std.specs.Borrow.{sem};
 ghost use Rattle.std.specs.Cmp.{partial_order_from_own_ties};
@@ -11,7 +11,8 @@ ghost use Rattle.dns_record.specs.Fields.{canonical_octets, fields_octets};
 ghost use Rattle.dns_rdata.specs.Data.{type_number};
 ghost use Rattle.dns_message.specs.Canonical.{canon, is_kept};
 ghost use Rattle.dns_message.specs.Messages.{Rec, records_among};
-ghost use Rattle.dns_message.specs.Order.{record_cmp, sort_key, sort_key_cmp};
+ghost use Rattle.dns_message.specs.Order.{record_cmp, sort_key, sort_key_cmp, alike_cmp, are_alike};
+ghost use Rattle.dns_message.specs.Same.{Alike};
 ghost use Rattle.dns_message.specs.Seen.{AreSound, HasSoundData, data_seen, item_seen, record_told};
 
 use crate::item::{MessageItem, ParsedMessageItem};
@@ -63,6 +64,32 @@ impl<'a> CanonicalRecord<'a> {
         } else {
             Some(CanonicalRecord { found })
         }
+    }
+
+    /// Whether the records are alike: the same owner in lowercase, class, type and canonical data. Their TTLs may differ (RFC 2181
+    /// section 5.2).
+    pub fn alike(&self, other: &CanonicalRecord<'_>) -> bool
+        ensures exact { IsTrue result ↔ Alike self.now other.now }
+        ensures tested { result ≡ are_alike self.now other.now }
+    {
+        self.cmp_but_ttl(other).is_eq()
+    }
+
+    /// The order by owner, class, type and canonical data, in which alike records tie.
+    fn cmp_but_ttl(&self, other: &CanonicalRecord<'_>) -> Ordering
+        ensures { result ≡ alike_cmp (sort_key self.now) (sort_key other.now) }
+    {
+        let (a, b) = (&self.found, &other.found);
+        let owners = a.rname.cmp(&b.rname);
+        if owners.is_ne() {
+            return owners;
+        }
+        let classes = a.rclass.cmp(&b.rclass);
+        if classes.is_ne() {
+            return classes;
+        }
+        // Data are compared by their type first.
+        a.rdata.cmp_canonical(&b.rdata)
     }
 
     /// The number of canonical octets, at most 65,800.
@@ -170,21 +197,8 @@ impl Ord for CanonicalRecord<'_> {
     /// By owner, label by label from the root on, then by class, type, the data's canonical octets, and TTL (RFC 4034
     /// sections 6.1, 6.3). The first that differs decides, and no octets are written.
     fn cmp(&self, other: &Self) -> Ordering {
-        let (a, b) = (&self.found, &other.found);
-        let owners = a.rname.cmp(&b.rname);
-        if owners.is_ne() {
-            return owners;
-        }
-        let classes = a.rclass.cmp(&b.rclass);
-        if classes.is_ne() {
-            return classes;
-        }
-        // Data are compared by their type first.
-        let data = a.rdata.cmp_canonical(&b.rdata);
-        if data.is_ne() {
-            return data;
-        }
-        a.ttl.cmp(&b.ttl)
+        self.cmp_but_ttl(other)
+            .then(self.found.ttl.cmp(&other.found.ttl))
     }
 }
 

@@ -1,6 +1,6 @@
 //! What follows from the definitions.
 
-ghost use Rattle.std.specs.Prelude.{◌≡◌, ◌≤◌, ◌<◌, ◌⊎◌, ◌↔◌, ℕ, List, [], false, Some, None, Ok, Err, length, map, filter};
+ghost use Rattle.std.specs.Prelude.{◌≡◌, ◌≤◌, ◌<◌, ◌⊎◌, ◌↔◌, ℕ, List, [], false, Some, None, Ok, Err, length, map, IsTrue};
 ghost use Rattle.std.specs.Cmp.{IsTotalOrder};
 ghost use Rattle.std.specs.List.{All, Contains};
 ghost use Rattle.std.specs.List.Sorted.{IsPermutation};
@@ -8,19 +8,19 @@ ghost use Rattle.std.specs.declared.cmp.Ordering.TheVariants.{Equal};
 ghost use Rattle.dns_wire.specs.Hexadecimal.{lines};
 ghost use Rattle.dns_wire.specs.Reading.{AreOctets};
 ghost use Rattle.dns_record.specs.InPlace.{QuestionAt, RecordAt};
-ghost use Rattle.dns_message.specs.Canonical.{canon, fold, is_kept, plain_record};
+ghost use Rattle.dns_message.specs.Canonical.{canon, fold, plain_record};
 ghost use Rattle.dns_message.specs.Counted.{IsCounted, IsEarlier, StandsBefore};
 ghost use Rattle.dns_message.specs.Messages.{Item, Question, Rec, item_at, counted_slots, with_item, message_reading, Valid, StopsAt, BadAt};
 ghost use Rattle.dns_message.specs.Messages.Item.{Asked, Told};
 ghost use Rattle.dns_message.specs.Messages.Reading.{Stopped, Whole};
-ghost use Rattle.dns_message.specs.Order.{record_cmp, Before, in_order, output};
+ghost use Rattle.dns_message.specs.Order.{record_cmp, Before, alike_cmp, sort_key, are_alike, output};
 ghost use Rattle.dns_message.specs.Parsing.{parsed_message, given_count, next_start, has_ended, ahead, Parsed, GivesNext};
 ghost use Rattle.dns_message.specs.Seen.{item_seen};
 ghost use Rattle.dns_message.specs.declared.parser.MessageParser.{MessageParser};
 ghost use Rattle.dns_message.specs.declared.parser.Place.{Place};
 ghost use Rattle.dns_wire.specs.declared.error.ParseError.{ParseError};
-ghost use Rattle.dns_message.specs.Same.{folded_kept, Same, StandsTimes, EquallyOften};
-ghost use Rattle.dns_message.specs.Sorted.{Ascends};
+ghost use Rattle.dns_message.specs.Same.{Alike, IsLeast, Same, least};
+ghost use Rattle.dns_message.specs.Sorted.{Climbs};
 ghost use Rattle.dns_message.specs.WellFormed.{WellFormed};
 ghost use Rattle.dns_message.specs.Worded.{ItemAt, FailsAt, ReadsWhole};
 
@@ -113,20 +113,26 @@ pub fn order_of_records()
     ensures before { (r s : Rec) → WellFormed r → WellFormed s → (Before r s ⊎ Before s r) ⊎ (canon r ≡ canon s) }
 {}
 
-/// The canonical list has the canonical octets of exactly the records that are no OPT, each as often as it
-/// comes, in order; and it is one, whatever order the records come in.
+/// Records are tested as alike exactly where they are: the same owner in lowercase, class, type and canonical data (RFC 2181 section
+/// 5.2). Of well formed records those with equal canonical octets are alike.
+pub fn alike_records()
+    ensures tested { (r s : Rec) → IsTrue (are_alike r s) ↔ Alike r s }
+    ensures octets { (r s : Rec) → WellFormed r → WellFormed s → canon r ≡ canon s → Alike r s }
+{}
+
+/// The canonical list has the canonical octets of exactly those records, other than OPT and folded, to which no alike record has a
+/// smaller TTL, each once, in order by owner, class, type and data (RFC 4034 section 6, RFC 2181 section 5.2). It is one,
+/// whatever order the records come in.
 pub fn canonical_lists()
-    ensures same { (rs : List Rec) → IsPermutation (map canon (filter is_kept rs)) (output rs) }
-    ensures ascends { (rs : List Rec) → Ascends record_cmp (in_order (filter is_kept rs)) }
+    ensures octets { (rs : List Rec) → output rs ≡ map canon (least rs) }
+    ensures least { (rs : List Rec) → All WellFormed rs → (x : Rec) → Contains (least rs) x ↔ IsLeast rs x }
+    ensures climbs { (rs : List Rec) → Climbs alike_cmp (map sort_key (least rs)) }
     ensures one { (rs ss : List Rec) → IsPermutation rs ss → output rs ≡ output ss }
 {}
 
-/// Lists of records are the same exactly where each folded record that is no OPT stands equally often in both; and each
-/// stands a certain number of times.
+/// Lists of records are the same exactly where the records with the least TTLs, in order, are one list.
 pub fn same_records()
-    ensures often { (rs ss : List Rec) → Same rs ss ↔ EquallyOften (folded_kept rs) (folded_kept ss) }
-    ensures some { (r : Rec) (rs : List Rec) → (n : ℕ) × StandsTimes r rs n }
-    ensures one { (r : Rec) (rs : List Rec) (n k : ℕ) → StandsTimes r rs n → StandsTimes r rs k → n ≡ k }
+    ensures { (rs ss : List Rec) → All WellFormed rs → All WellFormed ss → Same rs ss ↔ (least rs ≡ least ss) }
 {}
 
 /// Canonical lists are equal exactly where the records are the same (RFC 4034 section 6); so are those of two valid messages.

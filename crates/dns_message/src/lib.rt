@@ -4,6 +4,7 @@
 mod build_error;
 mod build_laws;
 mod builder;
+mod canonical_list;
 mod canonical_record;
 mod header;
 mod item;
@@ -19,19 +20,22 @@ pub use build_laws::{
     pushed_records_are_read, pushes_add_an_item, pushes_count_one_more,
 };
 pub use builder::MessageBuilder;
+pub use canonical_list::{collapse, collapsed};
 pub use canonical_record::CanonicalRecord;
 pub use header::{Header, HeaderFlags, SectionCounts};
 pub use item::{MessageItem, ParsedMessageItem};
 pub use laws::{
-    canonical_lists, canonical_octets_are_read_back, canonical_records_are_split_back,
-    canonical_texts, counted_items, equal_canonical_octets, equal_outputs, items_in_words,
-    order_of_records, owners_in_either_layout, parsers_read_messages, readings_in_words,
-    records_that_are_read_are_well_formed, same_records, three_kinds_of_messages,
+    alike_records, canonical_lists, canonical_octets_are_read_back,
+    canonical_records_are_split_back, canonical_texts, counted_items, equal_canonical_octets,
+    equal_outputs, items_in_words, order_of_records, owners_in_either_layout,
+    parsers_read_messages, readings_in_words, records_that_are_read_are_well_formed, same_records,
+    three_kinds_of_messages,
 };
 pub use message::Message;
 pub use parser::{MessageParser, Place};
 pub use push_laws::{answers_of_pushes, lists_of_pushes_are_read};
 pub use read_again::{
     built_questions_are_read, built_records_are_no_longer, built_records_are_read,
-    edns_records_are_built, prefixed_pieces_are_read, records_are_built, told_pieces_are_read,
+    edns_records_are_built, prefixed_pieces_are_read, records_are_built,
+    records_of_pieces_are_built, told_pieces_are_read,
 };

@@ -18,7 +18,7 @@ ghost use Rattle.dns_rdata.specs.Data.{data_fields};
 ghost use Rattle.dns_rdata.specs.Edns.{edns_seen, edns_octets};
 ghost use Rattle.dns_rdata.specs.declared.edns_record.EdnsRecord.{EdnsRecord};
 ghost use Rattle.dns_rdata.specs.declared.record_data.RecordData.{RecordData};
-ghost use Rattle.dns_message.specs.Built.{built, ReadAgain, AskedAgain};
+ghost use Rattle.dns_message.specs.Built.{built, field_piece, ReadAgain, AskedAgain};
 ghost use Rattle.dns_message.specs.Canonical.{record_octets};
 ghost use Rattle.dns_message.specs.Messages.{Rec};
 ghost use Rattle.dns_message.specs.Seen.{edns_told};
@@ -53,6 +53,13 @@ pub fn records_are_built<N: BuildInMessage>()
         (r : Record N (RecordData N)) →
         record_presses (N.presses r.rname) (record_numbers r.rtype.code.value r.rclass.code.value r.ttl.value.value) (fields_press N.presses (data_fields r.rdata))
         ≡ built (record_seen name (λ v. map (named_by name) (data_fields v)) r) }
+{}
+
+/// A record with a name and data of any types writes in a message what a record of these fields does, where its owner tells that it is
+/// pressed, and its data tell a piece for each field.
+pub fn records_of_pieces_are_built<N: BuildInMessage, D: BuildInMessage>()
+    ensures { (owner : N) (content : D) (r : Rec) → N.pieces owner ≡ Some (Pressed r.owner ∷ []) → D.pieces content ≡ Some (map field_piece r.content) →
+        record_presses (N.presses owner) (record_numbers r.rtype r.class r.ttl) (D.presses content) ≡ built r }
 {}
 
 /// An EDNS record whose data are these octets writes in a message what the record that it is writes (RFC 6891 section 6.1.2). A

@@ -100,10 +100,22 @@ fn is_boxed_known(alloc: Global, number: u16, octets: &[u8]) -> Result<bool, Box
     }
 }
 
+/// Whether the octets are no data of the type of this number.
+fn is_unreadable(alloc: Global, number: u16, octets: &[u8]) -> bool {
+    match BoxedRecordData::parse(alloc, octets, RType::from(number)) {
+        Ok(_) => false,
+        Err(error) => error == BoxError::Unreadable,
+    }
+}
+
 #[test]
 fn data_are_boxed_as_their_type_reads_them(rt: HostRuntime) {
     let address = is_boxed_known(rt.alloc(), 1, ADDRESS);
     holds(&rt, address == Ok(true), "an address");
     let strings = is_boxed_known(rt.alloc(), 16, ADDRESS);
     holds(&rt, strings == Err(BoxError::Unreadable), "strings");
+    for number in [59, 60] {
+        let is_refused = is_unreadable(rt.alloc(), number, b"\0\0\0");
+        holds(&rt, is_refused, "three octets of CDS or CDNSKEY");
+    }
 }

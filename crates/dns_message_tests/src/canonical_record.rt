@@ -2,7 +2,8 @@
 
 use crate::assertions::holds;
 use crate::message_parser::{ANSWER, parser_after};
-use dns_message::{CanonicalRecord, MessageParser};
+use dns_message::{CanonicalRecord, MessageParser, collapse};
+use std::alloc::{AllocError, Global};
 use std::cmp::Ordering;
 
 /// The canonical octets of the first record of the answer, as dnspython 2.3.0 writes them.
@@ -12,6 +13,13 @@ const ALIAS: &[u8] =
 /// The canonical octets of its second record.
 const SINGLE: &[u8] = b"\x06single\x07example\x03org\0\0\x01\0\x01\0\0\x01\x2c\0\x04\xc0\0\x02\x5a";
 
+/// Four answers: an address of `A.` for 60 seconds, the same of `a.` for 59 and for 61, and another address.
+const ADDRESSES: &[u8] =
+    b"\x12\x34\x81\x80\0\0\0\x04\0\0\0\0\x01A\0\0\x01\0\x01\0\0\0\x3c\0\x04\xc0\0\x02\x01\x01a\0\0\x01\0\x01\0\0\0\x3b\0\x04\xc0\0\x02\x01\x01a\0\0\x01\0\x01\0\0\0\x3d\0\x04\xc0\0\x02\x01\x01a\0\0\x01\0\x01\0\0\0\x3b\0\x04\xc0\0\x02\x02";
+
+/// The canonical octets of the first address, for 59 seconds.
+const LEAST: &[u8] = b"\x01a\0\0\x01\0\x01\0\0\0\x3b\0\x04\xc0\0\x02\x01";
+
 /// The next item, as a record.
 fn next_record<'a>(parser: &mut MessageParser<'a>) -> Option<CanonicalRecord<'a>> {
     match parser.next_item() {
@@ -20,12 +28,17 @@ fn next_record<'a>(parser: &mut MessageParser<'a>) -> Option<CanonicalRecord<'a>
     }
 }
 
-/// The item of the answer after this many others, as a record.
-fn record_after(count: usize) -> Option<CanonicalRecord<'static>> {
-    match parser_after(ANSWER, count) {
+/// The item of a message after this many others, as a record.
+fn record_in(message: &[u8], count: usize) -> Option<CanonicalRecord<'_>> {
+    match parser_after(message, count) {
         Some(mut parser) => next_record(&mut parser),
         None => None,
     }
+}
+
+/// The item of the answer after this many others, as a record.
+fn record_after(count: usize) -> Option<CanonicalRecord<'static>> {
+    record_in(ANSWER, count)
 }
 
 /// The number of canonical octets that the item of the answer says it has, where it is a record.
@@ -79,4 +92,70 @@ fn order(count: usize, other: usize) -> Option<Ordering> {
 #[test]
 fn owners_are_compared_first(rt: HostRuntime) {
     holds(&rt, order(1, 2) == Some(Ordering::Less), "the alias first");
+}
+
+/// Whether two of the addresses are alike.
+fn are_alike(count: usize, other: usize) -> Option<bool> {
+    match (record_in(ADDRESSES, count), record_in(ADDRESSES, other)) {
+        (Some(first), Some(second)) => Some(first.alike(&second)),
+        _ => None,
+    }
+}
+
+#[test]
+fn records_are_alike_whatever_their_ttl(rt: HostRuntime) {
+    for (count, other, wanted) in [(0, 1, true), (1, 0, true), (1, 2, true), (1, 3, false)] {
+        assert!(rt;
+            are_alike(count, other) == Some(wanted),
+            "{count} and {other}"
+        );
+    }
+}
+
+/// The first so many of the addresses.
+fn first_addresses(
+    alloc: Global,
+    count: usize,
+) -> Result<Vec<CanonicalRecord<'static>>, AllocError> {
+    let mut records = Vec::new(alloc);
+    for index in 0..count {
+        if let Some(found) = record_in(ADDRESSES, index) {
+            records.push(found)?;
+        }
+    }
+    Ok(records)
+}
+
+/// Whether these are the canonical octets of the record, as many as those of the first address.
+fn has_octets(found: &CanonicalRecord<'_>, wanted: &[u8]) -> bool {
+    let mut buffer = [0u8; 17];
+    let is_full = match found.write(&mut buffer) {
+        Ok(rest) => rest.is_empty(),
+        Err(_) => false,
+    };
+    is_full && buffer.as_slice() == wanted
+}
+
+/// How many records are left of the first so many, and whether the first of them has these canonical octets.
+fn collapses(alloc: Global, count: usize, wanted: &[u8]) -> Option<(usize, bool)> {
+    let Ok(records) = first_addresses(alloc, count) else {
+        return None;
+    };
+    match collapse(alloc, records) {
+        Ok(kept) => match kept.first() {
+            Some(found) => Some((kept.len(), has_octets(found, wanted))),
+            None => None,
+        },
+        Err(_) => None,
+    }
+}
+
+#[test]
+fn alike_records_collapse_to_the_least_ttl(rt: HostRuntime) {
+    for (count, kept) in [(2, 1), (3, 1), (4, 2)] {
+        assert!(rt;
+            collapses(rt.alloc(), count, LEAST) == Some((kept, true)),
+            "{count}"
+        );
+    }
 }

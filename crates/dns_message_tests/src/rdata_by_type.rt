@@ -6,7 +6,7 @@ pub(crate) type Case = (u16, &'static [u8], &'static [u8]);
 /// In the order of types and canonical octets. `to_wire` and `to_digestable` of dnspython 2.3.0 wrote the octets, except
 /// those of the last type, which dnspython does not know, and those of OPT, which has no text form: these are two options as
 /// RFC 7873 section 4 and RFC 8914 section 2 have them.
-const RDATA: [Case; 21] = [
+const RDATA: [Case; 23] = [
     (1, b"\xc0\0\x02A", b"\xc0\0\x02A"),
     (
         2,
@@ -77,6 +77,16 @@ const RDATA: [Case; 21] = [
         51,
         b"\x01\0\0\x0c\x04\xaa\xbb\xcc\xdd",
         b"\x01\0\0\x0c\x04\xaa\xbb\xcc\xdd",
+    ),
+    (
+        59,
+        b"\xeey\x0d\x02Z\x98N[L\x8b~\x9b\xa2W\xe1\xbbl\xa4\xda\x9a^F\xba\x97\xb9\xa5\x9d\xb2\xa2\x88\x86\xebg\x82\x11\xfd",
+        b"\xeey\x0d\x02Z\x98N[L\x8b~\x9b\xa2W\xe1\xbbl\xa4\xda\x9a^F\xba\x97\xb9\xa5\x9d\xb2\xa2\x88\x86\xebg\x82\x11\xfd",
+    ),
+    (
+        60,
+        b"\x01\x01\x03\x0f\xf8\xb7\x0c\x0e\x83\xf9\xa4@f\xbc\xafx\xd4m\xba\0L.\xac\x83\xd8N\x88$i\x80'F\x10\xb3\x0dx",
+        b"\x01\x01\x03\x0f\xf8\xb7\x0c\x0e\x83\xf9\xa4@f\xbc\xafx\xd4m\xba\0L.\xac\x83\xd8N\x88$i\x80'F\x10\xb3\x0dx",
     ),
     (
         63,

@@ -67,7 +67,7 @@ fn is_read_cut(number: u16, octets: &[u8]) -> bool {
 
 /// Whether the last field of the type takes all octets that remain.
 fn ends_in_rest(number: u16) -> bool {
-    matches!(number, 43 | 46 | 48 | 63 | 65_280)
+    matches!(number, 43 | 46 | 48 | 59 | 60 | 63 | 65_280)
 }
 
 #[test]

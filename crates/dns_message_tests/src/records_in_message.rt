@@ -34,7 +34,10 @@ const CONTENTS: &[u8] =
     \x03COM\0\0\x06@\x01\0\0\0\x03\x04\x1b\0\0\0\0\0\0\0\0\0\0\0\0\0\0\0\0\0\0\0\0\0\0\0\0\0\0 \xc0\x0c\
     \00\0\x01\0\0\0<\0\x10\x01\0\x03\x05\x01\x03\xd2*l\xa7\x7f5\xb8\x93 o\xc0\x0c\02\0\x01\0\0\0<\0&\x01\
     \x01\0\x0c\x04\xaa\xbb\xcc\xdd\x14\x17N\xb2@\x9f\xe2\x8b\xcbH\x87\xa1\x83o\x95\x7f\x0a\x84%\xe2{\0\
-    \x06@\0\0\0\0\x02\xc0\x0c\03\0\x01\0\0\0<\0\x09\x01\0\0\x0c\x04\xaa\xbb\xcc\xdd\xc0\x0c\0?\0\x01\0\0\
+    \x06@\0\0\0\0\x02\xc0\x0c\03\0\x01\0\0\0<\0\x09\x01\0\0\x0c\x04\xaa\xbb\xcc\xdd\xc0\x0c\0;\0\x01\0\0\
+    \0<\0$\xeey\x0d\x02Z\x98N[L\x8b~\x9b\xa2W\xe1\xbbl\xa4\xda\x9a^F\xba\x97\xb9\xa5\x9d\xb2\xa2\x88\
+    \x86\xebg\x82\x11\xfd\xc0\x0c\0<\0\x01\0\0\0<\0$\x01\x01\x03\x0f\xf8\xb7\x0c\x0e\x83\xf9\xa4@f\xbc\
+    \xafx\xd4m\xba\0L.\xac\x83\xd8N\x88$i\x80'F\x10\xb3\x0dx\xc0\x0c\0?\0\x01\0\0\
     \0<\06xH\xb7\x8c\x01\x01\xfe\xbe=L\xe2\xec/\xfaK\xa9\x9dF\xcdi\xd6\xd2\x97\x11\xe5R\x17\x05{\xee~\
     \xb1\xa7\xb6A\xa4{\xa7\xfe\xd2\xdd[\x97\xaeI\x9f\xaf\xa4\xf2,k\xd6G\xde\xc0\x0c\xff\0\0\x01\0\0\0<\0\
     \x03\x01\x02\xff";
@@ -75,7 +78,7 @@ fn are_pushed(alloc: Global, builder: &mut MessageBuilder<'_>, is_boxed: bool) -
 
 /// Whether the records are written as the contents, and their names are known at these places then.
 fn are_written(alloc: Global, is_boxed: bool) -> bool {
-    let mut buffer = [0; 708];
+    let mut buffer = [0; 804];
     let mut names = NameCompressor::new();
     let is_whole = {
         let id = U16::new(0);
@@ -120,5 +123,5 @@ fn shared_names_are_read(rt: HostRuntime) {
         assert!(rt; end.is_some(), "{number}");
         place = end.unwrap_or(0);
     }
-    holds(&rt, place == 696, "the end");
+    holds(&rt, place == 792, "the end");
 }

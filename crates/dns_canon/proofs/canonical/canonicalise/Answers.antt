@@ -1,7 +1,7 @@
 use Rattle.std.proofs.Common.{◌∙◌, ap, inl, inr, Err}
 use Rattle.std.proofs.lemmas.Result.{err_from_is_err_and}
 use Rattle.dns_canon.proofs.Exclusive.{memory_alone, that_or_memory, refused_not_valid}
-use Rattle.dns_canon.proofs.Sorting.{kept_in_order, octets_lent}
+use Rattle.dns_canon.proofs.Sorting.{octets_lent}
 use Rattle.dns_canon.proofs.canonical.canonicalise.Goals as goal
 
 pub returns-in_err-records-clause-valid : goal.returns-in_err-records-clause-valid
@@ -17,8 +17,8 @@ returns-in_err-records-clause-exactly c =
 pub returns-clause-ok : goal.returns-clause-ok
 returns-clause-ok c =
     let read = c.in_ok-records.ensures.read in
-    let ordered = kept_in_order read.0 _ c.deref.result.now _ c.deref-2.result.now read.2 c.deref.ensures.value c.in_ok-order.ensures c.deref-2.ensures.value in
-    (read.0, read.1, c.in_ok-lists.ensures ∙ octets_lent read.0 c.deref-2.result.now ordered)
+    let octets = octets_lent read.0 _ c.deref.result.now _ c.deref-2.result.now read.2 c.deref.ensures.value c.in_ok-order.ensures.octets c.deref-2.ensures.value in
+    (read.0, read.1, c.in_ok-lists.ensures ∙ octets)
 
 pub returns-clause-exactly : goal.returns-clause-exactly
 returns-clause-exactly c = λ error refused. absurd (refused_not_valid c.args.message.now _ error c.in_ok-records.ensures.read.1 refused)

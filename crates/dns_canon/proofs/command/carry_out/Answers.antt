@@ -1,7 +1,7 @@
 use Rattle.std.proofs.Common.{sym, subst, refl}
 use Rattle.dns_wire.specs.Outside.{ReadsAll}
 use Rattle.dns_canon.specs.declared.words.Command.TheVariants.{Same}
-use Rattle.dns_canon.proofs.Transfers.{read_put}
+use Rattle.dns_canon.proofs.PrintedTexts.{read_put}
 use Rattle.dns_canon.proofs.command.carry_out.Goals as goal
 
 pub returns-in_ok-line-in-Same-clause-written : goal.returns-in_ok-line-in-Same-clause-written

@@ -3,8 +3,8 @@ use Rattle.std.proofs.lemmas.Result.{err_from_is_err_and}
 use Rattle.dns_wire.specs.Hexadecimal.{Spells, lines}
 use Rattle.dns_message.specs.Canonical.{canon}
 use Rattle.dns_canon.specs.declared.words.Command.TheVariants.{Canon}
-use Rattle.dns_canon.proofs.Sorting.{kept_in_order, octets_lent}
-use Rattle.dns_canon.proofs.Transfers.{text_put}
+use Rattle.dns_canon.proofs.Sorting.{octets_lent}
+use Rattle.dns_canon.proofs.PrintedTexts.{text_put}
 use Rattle.dns_canon.proofs.Verdicts.{message_answers}
 use Rattle.dns_canon.proofs.command.put_canon.Goals as goal
 
@@ -19,5 +19,5 @@ pub returns-clause-written : goal.returns-clause-written
 returns-clause-written g c =
     let spells : Spells c.args.text.now c.deref.result.now = subst (Spells c.args.text.now) (sym c.deref.ensures.value) c.in_ok-message.ensures.ok in
     let valid = c.in_ok-records.ensures.ok in
-    let ordered = kept_in_order valid.0 _ c.deref-2.result.now _ c.deref-3.result.now valid.2 c.deref-2.ensures.value c.in_ok-order.ensures c.deref-3.ensures.value in
-    text_put Canon c.args.text.now (lines (map (λ r. canon r.now) c.deref-3.result.now)) _ _ c.put_records.result c.written.result c.written.ensures (c.deref.result.now, valid.0, spells, valid.1, ap lines (octets_lent valid.0 c.deref-3.result.now ordered)) c.put_records.ensures.puts
+    let printed = octets_lent valid.0 _ c.deref-2.result.now _ c.deref-3.result.now valid.2 c.deref-2.ensures.value c.in_ok-order.ensures.octets c.deref-3.ensures.value in
+    text_put Canon c.args.text.now (lines (map (λ r. canon r.now) c.deref-3.result.now)) _ _ c.put_records.result c.written.result c.written.ensures (c.deref.result.now, valid.0, spells, valid.1, ap lines printed) c.put_records.ensures.puts

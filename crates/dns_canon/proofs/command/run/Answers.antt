@@ -1,4 +1,4 @@
-use Rattle.dns_canon.proofs.Transfers.{front_of_puts}
+use Rattle.dns_text.proofs.Transfers.{front_of_puts}
 use Rattle.dns_canon.proofs.command.run.Goals as goal
 
 pub returns-clause-told : goal.returns-clause-told

@@ -1,7 +1,0 @@
-use Rattle.std.proofs.Common.{ap, sym, ◌∙◌}
-use Rattle.dns_wire.specs.Hexadecimal.{spelled}
-use Rattle.dns_canon.proofs.Decoding.{odd_spells_none}
-use Rattle.dns_canon.proofs.spelling.octets_of.Goals as goal
-
-pub returns-then-digits-eq1-clause-bad_hex : goal.returns-then-digits-eq1-clause-bad_hex
-returns-then-digits-eq1-clause-bad_hex c = λ is. ap spelled (sym c.trimmed-digits.ensures) ∙ odd_spells_none c.trimmed-digits.result.now c.if-digits-eq1.true

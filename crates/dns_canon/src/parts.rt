@@ -1,0 +1,24 @@
+//! The texts of two messages in one.
+
+ghost use Rattle.std.specs.Prelude.{◌≡◌};
+ghost use Rattle.dns_canon.specs.Parts.{first_text, second_text};
+
+use dns_text::trimmed;
+
+/// The texts of two messages in a text, which stand before and behind its first LF; blanks at its end do
+/// not count. Where there is no LF, the second is empty.
+pub(crate) fn parted(text: &[u8]) -> (&[u8], &[u8])
+    ensures first { result.0.now ≡ first_text text.now }
+    ensures second { result.1.now ≡ second_text text.now }
+{
+    let solid = trimmed(text);
+    let mut end = 0;
+    while end < solid.len() && solid[end] != b'\n' {
+        end += 1;
+    }
+    if end < solid.len() {
+        (&solid[..end], &solid[end + 1..])
+    } else {
+        (solid, &[])
+    }
+}

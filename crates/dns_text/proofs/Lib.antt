@@ -1,0 +1,5 @@
+-- The crate's own lemmas.
+mod Decoding
+mod DigitTable
+pub mod Transfers
+mod Trimming

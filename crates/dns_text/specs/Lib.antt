@@ -1,0 +1,3 @@
+-- What the contracts of whole texts cite.
+pub mod Notes
+pub mod Taken

@@ -1,0 +1,11 @@
+//! Whole texts, in and out: reading up to a limit, octets as hexadecimal digits, and writing.
+#![tactic(auto)]
+
+mod digit_pairs;
+mod error;
+mod hexadecimal;
+mod transfer;
+
+pub use error::{HexError, TextError};
+pub use hexadecimal::{octets_of, trimmed};
+pub use transfer::{PIECE, put_all, put_line, put_text, read_text};
