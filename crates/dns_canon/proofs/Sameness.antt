@@ -1,13 +1,11 @@
 -- What equal canonical lists tell of two messages.
-use Rattle.std.proofs.Common.{◌≡◌, ℕ, map, ◌+◌, ◌*◌, ◌-◌, ◌<◌, ◌&&◌, ◌⊎◌, inl, inr, Bool, true, false, cond, List, [], ◌∷◌, ◌++◌, Option, Some, None, codes, refl, sym, ◌∙◌, subst, arith}
-use Rattle.std.specs.Prelude.{◌↔◌, nat_le}
+use Rattle.std.proofs.Common.{◌≡◌, ℕ, map, ◌⊎◌, inl, inr, Bool, true, false, List, [], ◌∷◌, ◌++◌, codes, refl, sym, ◌∙◌, subst}
+use Rattle.std.specs.Prelude.{◌↔◌}
 use Rattle.std.specs.Cmp.Lexicographic.{pointwise}
-use Rattle.std.proofs.lemmas.Bool.Decides.{nat_tests}
-use Rattle.dns_wire.specs.Hexadecimal.{Spells, digit_value, pair_before, spelled, trim}
-use Rattle.dns_wire.specs.Reading.{AreOctets}
+use Rattle.dns_wire.specs.Hexadecimal.{Spells, trim}
 use Rattle.dns_message.specs.Messages.{Rec, Valid}
 use Rattle.dns_message.specs.Same.{Same}
-use Rattle.dns_message.proofs.Octets.{no_octets, one_more}
+use Rattle.dns_wire.proofs.Digits.{spelled_octets}
 use Rattle.dns_message.proofs.Sameness.{message_outputs}
 use Rattle.dns_message.proofs.OneReading.{valid_one}
 use Rattle.std.specs.Ordering.{eq_by_cmp}
@@ -18,33 +16,6 @@ use Rattle.dns_canon.specs.Parts.{first_text, second_text}
 use Rattle.dns_canon.proofs.Sorting.{keys_tie, same_in_order}
 use Rattle.dns_canon.specs.Run.{Prints, TellsSameness}
 use Rattle.dns_canon.specs.declared.words.Command.TheVariants as command
-
--- ---- what is spelled is octets
-
-digit_below : (c v : ℕ) → digit_value c ≡ Some v → v < 16
-digit_below c v = by (nat_le 65 c && nat_le c 70) (nat_le 97 c && nat_le c 102) (nat_le 48 c && nat_le c 57) refl refl refl where
-  by : (capital small digit : Bool) → (nat_le 65 c && nat_le c 70) ≡ capital → (nat_le 97 c && nat_le c 102) ≡ small → (nat_le 48 c && nat_le c 57) ≡ digit
-      → cond {A = Option ℕ} capital (Some (c - 55)) (cond {A = Option ℕ} small (Some (c - 87)) (cond {A = Option ℕ} digit (Some (c - 48)) None)) ≡ Some v → v < 16
-  by true small digit p q r e = let is : c - 55 ≡ v = cc in grind (arith, nat_tests)
-  by false true digit p q r e = let is : c - 87 ≡ v = cc in grind (arith, nat_tests)
-  by false false true p q r e = let is : c - 48 ≡ v = cc in grind (arith, nat_tests)
-  by false false false p q r e = absurd cc
-
-pub spelled_octets : (s m : List ℕ) → spelled s ≡ Some m → AreOctets m
-unfolding spelled
-spelled_octets [] m e = let is : [] ≡ m = cc in subst AreOctets is no_octets
-spelled_octets (c ∷ []) m e = absurd cc
-spelled_octets (c ∷ d ∷ rest) m e = by (digit_value c) (digit_value d) (spelled rest) (λ octets r. spelled_octets rest octets r) refl refl refl e where
-  by : (high low : Option ℕ) (later : Option (List ℕ)) → ((octets : List ℕ) → spelled rest ≡ Some octets → AreOctets octets)
-      → digit_value c ≡ high → digit_value d ≡ low → spelled rest ≡ later → pair_before high low later ≡ Some m → AreOctets m
-  by (Some h) (Some l) (Some octets) are p q r e =
-      let is : (h * 16 + l) ∷ octets ≡ m = cc in
-      let few = digit_below c h p in
-      let also = digit_below d l q in
-      subst AreOctets is (one_more (h * 16 + l) octets (omega arith) (are octets r))
-  by (Some h) (Some l) None are p q r e = absurd cc
-  by (Some h) None later are p q r e = absurd cc
-  by None low later are p q r e = absurd cc
 
 -- ---- what is told
 

@@ -1,6 +1,7 @@
 //! The definitions of this crate in other words.
 
-ghost use Rattle.std.specs.Prelude.{◌≡◌, ◌↔◌, ◌<◌, ◌^◌, ◌++◌, ℕ, List, Some, true, length, IsTrue, IsOk};
+ghost use Rattle.std.specs.Prelude.{◌≡◌, ◌↔◌, ◌<◌, ◌^◌, ◌++◌, ℕ, List, Some, true, length, nat_eq, IsTrue, IsOk};
+ghost use Rattle.std.specs.Ordering.{nat_cmp};
 ghost use Rattle.dns_record.specs.Options.{is_options, options_of};
 ghost use Rattle.dns_edns.specs.Cookies.{IsWithin, IsTaken, unhashed, response};
 ghost use Rattle.dns_edns.specs.Flags.{flag_bits};
@@ -59,6 +60,15 @@ pub fn ext_error_numbers()
 /// The flags by default have no bit (RFC 6891 section 6.1.4).
 pub fn default_flags()
     ensures { (flags : _) → ⟦<EdnsFlags as Default>⟧.is_default flags → flag_bits flags ≡ 0 }
+{}
+
+/// Codes are equal, and come in order, by their numbers; flags are equal where their bits are.
+pub fn codes_are_compared_by_number()
+    ensures option { (a b : _) → ⟦<OptionCode as PartialEq>⟧.eq a b ≡ nat_eq a.code.value b.code.value }
+    ensures option_order { (a b : _) → ⟦<OptionCode as Ord>⟧.cmp a b ≡ nat_cmp a.code.value b.code.value }
+    ensures error { (a b : _) → ⟦<ExtErrorCode as PartialEq>⟧.eq a b ≡ nat_eq a.code.value b.code.value }
+    ensures error_order { (a b : _) → ⟦<ExtErrorCode as Ord>⟧.cmp a b ≡ nat_cmp a.code.value b.code.value }
+    ensures flags { (a b : _) → ⟦<EdnsFlags as PartialEq>⟧.eq a b ≡ nat_eq (flag_bits a) (flag_bits b) }
 {}
 
 /// The options that are gone over are those that all the octets spell (RFC 6891 section 6.1.2).

@@ -28,8 +28,8 @@ pub use ext_error::ExtError;
 pub use ext_error_code::ExtErrorCode;
 pub use keyed_hash::KeyedHash;
 pub use laws::{
-    code_numbers, default_flags, ext_error_numbers, given_cookies, options_are_equal_by_content,
-    options_of_octets, takes_what_it_gives,
+    code_numbers, codes_are_compared_by_number, default_flags, ext_error_numbers, given_cookies,
+    options_are_equal_by_content, options_of_octets, takes_what_it_gives,
 };
 pub use opt::Opt;
 pub use option_code::OptionCode;

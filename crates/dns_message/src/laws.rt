@@ -1,6 +1,6 @@
 //! What follows from the definitions.
 
-ghost use Rattle.std.specs.Prelude.{◌≡◌, ◌≤◌, ◌<◌, ◌⊎◌, ◌↔◌, ℕ, List, [], false, Some, None, Ok, Err, length, map, IsTrue};
+ghost use Rattle.std.specs.Prelude.{◌≡◌, ◌≤◌, ◌<◌, ◌⊎◌, ◌↔◌, ℕ, List, [], false, Some, None, Ok, Err, length, map, nat_eq, IsTrue};
 ghost use Rattle.std.specs.Cmp.{IsTotalOrder};
 ghost use Rattle.std.specs.List.{All, Contains};
 ghost use Rattle.std.specs.List.Sorted.{IsPermutation};
@@ -10,6 +10,7 @@ ghost use Rattle.dns_wire.specs.Reading.{AreOctets};
 ghost use Rattle.dns_record.specs.InPlace.{QuestionAt, RecordAt};
 ghost use Rattle.dns_message.specs.Canonical.{canon, fold, plain_record};
 ghost use Rattle.dns_message.specs.Counted.{IsCounted, IsEarlier, StandsBefore};
+ghost use Rattle.dns_message.specs.Headers.{header_bits};
 ghost use Rattle.dns_message.specs.Messages.{Item, Question, Rec, item_at, counted_slots, with_item, message_reading, Valid, StopsAt, BadAt};
 ghost use Rattle.dns_message.specs.Messages.Item.{Asked, Told};
 ghost use Rattle.dns_message.specs.Messages.Reading.{Stopped, Whole};
@@ -24,6 +25,7 @@ ghost use Rattle.dns_message.specs.Sorted.{Climbs};
 ghost use Rattle.dns_message.specs.WellFormed.{WellFormed};
 ghost use Rattle.dns_message.specs.Worded.{ItemAt, FailsAt, ReadsWhole};
 
+use crate::header::HeaderFlags;
 use dns_name::{Name, NameBuf, RevNameBuf};
 use dns_rdata::RecordData;
 use dns_record::Record;
@@ -168,4 +170,10 @@ pub fn owners_in_either_layout()
     ensures { (contents : List ℕ) (at : ℕ) →
         ⟦<Record<NameBuf, RecordData<'static, NameBuf>> as ParseBytes<'static>>⟧.reads_at contents at
         ≡ ⟦<Record<RevNameBuf, RecordData<'static, NameBuf>> as ParseBytes<'static>>⟧.reads_at contents at }
+{}
+
+/// The flags of a header are equal where their bits are, and have none by default (RFC 1035 section 4.1.1).
+pub fn header_flags()
+    ensures equal { (a b : _) → ⟦<HeaderFlags as PartialEq>⟧.eq a b ≡ nat_eq (header_bits a) (header_bits b) }
+    ensures none { (v : _) → ⟦<HeaderFlags as Default>⟧.is_default v → header_bits v ≡ 0 }
 {}

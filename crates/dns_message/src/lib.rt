@@ -27,7 +27,7 @@ pub use item::{MessageItem, ParsedMessageItem};
 pub use laws::{
     alike_records, canonical_lists, canonical_octets_are_read_back,
     canonical_records_are_split_back, canonical_texts, counted_items, equal_canonical_octets,
-    equal_outputs, items_in_words, order_of_records, owners_in_either_layout,
+    equal_outputs, header_flags, items_in_words, order_of_records, owners_in_either_layout,
     parsers_read_messages, readings_in_words, records_that_are_read_are_well_formed, same_records,
     three_kinds_of_messages,
 };

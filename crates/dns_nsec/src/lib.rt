@@ -22,7 +22,10 @@ pub use laws::{bitmaps_of_types, bits_of_bitmaps, code_numbers, types_of_bitmaps
 pub use nsec::Nsec;
 pub use nsec3::Nsec3;
 pub use nsec3param::Nsec3Param;
-pub use order_laws::{data_are_equal_by_fields, data_are_hashed_by_fields};
+pub use order_laws::{
+    codes_are_compared_by_number, data_are_equal_by_fields, data_are_hashed_by_fields,
+    default_flags,
+};
 pub use type_iter::TypeIter;
 pub use type_laws::{
     types_are_canonical_by_number, types_are_read_by_number, types_are_read_by_number_in_messages,

@@ -1,14 +1,17 @@
 //! Data are compared and fed to a hasher field by field, in the order in which the fields stand on the wire.
 
 ghost use Rattle.std.specs.Prelude.{◌≡◌, nat_eq};
-ghost use Rattle.std.specs.Ordering.{eq_by_cmp, on};
+ghost use Rattle.std.specs.Ordering.{eq_by_cmp, nat_cmp, on};
 ghost use Rattle.std.specs.Cmp.Lexicographic.{pointwise};
 ghost use Rattle.std.specs.Hash.{slice, u8};
 ghost use Rattle.dns_name.specs.Hashing.{name_writes};
 ghost use Rattle.dns_name.specs.Order.{key, key_cmp};
 ghost use Rattle.dns_record.specs.FieldOrder.{fields_eq, fields_writes};
+ghost use Rattle.dns_nsec.specs.Flags.{nsec3_flag_bits};
 ghost use Rattle.dns_nsec.specs.Types.{nsec_fields, nsec3_fields, nsec3param_fields};
 
+use crate::flags::Nsec3Flags;
+use crate::hash_algorithm::Nsec3HashAlgorithm;
 use crate::nsec::Nsec;
 use crate::nsec3::Nsec3;
 use crate::nsec3param::Nsec3Param;
@@ -27,4 +30,16 @@ pub fn data_are_hashed_by_fields()
     ensures nsec { (v : _) → ⟦<Nsec<'static> as Hash>⟧.hash_input v ≡ fields_writes name_writes name_writes (slice u8) (nsec_fields v) }
     ensures nsec3 { (v : _) → ⟦<Nsec3<'static> as Hash>⟧.hash_input v ≡ fields_writes name_writes name_writes (slice u8) (nsec3_fields v) }
     ensures nsec3param { (v : _) → ⟦<Nsec3Param<'static> as Hash>⟧.hash_input v ≡ fields_writes name_writes name_writes (slice u8) (nsec3param_fields v) }
+{}
+
+/// Hash algorithms are equal, and come in order, by their numbers; flags are equal where their bits are.
+pub fn codes_are_compared_by_number()
+    ensures equal { (a b : _) → ⟦<Nsec3HashAlgorithm as PartialEq>⟧.eq a b ≡ nat_eq a.code b.code }
+    ensures order { (a b : _) → ⟦<Nsec3HashAlgorithm as Ord>⟧.cmp a b ≡ nat_cmp a.code b.code }
+    ensures flags { (a b : _) → ⟦<Nsec3Flags as PartialEq>⟧.eq a b ≡ nat_eq (nsec3_flag_bits a) (nsec3_flag_bits b) }
+{}
+
+/// The flags by default have no bit (RFC 5155 section 3.1.2).
+pub fn default_flags()
+    ensures { (v : _) → ⟦<Nsec3Flags as Default>⟧.is_default v → nsec3_flag_bits v ≡ 0 }
 {}

@@ -8,6 +8,7 @@ mod charstr_error;
 mod charstr_laws;
 mod code_laws;
 mod laws;
+mod order_laws;
 mod qclass;
 mod qtype;
 mod question;
@@ -26,6 +27,10 @@ pub use charstr_error::CharStrParseError;
 pub use charstr_laws::character_strings;
 pub use code_laws::{class_numbers, question_type_numbers, record_type_numbers};
 pub use laws::{items_in_words, serial_numbers_compare, whole_data_are_short};
+pub use order_laws::{
+    codes_are_equal_by_number, codes_are_hashed_by_number, codes_are_ordered_by_number,
+    items_are_equal_by_fields, items_are_hashed_by_fields,
+};
 pub use qclass::QClass;
 pub use qtype::QType;
 pub use question::Question;

@@ -24,7 +24,10 @@ pub use dnskey::DNSKey;
 pub use dnskey_flags::DNSKeyFlags;
 pub use ds::Ds;
 pub use laws::code_numbers;
-pub use order_laws::{data_are_equal_by_fields, data_are_hashed_by_fields};
+pub use order_laws::{
+    codes_are_equal_by_number, codes_are_ordered_by_number, data_are_equal_by_fields,
+    data_are_hashed_by_fields, default_flags, digests_of_known_length,
+};
 pub use rrsig::Rrsig;
 pub use sec_alg::SecAlg;
 pub use timestamp::Timestamp;

@@ -1,8 +1,10 @@
 -- Hexadecimal text is read back.
-use Rattle.std.proofs.Common.{◌≡◌, ℕ, zero, suc, ◌+◌, ◌*◌, ◌/◌, ◌%◌, ◌<◌, ◌==◌, Bool, true, ◌&&◌, inl, inr, List, [], ◌∷◌, slice_index, Option, Some, None, unwrap_or, refl, ap, ◌∙◌, arith, codes, flat_map}
+use Rattle.std.proofs.Common.{◌≡◌, ℕ, zero, suc, ◌+◌, ◌-◌, ◌*◌, ◌/◌, ◌%◌, ◌<◌, ◌==◌, Bool, true, false, cond, ◌&&◌, subst, inl, inr, List, [], ◌∷◌, slice_index, Option, Some, None, unwrap_or, refl, ap, ◌∙◌, arith, codes, flat_map}
+use Rattle.std.specs.Prelude.{nat_le}
 use Rattle.std.proofs.lemmas.Bool.{and_parts, cases_lt, eqb-true}
+use Rattle.std.proofs.lemmas.Bool.Decides.{nat_tests}
 use Rattle.std.proofs.lemmas.List.Concat.{flat_map-cons}
-use Rattle.dns_wire.specs.Hexadecimal.{digit_value, spelled, shown}
+use Rattle.dns_wire.specs.Hexadecimal.{digit_value, pair_before, spelled, shown}
 use Rattle.dns_wire.specs.Reading.{AreOctets}
 
 -- ---- the sixteen digits
@@ -46,3 +48,37 @@ spelled-shown (b ∷ rest) h =
     let whole : b / 16 * 16 + b % 16 ≡ b = omega arith in
     let later = spelled-shown rest (λ i. h (suc i)) in
     ap spelled (flat_map-cons shown b rest) ∙ rw (high, low, later, whole) refl
+
+-- ---- what is spelled is octets
+
+no_octets : AreOctets []
+no_octets i = omega arith
+
+one_more : (b : ℕ) (bytes : List ℕ) → b < 256 → AreOctets bytes → AreOctets (b ∷ bytes)
+one_more b bytes fits are zero = fits
+one_more b bytes fits are (suc i) = are i
+
+digit_below : (c v : ℕ) → digit_value c ≡ Some v → v < 16
+digit_below c v = by (nat_le 65 c && nat_le c 70) (nat_le 97 c && nat_le c 102) (nat_le 48 c && nat_le c 57) refl refl refl where
+  by : (capital small digit : Bool) → (nat_le 65 c && nat_le c 70) ≡ capital → (nat_le 97 c && nat_le c 102) ≡ small → (nat_le 48 c && nat_le c 57) ≡ digit
+      → cond {A = Option ℕ} capital (Some (c - 55)) (cond {A = Option ℕ} small (Some (c - 87)) (cond {A = Option ℕ} digit (Some (c - 48)) None)) ≡ Some v → v < 16
+  by true small digit p q r e = let is : c - 55 ≡ v = cc in grind (arith, nat_tests)
+  by false true digit p q r e = let is : c - 87 ≡ v = cc in grind (arith, nat_tests)
+  by false false true p q r e = let is : c - 48 ≡ v = cc in grind (arith, nat_tests)
+  by false false false p q r e = absurd cc
+
+pub spelled_octets : (s m : List ℕ) → spelled s ≡ Some m → AreOctets m
+unfolding spelled
+spelled_octets [] m e = let is : [] ≡ m = cc in subst AreOctets is no_octets
+spelled_octets (c ∷ []) m e = absurd cc
+spelled_octets (c ∷ d ∷ rest) m e = by (digit_value c) (digit_value d) (spelled rest) (λ octets r. spelled_octets rest octets r) refl refl refl e where
+  by : (high low : Option ℕ) (later : Option (List ℕ)) → ((octets : List ℕ) → spelled rest ≡ Some octets → AreOctets octets)
+      → digit_value c ≡ high → digit_value d ≡ low → spelled rest ≡ later → pair_before high low later ≡ Some m → AreOctets m
+  by (Some h) (Some l) (Some octets) are p q r e =
+      let is : (h * 16 + l) ∷ octets ≡ m = cc in
+      let few = digit_below c h p in
+      let also = digit_below d l q in
+      subst AreOctets is (one_more (h * 16 + l) octets (omega arith) (are octets r))
+  by (Some h) (Some l) None are p q r e = absurd cc
+  by (Some h) None later are p q r e = absurd cc
+  by None low later are p q r e = absurd cc

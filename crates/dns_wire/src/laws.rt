@@ -78,9 +78,10 @@ pub fn trimmed_text()
     ensures one { (text left : List ℕ) → Trimmed text left → left ≡ trim text }
 {}
 
-/// What is written in hexadecimal is read back (RFC 4648 section 8).
+/// What is written in hexadecimal is read back, and what a text spells is octets (RFC 4648 section 8).
 pub fn hexadecimal_text()
-    ensures { (octets : List ℕ) → AreOctets octets → spelled (flat_map shown octets) ≡ Some octets }
+    ensures back { (octets : List ℕ) → AreOctets octets → spelled (flat_map shown octets) ≡ Some octets }
+    ensures octets { (text octets : List ℕ) → spelled text ≡ Some octets → AreOctets octets }
 {}
 
 /// A list of octets is written as these octets, in a message too.
