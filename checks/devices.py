@@ -361,7 +361,9 @@ def check_memory_limits(report):
         wrong, refused, done = [], 0, None
         for limit in range(first, MOST_KILOBYTES, 4):
             status, printed, noted = limited(limit, command.words, command.text)
-            found = fault(status, printed, noted, (0, 8), command.lines, None)
+            # Without memory for its own words the program has no line.
+            is_bare = status == 8 and noted == b""
+            found = fault(status, printed, noted, (0, 8), command.lines, b"" if is_bare else None)
             wrong += [f"at {limit} KB: {found}"] * (found is not None)
             if status == 0:
                 done = limit

@@ -28,6 +28,10 @@ class Ended:
     asked: int
 
 
+# The program writes nothing where memory for its own words is refused.
+WORDS_REFUSED = Ended(8, b"", b"", None)
+
+
 @dataclass
 class Case:
     """A call of calls.rattle, or a run of the program, and how it must end."""
@@ -57,6 +61,8 @@ class Case:
         """Counts how a run ended in which the growth of this number was refused."""
         if self.is_like(ended, self.refused):
             self.of_call += 1
+        elif self.words and self.of_call == 0 and self.is_like(ended, WORDS_REFUSED):
+            self.of_arguments += 1
         elif not self.words and ended.printed == b"arguments\n":
             self.of_arguments += 1
         elif self.is_like(ended, self.done) and (ended.asked is None or ended.asked < number):

@@ -7,7 +7,7 @@ use std::alloc::{AllocError, Global};
 use std::io;
 
 /// Room for the output of a run.
-const ROOM: usize = 65_536;
+const ROOM: usize = 262_144;
 
 /// How a run ended, and what it wrote.
 #[derive(Drop)]

@@ -103,6 +103,30 @@ fn alike_records(alloc: Global, step: u16, records: u16) -> Result<Generated, Al
     Ok(Generated { text, lines })
 }
 
+/// Appends a record of the root without data, of this type: no record is shorter.
+fn append_shortest(octets: &mut Vec<u8>, rtype: u16) -> Result<(), AllocError> {
+    octets.push(0)?;
+    append_number(octets, rtype)?;
+    octets.extend_from_slice(b"\0\x01\0\0\0\0\0\0")
+}
+
+/// The shortest records, one of each type above this one, the greatest type first.
+fn shortest_records(alloc: Global, first: u16, records: u16) -> Result<Generated, AllocError> {
+    let mut message = header(alloc, records)?;
+    let mut lines = Vec::new(alloc);
+    for index in 0..records {
+        append_shortest(
+            &mut message,
+            first.wrapping_add(records).wrapping_sub(index),
+        )?;
+        let mut record = Vec::new(alloc);
+        append_shortest(&mut record, first.wrapping_add(index).wrapping_add(1))?;
+        append_line(alloc, &mut lines, &record)?;
+    }
+    let text = hex::encode(alloc, &message)?.into_bytes();
+    Ok(Generated { text, lines })
+}
+
 /// Appends a label.
 fn append_label(name: &mut Vec<u8>, label: &[u8]) -> Result<(), AllocError> {
     let [.., size] = label.len().to_be_bytes();
@@ -157,6 +181,7 @@ fn by_rule(alloc: Global, rule: &str, count: u16, records: u16) -> Result<Genera
     match rule {
         "chain-of-pointers" => chain_of_pointers(alloc, count, records),
         "alike-records" => alike_records(alloc, count, records),
+        "shortest-records" => shortest_records(alloc, count, records),
         _ => fan_of_pointers(alloc),
     }
 }
@@ -178,7 +203,17 @@ fn show_comparison(
     println!(rt; "a text of {text} digits, and lines of {output} octets: {verdict}")
 }
 
-/// Prints the answer of `canon` to the text of a rule, and whether its lines are those of the rule.
+/// Prints the answer of `same` to a text and itself.
+fn show_with_itself(rt: &impl Print, alloc: Global, text: &[u8]) -> io::Result<()> {
+    let mut twice = Vec::from_slice(alloc, text)?;
+    twice.push(b'\n')?;
+    twice.extend_from_slice(text)?;
+    let found = answer_to(alloc, "same", &twice)?;
+    show(rt, "with itself", &found)
+}
+
+/// Prints the answer of `canon` to the text of a rule, whether its lines are those of the rule, and the answer of `same` to
+/// the text and itself.
 pub(crate) fn show_generated(
     rt: &impl Print,
     alloc: Global,
@@ -188,7 +223,8 @@ pub(crate) fn show_generated(
 ) -> io::Result<()> {
     let made = by_rule(alloc, rule, in_two_octets(count), in_two_octets(records))?;
     let found = answer_to(alloc, "canon", &made.text)?;
-    show_comparison(rt, name, &made, &found)
+    show_comparison(rt, name, &made, &found)?;
+    show_with_itself(rt, alloc, &made.text)
 }
 
 /// A text of this many octets: digits 0 alone, or a header of them, CR and LF, and digits 0.

@@ -51,6 +51,29 @@ fn each_read_of_same_fails_in_turn(rt: HostRuntime) {
     }
 }
 
+/// Whether `canon` for these digits, in pieces of 4,096, ends as wanted where the source fails at a call.
+fn ends_for_digits(alloc: Global, digits: &[u8], call: u64, wanted: Wanted<'_>) -> bool {
+    let devices = Devices::failing_at([4096, 64, 64], [call, NEVER, NEVER]);
+    let text = str::from_utf8(digits).unwrap_or("");
+    answers(alloc, "canon", text, devices, wanted)
+}
+
+/// 131,073 digits in pieces of 4,096 take 33 reads, and no read follows the one that finds the text too long.
+#[test]
+fn no_read_follows_the_limit(rt: HostRuntime) {
+    let digits = [b'0'; 131_073];
+    let rows: [(u64, Wanted<'static>); 2] = [
+        (32, (Status::ReadFault, b"", b"read fault\n")),
+        (33, (Status::TooLong, b"", b"too long\n")),
+    ];
+    for (call, wanted) in rows {
+        assert!(rt;
+            ends_for_digits(rt.alloc(), &digits, call, wanted),
+            "{call}"
+        );
+    }
+}
+
 /// Whether a run whose sink fails at a call ends by a write fault, with what was written before, and from the last call on
 /// writes the lines.
 fn ends_at_write(

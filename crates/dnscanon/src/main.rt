@@ -3,11 +3,10 @@
 
 use dns_canon::{Status, Words, run};
 use dns_wire::{ReadSource, WriteSink};
-use std::io::Write;
 use std::process::ExitCode;
 use std::{env, io};
 
-/// The code where the words of the command line can't be had, as where one is not UTF-8.
+/// The exit code if the words of the command line cannot be read, as when one is not UTF-8.
 const NO_WORDS: u8 = 14;
 
 /// The words of the command line, without the program's own name.
@@ -19,14 +18,10 @@ fn words_of(rt: &HostRuntime) -> io::Result<Words> {
     Ok(Words::new(words))
 }
 
-/// The code for an error with which the words could not be had. Want of memory is told as elsewhere, by a line that
-/// takes none; where that can't be written, the code stays.
-fn tell_no_words(rt: &HostRuntime, error: &io::Error) -> u8 {
+/// The code for an error with which the words could not be had.
+fn code_without_words(error: &io::Error) -> u8 {
     match error.kind() {
-        io::ErrorKind::OutOfMemory => {
-            let _told = rt.stderr().write_all(b"out of memory\n");
-            Status::Memory.code()
-        }
+        io::ErrorKind::OutOfMemory => Status::Memory.code(),
         _ => NO_WORDS,
     }
 }
@@ -34,7 +29,7 @@ fn tell_no_words(rt: &HostRuntime, error: &io::Error) -> u8 {
 fn main(rt: HostRuntime) -> ExitCode {
     let words = match words_of(&rt) {
         Ok(words) => words,
-        Err(error) => return ExitCode::from(tell_no_words(&rt, &error)),
+        Err(error) => return ExitCode::from(code_without_words(&error)),
     };
     let status = run(
         rt.alloc(),
