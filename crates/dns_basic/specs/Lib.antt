@@ -1,4 +1,4 @@
 -- What the contracts of data with names that may be compressed cite.
 pub mod Calls
-pub mod Sizes
+pub mod NamePairLemmas
 pub mod Types

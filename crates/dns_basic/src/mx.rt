@@ -9,12 +9,12 @@ ghost use Rattle.dns_wire.specs.Names.{wire};
 ghost use Rattle.dns_wire.specs.Reading.{Gives, all_of, all_at};
 ghost use Rattle.dns_record.specs.Canonical.{ranked_cmp};
 ghost use Rattle.dns_record.specs.Fields.{FieldOf, named_by, canonical_octets};
-ghost use Rattle.dns_record.specs.InMessage.{fields_press, fields_fit, fields_tell};
+ghost use Rattle.dns_record.specs.InMessage.{fields_write, fields_fit, fields_layout};
 ghost use Rattle.dns_record.specs.Kinds.{fields_of, fields_in};
-ghost use Rattle.dns_record.specs.Kinds.Kind.{OneNumber, Pointed};
-ghost use Rattle.dns_record.specs.Left.{fields_leave, fields_end};
-ghost use Rattle.dns_record.specs.Rows.{row};
-ghost use Rattle.dns_record.specs.Told.{told_fields};
+ghost use Rattle.dns_record.specs.Kinds.Kind.{OneNumber, CompressibleName};
+ghost use Rattle.dns_record.specs.DataLemmas.{fields_leave, fields_end};
+ghost use Rattle.dns_record.specs.Formats.{rdata_format};
+ghost use Rattle.dns_record.proofs.FieldLayoutLemmas.{fields_match};
 ghost use Rattle.dns_record.proofs.Sizes.{canonical_long};
 ghost use Rattle.dns_basic.specs.Types.{mx_fields};
 
@@ -41,7 +41,7 @@ impl<N> Mx<N> {
     pub fn map_name<R, F: FnOnce(N) -> R>(self, f: F) -> Mx<R>
         requires { F.pre f self.exchange }
         ensures name { F.post f self.exchange result.exchange }
-        ensures kept { (result.preference ≡ self.preference) }
+        ensures unchanged { (result.preference ≡ self.preference) }
     {
         Mx {
             preference: self.preference,
@@ -53,7 +53,7 @@ impl<N> Mx<N> {
     pub fn map_name_by_ref<'r, R, F: FnOnce(&'r N) -> R>(&'r self, f: F) -> Mx<R>
         requires { FnOnceTakesAt F.FnOnce f self.now.exchange }
         ensures name { FnOnceReturnsAt F.FnOnce f self.now.exchange result.exchange }
-        ensures kept { (result.preference ≡ self.now.preference) }
+        ensures unchanged { (result.preference ≡ self.now.preference) }
     {
         Mx {
             preference: self.preference,
@@ -67,15 +67,15 @@ impl<'a, N: ParseName<'a>> ReadValue<'a> for Mx<N> {
 
     ghost seen = { λ v. map (named_by N.seen) (mx_fields v) };
 
-    ghost reads = { fields_of N.reads (row 15) };
+    ghost reads = { fields_of N.reads (rdata_format 15) };
 
-    ghost reads_at = { fields_in N.reads_at (row 15) };
+    ghost reads_at = { fields_in N.reads_at (rdata_format 15) };
 
-    ghost leaves_rest = { fields_leave N.reads N.leaves_rest (row 15) };
+    ghost leaves_rest = { fields_leave N.reads N.leaves_rest (rdata_format 15) };
 
-    ghost ends_within = { fields_end N.reads_at N.ends_within (OneNumber w16) (Pointed ∷ []) };
+    ghost ends_within = { fields_end N.reads_at N.ends_within (OneNumber w16) (CompressibleName ∷ []) };
 
-    fn read_front(bytes: &'a [u8]) -> Result<(Mx<N>, &'a [u8]), ParseError> {
+    fn read_prefix(bytes: &'a [u8]) -> Result<(Mx<N>, &'a [u8]), ParseError> {
         let (preference, rest) = U16::split_bytes(bytes)?;
         let (exchange, rest) = N::split_bytes(rest)?;
         let value = Mx {
@@ -122,13 +122,13 @@ impl<N: BuildBytes> BuildBytes for Mx<N> {
 
 /// The name as its type writes it in a message, all else whole.
 impl<N: BuildInMessage> BuildInMessage for Mx<N> {
-    ghost presses = { λ v. fields_press N.presses (mx_fields v) };
+    ghost writes = { λ v. fields_write N.writes (mx_fields v) };
 
-    ghost fits_in = { λ v. fields_fit N.fits_in N.presses (mx_fields v) };
+    ghost fits_in = { λ v. fields_fit N.fits_in N.writes (mx_fields v) };
 
-    ghost pieces = { λ v. fields_tell N.pieces (mx_fields v) };
+    ghost layout = { λ v. fields_layout N.layout (mx_fields v) };
 
-    ghost told = { λ v. told_fields N.presses N.pieces N.told (mx_fields v) };
+    ghost layout_matches = { λ v. fields_match N.writes N.layout N.layout_matches (mx_fields v) };
 
     fn build_in_message(
         &self,
@@ -140,7 +140,7 @@ impl<N: BuildInMessage> BuildInMessage for Mx<N> {
     }
 }
 
-/// The fields in order, the name in small letters.
+/// The fields in order, the name in lowercase.
 impl<N: CanonicalName> CanonicalRecordData for Mx<N> {
     ghost canonical = { λ v. canonical_octets 15 (map (named_by N.name) (mx_fields v)) };
 

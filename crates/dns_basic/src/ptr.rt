@@ -8,12 +8,12 @@ ghost use Rattle.dns_wire.specs.Names.{wire};
 ghost use Rattle.dns_wire.specs.Reading.{Gives, all_of, all_at};
 ghost use Rattle.dns_record.specs.Canonical.{ranked_cmp};
 ghost use Rattle.dns_record.specs.Fields.{FieldOf, named_by, canonical_octets};
-ghost use Rattle.dns_record.specs.InMessage.{fields_press, fields_fit, fields_tell};
+ghost use Rattle.dns_record.specs.InMessage.{fields_write, fields_fit, fields_layout};
 ghost use Rattle.dns_record.specs.Kinds.{fields_of, fields_in};
-ghost use Rattle.dns_record.specs.Kinds.Kind.{Pointed};
-ghost use Rattle.dns_record.specs.Left.{fields_leave, fields_end};
-ghost use Rattle.dns_record.specs.Rows.{row};
-ghost use Rattle.dns_record.specs.Told.{told_fields};
+ghost use Rattle.dns_record.specs.Kinds.Kind.{CompressibleName};
+ghost use Rattle.dns_record.specs.DataLemmas.{fields_leave, fields_end};
+ghost use Rattle.dns_record.specs.Formats.{rdata_format};
+ghost use Rattle.dns_record.proofs.FieldLayoutLemmas.{fields_match};
 ghost use Rattle.dns_record.proofs.Sizes.{canonical_long};
 ghost use Rattle.dns_basic.specs.Types.{ptr_fields};
 
@@ -57,15 +57,15 @@ impl<'a, N: ParseName<'a>> ReadValue<'a> for Ptr<N> {
 
     ghost seen = { λ v. map (named_by N.seen) (ptr_fields v) };
 
-    ghost reads = { fields_of N.reads (row 12) };
+    ghost reads = { fields_of N.reads (rdata_format 12) };
 
-    ghost reads_at = { fields_in N.reads_at (row 12) };
+    ghost reads_at = { fields_in N.reads_at (rdata_format 12) };
 
-    ghost leaves_rest = { fields_leave N.reads N.leaves_rest (row 12) };
+    ghost leaves_rest = { fields_leave N.reads N.leaves_rest (rdata_format 12) };
 
-    ghost ends_within = { fields_end N.reads_at N.ends_within Pointed [] };
+    ghost ends_within = { fields_end N.reads_at N.ends_within CompressibleName [] };
 
-    fn read_front(bytes: &'a [u8]) -> Result<(Ptr<N>, &'a [u8]), ParseError> {
+    fn read_prefix(bytes: &'a [u8]) -> Result<(Ptr<N>, &'a [u8]), ParseError> {
         let (name, rest) = N::split_bytes(bytes)?;
         let value = Ptr { name };
         Ok((value, rest))
@@ -104,13 +104,13 @@ impl<N: BuildBytes> BuildBytes for Ptr<N> {
 
 /// The name as its type writes it in a message.
 impl<N: BuildInMessage> BuildInMessage for Ptr<N> {
-    ghost presses = { λ v. fields_press N.presses (ptr_fields v) };
+    ghost writes = { λ v. fields_write N.writes (ptr_fields v) };
 
-    ghost fits_in = { λ v. fields_fit N.fits_in N.presses (ptr_fields v) };
+    ghost fits_in = { λ v. fields_fit N.fits_in N.writes (ptr_fields v) };
 
-    ghost pieces = { λ v. fields_tell N.pieces (ptr_fields v) };
+    ghost layout = { λ v. fields_layout N.layout (ptr_fields v) };
 
-    ghost told = { λ v. told_fields N.presses N.pieces N.told (ptr_fields v) };
+    ghost layout_matches = { λ v. fields_match N.writes N.layout N.layout_matches (ptr_fields v) };
 
     fn build_in_message(
         &self,
@@ -122,7 +122,7 @@ impl<N: BuildInMessage> BuildInMessage for Ptr<N> {
     }
 }
 
-/// The fields in order, the name in small letters.
+/// The fields in order, the name in lowercase.
 impl<N: CanonicalName> CanonicalRecordData for Ptr<N> {
     ghost canonical = { λ v. canonical_octets 12 (map (named_by N.name) (ptr_fields v)) };
 

@@ -7,16 +7,16 @@ ghost use Rattle.dns_wire.specs.Reading.{Gives, all_of, all_at};
 ghost use Rattle.dns_wire.specs.Names.{wire};
 ghost use Rattle.dns_record.specs.Canonical.{ranked_cmp};
 ghost use Rattle.dns_record.specs.Fields.{FieldOf, named_by, canonical_octets};
-ghost use Rattle.dns_record.specs.InMessage.{fields_press, fields_fit, fields_tell};
+ghost use Rattle.dns_record.specs.InMessage.{fields_write, fields_fit, fields_layout};
 ghost use Rattle.dns_record.specs.Kinds.{fields_of, fields_in};
-ghost use Rattle.dns_record.specs.Kinds.Kind.{Pointed};
-ghost use Rattle.dns_record.specs.Left.{fields_leave, fields_end};
-ghost use Rattle.dns_record.specs.Rows.{row};
-ghost use Rattle.dns_record.specs.Told.{told_fields};
+ghost use Rattle.dns_record.specs.Kinds.Kind.{CompressibleName};
+ghost use Rattle.dns_record.specs.DataLemmas.{fields_leave, fields_end};
+ghost use Rattle.dns_record.specs.Formats.{rdata_format};
+ghost use Rattle.dns_record.proofs.FieldLayoutLemmas.{fields_match};
 ghost use Rattle.dns_record.proofs.Sizes.{canonical_long};
 ghost use Rattle.dns_basic.specs.Calls.{TakesNextAt};
 ghost use Rattle.dns_basic.specs.Types.{rp_fields};
-ghost use Rattle.dns_basic.specs.Sizes.{both_names};
+ghost use Rattle.dns_basic.specs.NamePairLemmas.{both_names};
 
 use dns_name::{CanonicalName, Lowercased};
 use dns_record::{CanonicalRecordData, DataOfType, RType};
@@ -64,15 +64,15 @@ impl<'a, N: ParseName<'a>> ReadValue<'a> for Rp<N> {
 
     ghost seen = { λ v. map (named_by N.seen) (rp_fields v) };
 
-    ghost reads = { fields_of N.reads (row 17) };
+    ghost reads = { fields_of N.reads (rdata_format 17) };
 
-    ghost reads_at = { fields_in N.reads_at (row 17) };
+    ghost reads_at = { fields_in N.reads_at (rdata_format 17) };
 
-    ghost leaves_rest = { fields_leave N.reads N.leaves_rest (row 17) };
+    ghost leaves_rest = { fields_leave N.reads N.leaves_rest (rdata_format 17) };
 
-    ghost ends_within = { fields_end N.reads_at N.ends_within Pointed (Pointed ∷ []) };
+    ghost ends_within = { fields_end N.reads_at N.ends_within CompressibleName (CompressibleName ∷ []) };
 
-    fn read_front(bytes: &'a [u8]) -> Result<(Rp<N>, &'a [u8]), ParseError> {
+    fn read_prefix(bytes: &'a [u8]) -> Result<(Rp<N>, &'a [u8]), ParseError> {
         let (mailbox, rest) = N::split_bytes(bytes)?;
         let (texts, rest) = N::split_bytes(rest)?;
         let value = Rp { mailbox, texts };
@@ -113,13 +113,13 @@ impl<N: BuildBytes> BuildBytes for Rp<N> {
 
 /// The names as their type writes them in a message, all else whole.
 impl<N: BuildInMessage> BuildInMessage for Rp<N> {
-    ghost presses = { λ v. fields_press N.presses (rp_fields v) };
+    ghost writes = { λ v. fields_write N.writes (rp_fields v) };
 
-    ghost fits_in = { λ v. fields_fit N.fits_in N.presses (rp_fields v) };
+    ghost fits_in = { λ v. fields_fit N.fits_in N.writes (rp_fields v) };
 
-    ghost pieces = { λ v. fields_tell N.pieces (rp_fields v) };
+    ghost layout = { λ v. fields_layout N.layout (rp_fields v) };
 
-    ghost told = { λ v. told_fields N.presses N.pieces N.told (rp_fields v) };
+    ghost layout_matches = { λ v. fields_match N.writes N.layout N.layout_matches (rp_fields v) };
 
     fn build_in_message(
         &self,
@@ -131,7 +131,7 @@ impl<N: BuildInMessage> BuildInMessage for Rp<N> {
     }
 }
 
-/// The fields in order, the names in small letters.
+/// The fields in order, the names in lowercase.
 impl<N: CanonicalName> CanonicalRecordData for Rp<N> {
     ghost canonical = { λ v. canonical_octets 17 (map (named_by N.name) (rp_fields v)) };
 

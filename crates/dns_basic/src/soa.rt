@@ -8,16 +8,16 @@ ghost use Rattle.dns_wire.specs.Reading.{Gives, all_of, all_at};
 ghost use Rattle.dns_wire.specs.Names.{wire};
 ghost use Rattle.dns_record.specs.Canonical.{ranked_cmp};
 ghost use Rattle.dns_record.specs.Fields.{FieldOf, named_by, canonical_octets};
-ghost use Rattle.dns_record.specs.InMessage.{fields_press, fields_fit, fields_tell};
+ghost use Rattle.dns_record.specs.InMessage.{fields_write, fields_fit, fields_layout};
 ghost use Rattle.dns_record.specs.Kinds.{fields_of, fields_in};
-ghost use Rattle.dns_record.specs.Kinds.Kind.{OneNumber, Pointed};
-ghost use Rattle.dns_record.specs.Left.{fields_leave, fields_end};
-ghost use Rattle.dns_record.specs.Rows.{row};
-ghost use Rattle.dns_record.specs.Told.{told_fields};
+ghost use Rattle.dns_record.specs.Kinds.Kind.{OneNumber, CompressibleName};
+ghost use Rattle.dns_record.specs.DataLemmas.{fields_leave, fields_end};
+ghost use Rattle.dns_record.specs.Formats.{rdata_format};
+ghost use Rattle.dns_record.proofs.FieldLayoutLemmas.{fields_match};
 ghost use Rattle.dns_record.proofs.Sizes.{canonical_long};
 ghost use Rattle.dns_basic.specs.Calls.{TakesNextAt};
 ghost use Rattle.dns_basic.specs.Types.{soa_fields};
-ghost use Rattle.dns_basic.specs.Sizes.{names_and_numbers};
+ghost use Rattle.dns_basic.specs.NamePairLemmas.{names_and_numbers};
 
 use dns_name::{CanonicalName, Lowercased};
 use dns_num::U32;
@@ -53,7 +53,7 @@ impl<N> Soa<N> {
         requires first { F.pre f self.mname }
         requires second { (r : R) (between : F) → F.step f self.mname r between → F.pre between self.rname }
         ensures names { (between : F) × (last : F) × F.step f self.mname result.mname between × F.step between self.rname result.rname last }
-        ensures kept { (result.serial ≡ self.serial) × (result.refresh ≡ self.refresh) × (result.retry ≡ self.retry) × (result.expire ≡ self.expire) × (result.minimum ≡ self.minimum) }
+        ensures unchanged { (result.serial ≡ self.serial) × (result.refresh ≡ self.refresh) × (result.retry ≡ self.retry) × (result.expire ≡ self.expire) × (result.minimum ≡ self.minimum) }
     {
         let mname = f(self.mname);
         let rname = f(self.rname);
@@ -73,7 +73,7 @@ impl<N> Soa<N> {
         requires first { TakesAt F.FnMut f self.now.mname }
         requires second { TakesNextAt F.FnMut f self.now.mname self.now.rname }
         ensures names { (between : F) × (last : F) × CalledAt F.FnMut f self.now.mname result.mname between × CalledAt F.FnMut between self.now.rname result.rname last }
-        ensures kept { (result.serial ≡ self.now.serial) × (result.refresh ≡ self.now.refresh) × (result.retry ≡ self.now.retry) × (result.expire ≡ self.now.expire) × (result.minimum ≡ self.now.minimum) }
+        ensures unchanged { (result.serial ≡ self.now.serial) × (result.refresh ≡ self.now.refresh) × (result.retry ≡ self.now.retry) × (result.expire ≡ self.now.expire) × (result.minimum ≡ self.now.minimum) }
     {
         let mname = f(&self.mname);
         let rname = f(&self.rname);
@@ -94,15 +94,15 @@ impl<'a, N: ParseName<'a>> ReadValue<'a> for Soa<N> {
 
     ghost seen = { λ v. map (named_by N.seen) (soa_fields v) };
 
-    ghost reads = { fields_of N.reads (row 6) };
+    ghost reads = { fields_of N.reads (rdata_format 6) };
 
-    ghost reads_at = { fields_in N.reads_at (row 6) };
+    ghost reads_at = { fields_in N.reads_at (rdata_format 6) };
 
-    ghost leaves_rest = { fields_leave N.reads N.leaves_rest (row 6) };
+    ghost leaves_rest = { fields_leave N.reads N.leaves_rest (rdata_format 6) };
 
-    ghost ends_within = { fields_end N.reads_at N.ends_within Pointed (Pointed ∷ OneNumber w32 ∷ OneNumber w32 ∷ OneNumber w32 ∷ OneNumber w32 ∷ OneNumber w32 ∷ []) };
+    ghost ends_within = { fields_end N.reads_at N.ends_within CompressibleName (CompressibleName ∷ OneNumber w32 ∷ OneNumber w32 ∷ OneNumber w32 ∷ OneNumber w32 ∷ OneNumber w32 ∷ []) };
 
-    fn read_front(bytes: &'a [u8]) -> Result<(Soa<N>, &'a [u8]), ParseError> {
+    fn read_prefix(bytes: &'a [u8]) -> Result<(Soa<N>, &'a [u8]), ParseError> {
         let (mname, rest) = N::split_bytes(bytes)?;
         let (rname, rest) = N::split_bytes(rest)?;
         let (serial, rest) = Serial::split_bytes(rest)?;
@@ -171,13 +171,13 @@ impl<N: BuildBytes> BuildBytes for Soa<N> {
 
 /// The names as their type writes them in a message, all else whole.
 impl<N: BuildInMessage> BuildInMessage for Soa<N> {
-    ghost presses = { λ v. fields_press N.presses (soa_fields v) };
+    ghost writes = { λ v. fields_write N.writes (soa_fields v) };
 
-    ghost fits_in = { λ v. fields_fit N.fits_in N.presses (soa_fields v) };
+    ghost fits_in = { λ v. fields_fit N.fits_in N.writes (soa_fields v) };
 
-    ghost pieces = { λ v. fields_tell N.pieces (soa_fields v) };
+    ghost layout = { λ v. fields_layout N.layout (soa_fields v) };
 
-    ghost told = { λ v. told_fields N.presses N.pieces N.told (soa_fields v) };
+    ghost layout_matches = { λ v. fields_match N.writes N.layout N.layout_matches (soa_fields v) };
 
     fn build_in_message(
         &self,
@@ -191,7 +191,7 @@ impl<N: BuildInMessage> BuildInMessage for Soa<N> {
     }
 }
 
-/// The fields in order, the names in small letters.
+/// The fields in order, the names in lowercase.
 impl<N: CanonicalName> CanonicalRecordData for Soa<N> {
     ghost canonical = { λ v. canonical_octets 6 (map (named_by N.name) (soa_fields v)) };
 

@@ -1,4 +1,4 @@
-//! The types of this crate by the one table: what is read and written for the number of each is what its row says.
+//! The types of this crate by the one table: what is read and written for the number of each is what its RDATA format says.
 
 ghost use Rattle.std.specs.Prelude.{◌≡◌, ℕ, List, Some, map};
 ghost use Rattle.dns_wire.specs.Names.{plain_name};
@@ -17,7 +17,7 @@ use dns_name::{CanonicalName, ReadMessageName, ReadName};
 use dns_record::{CanonicalRecordData, ParseRecordDataBytes};
 use dns_wire::ParseName;
 
-/// Of all the octets, each type reads the fields of its number's row, and for any other number nothing (RFC 1035
+/// Of all the octets, each type reads the fields of its number's RDATA format, and for any other number nothing (RFC 1035
 /// section 3.3, RFC 1183 section 2.2). Names are read as their type reads them.
 pub fn types_are_read_by_number<'a, N: ParseName<'a>>()
     ensures ns { (rtype : ℕ) (bytes : List ℕ) → ⟦<Ns<N> as ParseRecordDataBytes<'a>>⟧.reads_as rtype bytes ≡ of_type 2 rtype (data_as N.reads 2 bytes) }

@@ -2,25 +2,25 @@
 use Rattle.std.proofs.Common.{◌≡◌, ℕ, ◌≤◌, false, List, [], ◌∷◌, ◌++◌, length, filter, Option, Some, None, Result, Ok, Err, refl, sym, ap, ◌∙◌, subst}
 use Rattle.std.proofs.lemmas.List.Elements.{filter-append}
 use Rattle.dns_wire.specs.declared.error.ParseError.{ParseError}
-use Rattle.dns_message.specs.Canonical.{is_kept}
-use Rattle.dns_message.specs.Messages.{Item, Rec, Reading, with_item, message_reading, records_among, Valid, BadAt}
+use Rattle.dns_message.specs.Canonical.{is_not_opt}
+use Rattle.dns_message.specs.Messages.{Item, RecordValue, Reading, with_item, message_reading, records_among, Valid, BadAt}
 use Rattle.dns_message.specs.Messages.Reading.{Stopped, Whole}
 use Rattle.dns_message.specs.Parsing.{parsed_message, given_count, next_start, has_ended, ahead, Parsed, GivesNext}
 use Rattle.dns_message.specs.Seen.{item_seen}
 use Rattle.dns_message.specs.declared.parser.MessageParser.{MessageParser}
 use Rattle.dns_message.specs.declared.parser.Place.{Place}
 use Rattle.dns_message.proofs.Parsed.{starts, gives, refuses, ends}
-use Rattle.dns_message.proofs.Slots.{among_append}
+use Rattle.dns_message.proofs.SlotLemmas.{among_append}
 
 -- what is kept of items
-abbrev pub kept_of : List Item → List Rec
-kept_of items = filter is_kept (records_among items)
+abbrev pub not_opt_of : List Item → List RecordValue
+not_opt_of items = filter is_not_opt (records_among items)
 
-kept_append : (items others : List Item) → kept_of (items ++ others) ≡ kept_of items ++ kept_of others
-kept_append items others =
-    ap (filter is_kept) (among_append items others) ∙ filter-append is_kept (records_among items) (records_among others)
+not_opt_append : (items others : List Item) → not_opt_of (items ++ others) ≡ not_opt_of items ++ not_opt_of others
+not_opt_append items others =
+    ap (filter is_not_opt) (among_append items others) ∙ filter-append is_not_opt (records_among items) (records_among others)
 
--- ---- items in front of a reading
+-- ---- items before a reading
 
 abbrev with_items : List Item → Reading → Reading
 with_items [] reading = reading
@@ -41,37 +41,37 @@ all_whole (item ∷ items) end = ap (with_item item) (all_whole items end)
 -- ---- the items so far
 
 -- these items were given, what is kept is of them, and the parser has the others ahead
-pub record ReadSoFar (m : List ℕ) (parser : MessageParser) (kept : List Rec) : Type 0 where
+pub record ReadSoFar (m : List ℕ) (parser : MessageParser) (not_opt : List RecordValue) : Type 0 where
   pub of_message : parsed_message parser ≡ m
   pub items : List Item
   pub read : with_items items (ahead parser) ≡ message_reading m
-  pub kept_is : kept ≡ kept_of items
+  pub not_opt_is : not_opt ≡ not_opt_of items
 
-pub read_none : (m : List ℕ) (parser : MessageParser) (kept : List Rec) → (12 ≤ length m) × (parsed_message parser ≡ m) → (given_count parser ≡ 0) × (next_start parser ≡ 0) × (has_ended parser ≡ false) → kept ≡ [] → ReadSoFar m parser kept
-read_none m parser kept whole start none = record {
+pub read_none : (m : List ℕ) (parser : MessageParser) (not_opt : List RecordValue) → (12 ≤ length m) × (parsed_message parser ≡ m) → (given_count parser ≡ 0) × (next_start parser ≡ 0) × (has_ended parser ≡ false) → not_opt ≡ [] → ReadSoFar m parser not_opt
+read_none m parser not_opt whole start none = record {
   of_message = whole.1;
   items = [];
   read = starts parser (subst (λ (l : List ℕ). 12 ≤ length l) (sym whole.1) whole.0) start.0 start.1 start.2 ∙ ap message_reading whole.1;
-  kept_is = none;
+  not_opt_is = none;
 }
 
-pub read_more : (m : List ℕ) (old new : MessageParser) (place : Place) (item : Parsed) (kept more : List Rec) → ReadSoFar m old kept → parsed_message new ≡ parsed_message old → GivesNext {E = ParseError} old (Some (place, Ok item)) new → more ≡ kept ++ kept_of (item_seen item ∷ []) → ReadSoFar m new more
-read_more m old new place item kept more so same given is = record {
+pub read_more : (m : List ℕ) (old new : MessageParser) (place : Place) (item : Parsed) (not_opt more : List RecordValue) → ReadSoFar m old not_opt → parsed_message new ≡ parsed_message old → GivesNext {E = ParseError} old (Some (place, Ok item)) new → more ≡ not_opt ++ not_opt_of (item_seen item ∷ []) → ReadSoFar m new more
+read_more m old new place item not_opt more so same given is = record {
   of_message = same ∙ so.of_message;
   items = so.items ++ item_seen item ∷ [];
   read = one_more so.items (item_seen item) (ahead new) ∙ ap (with_items so.items) (sym (gives ParseError old new place item same given)) ∙ so.read;
-  kept_is = is ∙ ap (λ (l : List Rec). l ++ kept_of (item_seen item ∷ [])) so.kept_is ∙ sym (kept_append so.items (item_seen item ∷ []));
+  not_opt_is = is ∙ ap (λ (l : List RecordValue). l ++ not_opt_of (item_seen item ∷ [])) so.not_opt_is ∙ sym (not_opt_append so.items (item_seen item ∷ []));
 }
 
-pub read_fails : (m : List ℕ) (old new : MessageParser) (place : Place) (error : ParseError) (kept : List Rec) → ReadSoFar m old kept → GivesNext old (Some (place, Err error)) new → BadAt m place.section place.index
-read_fails m old new place error kept so refused =
+pub read_fails : (m : List ℕ) (old new : MessageParser) (place : Place) (error : ParseError) (not_opt : List RecordValue) → ReadSoFar m old not_opt → GivesNext old (Some (place, Err error)) new → BadAt m place.section place.index
+read_fails m old new place error not_opt so refused =
     (next_start old, (so.items, sym so.read ∙ ap (with_items so.items) (refuses old new place error refused) ∙ all_stopped so.items place.section place.index (next_start old)))
 
-read_all : (m : List ℕ) (old new : MessageParser) (kept : List Rec) → ReadSoFar m old kept → GivesNext {E = ParseError} old None new → (rs : List Rec) × Valid m rs × (kept ≡ filter is_kept rs)
-read_all m old new kept so over =
-    (records_among so.items, (so.items, next_start old, sym so.read ∙ ap (with_items so.items) (ends ParseError old new over) ∙ all_whole so.items (next_start old), refl), so.kept_is)
+read_all : (m : List ℕ) (old new : MessageParser) (not_opt : List RecordValue) → ReadSoFar m old not_opt → GivesNext {E = ParseError} old None new → (rs : List RecordValue) × Valid m rs × (not_opt ≡ filter is_not_opt rs)
+read_all m old new not_opt so over =
+    (records_among so.items, (so.items, next_start old, sym so.read ∙ ap (with_items so.items) (ends ParseError old new over) ∙ all_whole so.items (next_start old), refl), so.not_opt_is)
 
 -- where no item is given, all were
-pub read_over : (m : List ℕ) (old new : MessageParser) (kept : List Rec) (given : Option (Place × Result Parsed ParseError)) → ReadSoFar m old kept → GivesNext old given new → ((x : Place × Result Parsed ParseError) → ¬ (given ≡ Some x)) → (rs : List Rec) × Valid m rs × (kept ≡ filter is_kept rs)
-read_over m old new kept None so over none = read_all m old new kept so over
-read_over m old new kept (Some x) so over none = absurd (none x refl)
+pub read_over : (m : List ℕ) (old new : MessageParser) (not_opt : List RecordValue) (given : Option (Place × Result Parsed ParseError)) → ReadSoFar m old not_opt → GivesNext old given new → ((x : Place × Result Parsed ParseError) → ¬ (given ≡ Some x)) → (rs : List RecordValue) × Valid m rs × (not_opt ≡ filter is_not_opt rs)
+read_over m old new not_opt None so over none = read_all m old new not_opt so over
+read_over m old new not_opt (Some x) so over none = absurd (none x refl)

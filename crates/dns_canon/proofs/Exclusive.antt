@@ -1,12 +1,12 @@
 -- A message calls for one answer.
 use Rattle.std.proofs.Common.{◌≡◌, ℕ, ◌⊎◌, inl, inr, List, refl}
-use Rattle.dns_message.specs.Messages.{Rec, Valid}
+use Rattle.dns_message.specs.Messages.{RecordValue, Valid}
 use Rattle.dns_message.proofs.OneReading.{valid_not_short, stops_one, stops_not_short, stops_not_valid}
 use Rattle.dns_canon.specs.Refusals.{RefusedAs, RefusedOrMemory}
 use Rattle.dns_canon.specs.declared.error.CanonError.{CanonError}
 use Rattle.dns_canon.specs.declared.error.CanonError.TheVariants as error
 
-pub refused_not_valid : (m : List ℕ) (rs : List Rec) (e : CanonError) → Valid m rs → RefusedAs m e → ⊥
+pub refused_not_valid : (m : List ℕ) (rs : List RecordValue) (e : CanonError) → Valid m rs → RefusedAs m e → ⊥
 refused_not_valid m rs error.Short valid h = valid_not_short m rs valid h
 refused_not_valid m rs (error.Item s i) valid (p, stops) = stops_not_valid m s i p rs stops valid
 refused_not_valid m rs error.Memory valid h = h
@@ -26,7 +26,7 @@ refused_one m error.Memory f h g = absurd h
 refused_one m e error.Memory h g = absurd g
 
 -- a refusal of a valid message
-pub memory_alone : (m : List ℕ) (rs : List Rec) (e : CanonError) → Valid m rs → RefusedOrMemory m e → e ≡ error.Memory
+pub memory_alone : (m : List ℕ) (rs : List RecordValue) (e : CanonError) → Valid m rs → RefusedOrMemory m e → e ≡ error.Memory
 memory_alone m rs e valid h = elim (refused_or_memory m e h) [ inl refused ↦ absurd (refused_not_valid m rs e valid refused) | inr memory ↦ memory ]
 
 -- a refusal where the message is to be refused

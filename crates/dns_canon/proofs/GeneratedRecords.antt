@@ -5,7 +5,7 @@ use Rattle.std.specs.Int.{w16, w32, to_be_bytes}
 use Rattle.std.specs.List.{AllByRecursion, list_any}
 use Rattle.std.proofs.lemmas.Bool.{le-ltb, ne_eqb}
 use Rattle.std.proofs.lemmas.List.{length-append, drop_all}
-use Rattle.dns_wire.specs.Names.{heads, wire}
+use Rattle.dns_wire.specs.Names.{labels_wire, wire}
 use Rattle.dns_wire.specs.Reading.{AreOctets, Gives, all_of}
 use Rattle.dns_wire.proofs.Walk.{wire_long}
 use Rattle.dns_label.specs.Text.{is_plain}
@@ -14,18 +14,18 @@ use Rattle.dns_record.specs.CharStrTexts.{charstr_of}
 use Rattle.dns_record.specs.Fields.{Field, fields_octets}
 use Rattle.dns_record.specs.Fields.FieldOf.{Raw}
 use Rattle.dns_record.specs.Kinds.{fields_of, no_name}
-use Rattle.dns_record.specs.Rows.{row}
-use Rattle.dns_record.specs.Texts.{is_texts, is_text_data, texts_within}
+use Rattle.dns_record.specs.Formats.{rdata_format}
+use Rattle.dns_record.specs.CharacterStrings.{is_character_strings, is_text_data, character_strings_within}
 use Rattle.dns_plain.specs.Types.{txt_fields}
 use Rattle.dns_plain.specs.declared.txt.Txt.{Txt}
 use Rattle.dns_message.specs.Canonical.{record_octets}
 use Rattle.dns_message.specs.WellFormed.{WellFormed}
 use Rattle.dns_message.proofs.Octets.{no_octets, one_more, octets_of_both, number_octets_2}
-use Rattle.dns_message.proofs.Suiting.{AllSuit}
+use Rattle.dns_message.proofs.KindLemmas.{AllSuit}
 use Rattle.dns_message.proofs.Whole.{data_back, parts_octets}
 use Rattle.dns_canon.specs.Generated.{numbered, generated_owner, generated_string, generated_type, generated_content, generated_record}
-use Rattle.dns_canon.proofs.Digits.{IsPlain, plain_no_backslash, numbered_plain, numbered_long, plain_octets, h_plain, z_plain, ns_plain, mx_plain, t_plain, example_plain}
-use Rattle.dns_canon.proofs.PlainNames.{ArePlain, heads_size, plain_name_is, name_octets}
+use Rattle.dns_canon.proofs.DecimalLemmas.{IsPlain, plain_no_backslash, numbered_plain, numbered_long, plain_octets, h_plain, z_plain, ns_plain, mx_plain, t_plain, example_plain}
+use Rattle.dns_canon.proofs.PlainNames.{ArePlain, labels_wire_size, plain_name_is, name_octets}
 
 -- ---- names
 
@@ -40,7 +40,7 @@ owner_plain i =
       ),
     )
 
-pub owner_short : (i : ℕ) → length (heads (generated_owner i)) ≤ 22
+pub owner_short : (i : ℕ) → length (labels_wire (generated_owner i)) ≤ 22
 owner_short i =
     let example = codes "Example" ∷ [] in
     let z = numbered (codes "z") (i % 7) in
@@ -48,8 +48,8 @@ owner_short i =
       arith,
       numbered_long (codes "h") (i % 97) (omega arith),
       numbered_long (codes "z") (i % 7) (omega arith),
-      heads_size (numbered (codes "h") (i % 97)) (z ∷ example),
-      heads_size z example,
+      labels_wire_size (numbered (codes "h") (i % 97)) (z ∷ example),
+      labels_wire_size z example,
     )
 
 -- ---- the hosts in data
@@ -59,26 +59,26 @@ host_plain word zone n small plain short zoned seven =
     let long = numbered_long word n small in
     ((numbered_plain word n small plain, (long.0, omega (arith, long.1, short))), ((zoned, (omega (arith, seven), omega (arith, seven))), tt))
 
-host_short : (word zone : List ℕ) (n : ℕ) → n < 65536 → length word ≤ 2 → length zone ≡ 7 → length (heads (numbered word n ∷ zone ∷ [])) ≤ 16
+host_short : (word zone : List ℕ) (n : ℕ) → n < 65536 → length word ≤ 2 → length zone ≡ 7 → length (labels_wire (numbered word n ∷ zone ∷ [])) ≤ 16
 host_short word zone n small short seven =
-    omega (arith, short, seven, (numbered_long word n small).1, heads_size (numbered word n) (zone ∷ []), heads_size zone [])
+    omega (arith, short, seven, (numbered_long word n small).1, labels_wire_size (numbered word n) (zone ∷ []), labels_wire_size zone [])
 
 pub ns_plain_name : (i : ℕ) → ArePlain (numbered (codes "ns") (i % 5) ∷ codes "EXAMPLE" ∷ [])
 ns_plain_name i = host_plain (codes "ns") (codes "EXAMPLE") (i % 5) (omega arith) ns_plain (omega arith) example_plain.2 refl
 
-pub ns_short : (i : ℕ) → length (heads (numbered (codes "ns") (i % 5) ∷ codes "EXAMPLE" ∷ [])) ≤ 16
+pub ns_short : (i : ℕ) → length (labels_wire (numbered (codes "ns") (i % 5) ∷ codes "EXAMPLE" ∷ [])) ≤ 16
 ns_short i = host_short (codes "ns") (codes "EXAMPLE") (i % 5) (omega arith) (omega arith) refl
 
 pub mx_plain_name : (i : ℕ) → ArePlain (numbered (codes "mx") (i % 3) ∷ codes "example" ∷ [])
 mx_plain_name i = host_plain (codes "mx") (codes "example") (i % 3) (omega arith) mx_plain (omega arith) example_plain.0 refl
 
-pub mx_short : (i : ℕ) → length (heads (numbered (codes "mx") (i % 3) ∷ codes "example" ∷ [])) ≤ 16
+pub mx_short : (i : ℕ) → length (labels_wire (numbered (codes "mx") (i % 3) ∷ codes "example" ∷ [])) ≤ 16
 mx_short i = host_short (codes "mx") (codes "example") (i % 3) (omega arith) (omega arith) refl
 
 -- ---- the strings in data
 
 pub one_string : (text : List ℕ) → length text ≤ 255 → is_text_data (charstr_wire text) ≡ true
-unfolding is_text_data is_texts texts_within
+unfolding is_text_data is_character_strings character_strings_within
 one_string text short =
     let few : ltb 65535 (length (charstr_wire text)) ≡ false = le-ltb _ _ (omega (arith, short)) in
     let fits : ltb (length text) (length text) ≡ false = le-ltb _ _ (omega arith) in
@@ -88,7 +88,7 @@ one_string text short =
 
 -- the data suit their type, and are a few octets
 record Good (rtype : ℕ) (content : List Field) : Type 0 where
-  suits : AllSuit (row rtype) content
+  suits : AllSuit (rdata_format rtype) content
   octets : AreOctets (fields_octets content)
   few : length (fields_octets content) ≤ 19
 
@@ -167,9 +167,9 @@ string_read i small =
 -- ---- the string as data
 
 pub strings_read : {E : Type 0} (string octets : List ℕ) (r : Result Txt E) → octets ≡ charstr_wire string → length octets ≤ 256
-    → Gives (λ v. txt_fields v.slice.now) r (all_of (fields_of no_name (row 16) octets)) → IsOk r
+    → Gives (λ v. txt_fields v.slice.now) r (all_of (fields_of no_name (rdata_format 16) octets)) → IsOk r
 strings_read string octets (Ok v) is short gives = refl
 strings_read string octets (Err e) is short gives =
     let good : is_text_data octets ≡ true = ap is_text_data is ∙ one_string string (omega (arith, short, ap length is)) in
-    let none : all_of (fields_of no_name (row 16) octets) ≡ Some (Raw octets ∷ []) = rw good refl in
+    let none : all_of (fields_of no_name (rdata_format 16) octets) ≡ Some (Raw octets ∷ []) = rw good refl in
     let never = sym gives ∙ none in absurd cc

@@ -1,11 +1,11 @@
--- Lines that are held one behind another.
+-- Lines that are held one after another.
 use Rattle.std.proofs.Common.{◌≡◌, Bool, Some, None, IfSome, subst, take-append-drop, take_all, ℕ, ◌+◌, ◌*◌, ◌<◌, ◌≤◌, List, [], ◌∷◌, ◌++◌, length, map, take, drop, Result, Ok, Err, refl, sym, ap, ◌∙◌, arith, get_or, flat_map, append_assoc, append-nil}
 use Rattle.std.specs.Prelude.{⊤, IsOk, IsSome, slice_set}
 use Rattle.std.specs.declared.option.Option.{Option}
 use Rattle.std.proofs.KnownBytes.{Appends-trans}
-use Rattle.dns_wire.specs.Outside.{WritesFront, Puts}
-use Rattle.dns_wire.specs.declared.outside.Failed.{Failed}
-use Rattle.dns_text.proofs.Transfers.{front_behind, front_longer, puts_behind}
+use Rattle.dns_wire.specs.Outside.{WritesPrefix, Puts}
+use Rattle.dns_wire.specs.declared.io.traits.Failed.{Failed}
+use Rattle.dns_text.proofs.Transfers.{prefix_after, prefix_longer, puts_after}
 use Rattle.std.specs.Io.KnownBytes.{Appends}
 use Rattle.std.proofs.lemmas.Grind.{take-set_at, flat_map-append}
 use Rattle.std.proofs.lemmas.List.{length-append, length-take-le, map-append, take_at, take_more}
@@ -15,15 +15,15 @@ use Rattle.dns_wire.specs.Building.{Builds}
 use Rattle.dns_wire.specs.Hexadecimal.{shown, line, lines}
 use Rattle.dns_canon.proofs.Encoding.{encoded}
 
--- ---- octets in front of others
+-- ---- octets before others
 
-pub written_front : {E : Type 0} (octets old new : List ℕ) (result : Result ℕ E) → length octets ≤ length old → Builds ⊤ octets old 0 new result → IsOk result × (take (length octets) new ≡ octets)
-written_front octets old new (Ok end) room built =
+pub written_prefix : {E : Type 0} (octets old new : List ℕ) (result : Result ℕ E) → length octets ≤ length old → Builds ⊤ octets old 0 new result → IsOk result × (take (length octets) new ≡ octets)
+written_prefix octets old new (Ok end) room built =
     let stands = built.ok.1 in
     (refl, ap (take (length octets)) stands.new_is ∙ take_at octets (drop end old) (length octets) refl)
-written_front octets old new (Err e) room built = absurd (omega (arith, built.err.2 tt, room))
+written_prefix octets old new (Err e) room built = absurd (omega (arith, built.err.2 tt, room))
 
--- ---- a line behind others
+-- ---- a line after others
 
 shown_long : (octets : List ℕ) → length (flat_map shown octets) ≡ 2 * length octets
 shown_long [] = refl
@@ -32,7 +32,7 @@ shown_long (b ∷ rest) = ap length (flat_map-cons shown b rest) ∙ omega (arit
 pub line_long : (octets : List ℕ) → length (line octets) ≡ 2 * length octets + 1
 line_long octets = length-append (flat_map shown octets) (10 ∷ []) ∙ omega (arith, shown_long octets)
 
--- digits that are written over as many, and LF behind them
+-- digits that are written over as many, and LF after them
 pub line_written : (text octets digits back : List ℕ) (start end : ℕ) → start ≤ length text → end ≡ start + 2 * length octets → digits ≡ encode_lower octets → 0 < length back
     → take (start + 2 * length octets + 1) (slice_set (take start text ++ (digits ++ back)) end 10) ≡ take start text ++ line octets
 line_written text octets digits back start end within end-is digits-are room =
@@ -44,7 +44,7 @@ line_written text octets digits back start end within end-is digits-are room =
     ∙ ap (λ (l : List ℕ). l ++ 10 ∷ []) (take_at (take start text ++ digits) back end long)
     ∙ append_assoc (take start text) digits (10 ∷ []) ∙ ap (λ (l : List ℕ). take start text ++ (l ++ 10 ∷ [])) shown-is
 
--- ---- lines one behind another
+-- ---- lines one after another
 
 pub lines_more : {X : Type 0} (vs : List X) (f : X → List ℕ) (i : ℕ) (v : X) → i < length vs → v ≡ get_or vs i v → lines (map f (take (i + 1) vs)) ≡ lines (map f (take i vs)) ++ line (f v)
 lines_more {X = X} vs f i v within is =
@@ -67,19 +67,19 @@ module _ {X : Type 0} (vs : List X) (f : X → List ℕ) (a : Option (List ℕ))
       holds_more c (sent ++ held) [] next i v within v-is (Appends-trans a b c sent held h written) (append-nil (sent ++ held) ∙ so) next-is
 
   -- a write of what is held that fails
-  pub lines_front : (b c : Option (List ℕ)) (sent held : List ℕ) (i : ℕ) → Appends a b sent → sent ++ held ≡ lines (map f (take i vs)) → WritesFront b c held → WritesFront a c (lines (map f vs))
-  lines_front b c sent held i h so failed =
+  pub lines_prefix : (b c : Option (List ℕ)) (sent held : List ℕ) (i : ℕ) → Appends a b sent → sent ++ held ≡ lines (map f (take i vs)) → WritesPrefix b c held → WritesPrefix a c (lines (map f vs))
+  lines_prefix b c sent held i h so failed =
       let whole : (sent ++ held) ++ lines (map f (drop i vs)) ≡ lines (map f vs) =
       ap (λ (l : List ℕ). l ++ lines (map f (drop i vs))) so ∙ sym (flat_map-append line (map f (take i vs)) (map f (drop i vs))) ∙ ap lines (sym (map-append f (take i vs) (drop i vs))) ∙ ap (λ l. lines (map f l)) (take-append-drop i vs) in
-      subst (WritesFront a c) whole (front_longer a c (sent ++ held) (lines (map f (drop i vs))) (front_behind a b c sent held h failed))
+      subst (WritesPrefix a c) whole (prefix_longer a c (sent ++ held) (lines (map f (drop i vs))) (prefix_after a b c sent held h failed))
 
   -- the last write
   pub lines_put : (b c : Option (List ℕ)) (sent held : List ℕ) (i : ℕ) (r : Result (Unit {0}) Failed) → length vs ≤ i → Appends a b sent → sent ++ held ≡ lines (map f (take i vs)) → Puts b c held r → Puts a c (lines (map f vs)) r
   lines_put b c sent held i r over h so put =
-      subst (λ (l : List ℕ). Puts a c l r) (so ∙ ap (λ l. lines (map f l)) (take_all i vs over)) (puts_behind a b c sent held r h put)
+      subst (λ (l : List ℕ). Puts a c l r) (so ∙ ap (λ l. lines (map f l)) (take_all i vs over)) (puts_after a b c sent held r h put)
 
--- a flag that is told is told still
-pub still_told : (a b c : Option Bool) → IfSome a (λ _. IsSome b) → IfSome b (λ _. IsSome c) → IfSome a (λ _. IsSome c)
-still_told None b c p q = tt
-still_told (Some x) None c p q = cc
-still_told (Some x) (Some y) c p q = q
+-- a flag that is known is known still
+pub still_known : (a b c : Option Bool) → IfSome a (λ _. IsSome b) → IfSome b (λ _. IsSome c) → IfSome a (λ _. IsSome c)
+still_known None b c p q = tt
+still_known (Some x) None c p q = cc
+still_known (Some x) (Some y) c p q = q

@@ -1,6 +1,6 @@
 -- The crate's own lemmas.
 pub mod Chained
-pub mod Digits
+pub mod DecimalLemmas
 pub mod Encoding
 pub mod Exclusive
 pub mod GeneratedRecords
@@ -11,8 +11,8 @@ pub mod Parting
 pub mod PlainNames
 pub mod PrintedTexts
 pub mod PushedAnswers
-pub mod Sameness
-pub mod Sorting
-pub mod Verdicts
+pub mod ReportedSameness
+pub mod SortedReferences
+pub mod ExpectedStatuses
 pub mod WordLemmas
 pub mod Written

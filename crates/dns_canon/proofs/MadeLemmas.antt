@@ -6,19 +6,19 @@ use Rattle.std.specs.List.{list_any, range_with_len, dedup, dedup_from}
 use Rattle.std.proofs.lemmas.List.{length-append, map-append}
 use Rattle.std.proofs.lemmas.List.Recursion.{is_sum_by}
 use Rattle.std.proofs.lemmas.List.Sorted.{IsPermutation-map}
-use Rattle.dns_wire.specs.Compression.{FitsIn, Pressing}
+use Rattle.dns_wire.specs.Compression.{FitsIn, CompressedWrite}
 use Rattle.dns_wire.specs.Names.{wire}
-use Rattle.dns_wire.specs.Pieces.{list_presses}
-use Rattle.dns_wire.specs.Told.{list_presses-one, list_presses-append}
+use Rattle.dns_wire.specs.Layout.{list_writes}
+use Rattle.dns_wire.specs.LayoutLemmas.{list_writes-one, list_writes-append}
 use Rattle.dns_record.specs.Fields.{fields_octets}
-use Rattle.dns_message.proofs.Lengths.{canon_long}
+use Rattle.dns_message.proofs.Lengths.{canonical_wire_long}
 use Rattle.dns_message.specs.Building.{Draft, drafted, count_in, has_later, pushed, HasRoom, PushAnswers}
 use Rattle.dns_message.specs.Built.{built}
-use Rattle.dns_message.specs.Canonical.{fold, canon, is_kept, record_octets}
-use Rattle.dns_message.specs.Messages.{Rec, Valid, counts_of, records_among}
-use Rattle.dns_message.specs.Messages.Item.{Told}
+use Rattle.dns_message.specs.Canonical.{lowercase_names, canonical_wire, is_not_opt, record_octets}
+use Rattle.dns_message.specs.Messages.{RecordValue, Valid, counts_of, records_among}
+use Rattle.dns_message.specs.Messages.Item.{RecordItem}
 use Rattle.dns_message.specs.Messages.Reading.{Whole}
-use Rattle.dns_message.specs.Order.{in_order, are_alike, output}
+use Rattle.dns_message.specs.Order.{in_order, are_alike, canonical_list}
 use Rattle.dns_message.specs.Pushes.Push.{Add}
 use Rattle.dns_message.specs.Sorted.{times}
 use Rattle.dns_message.specs.declared.build_error.MessageBuildError.{MessageBuildError}
@@ -26,20 +26,20 @@ use Rattle.dns_message.specs.declared.build_error.MessageBuildError.TheVariants.
 use Rattle.dns_message.proofs.Accepted.{push_fits}
 use Rattle.dns_message.proofs.OneReading.{valid_one}
 use Rattle.dns_message.proofs.Ordering.{in_order_moves}
-use Rattle.dns_message.proofs.Pushed.{counts_with, header_long, new_whole, records_told}
+use Rattle.dns_message.proofs.Pushed.{counts_with, header_long, new_whole, records_of_record}
 use Rattle.dns_message.proofs.Repushed.{pushed_record}
-use Rattle.dns_message.proofs.Sameness.{output_of_folds}
+use Rattle.dns_message.proofs.CanonicalListSameness.{canonical_list_of_lowercased}
 use Rattle.dns_message.proofs.Shorter.{record_no_longer}
-use Rattle.dns_message.proofs.Sorting.{sums_permuted}
+use Rattle.dns_message.proofs.SortedRecords.{sums_permuted}
 use Rattle.dns_canon.specs.Generated.{generated, generated_record, made, made_line}
 use Rattle.dns_canon.specs.Making.{HasMade}
 use Rattle.dns_canon.proofs.GeneratedRecords.{generated_well_formed, generated_short}
 
 -- ---- the list of records
 
--- what a record behind others leaves
-abbrev behind : List ℕ × List ℕ → Rec → List ℕ × List ℕ
-behind before r = (before.0 ++ (built r before.0 before.1).0, (built r before.0 before.1).1)
+-- what a record after others leaves
+abbrev trailing : List ℕ × List ℕ → RecordValue → List ℕ × List ℕ
+trailing before r = (before.0 ++ (built r before.0 before.1).0, (built r before.0 before.1).1)
 
 range_more : (first n : ℕ) → range_with_len first (suc n) ≡ range_with_len first n ++ (first + n) ∷ []
 range_more first zero = ap (λ (k : ℕ). k ∷ []) (sym (add-zero first))
@@ -52,23 +52,23 @@ generated_more n =
     ap (map generated_record) (range_more 0 n ∙ ap (λ (k : ℕ). range_with_len 0 n ++ k ∷ []) (zero-add n))
     ∙ map-append generated_record (range_with_len 0 n) (n ∷ [])
 
--- one more is built behind the others
-built_more : (n : ℕ) → list_presses built (generated (suc n)) [] [] ≡ behind (list_presses built (generated n) [] []) (generated_record n)
+-- one more is built after the others
+built_more : (n : ℕ) → list_writes built (generated (suc n)) [] [] ≡ trailing (list_writes built (generated n) [] []) (generated_record n)
 built_more n =
     let r = generated_record n in
-    let before = list_presses built (generated n) [] [] in
-    ap (λ (rs : List Rec). list_presses built rs [] []) (generated_more n)
-    ∙ list_presses-append built (generated n) (r ∷ []) [] []
-    ∙ ap (λ (one : List ℕ × List ℕ). (before.0 ++ one.0, one.1)) (list_presses-one built r before.0 before.1)
+    let before = list_writes built (generated n) [] [] in
+    ap (λ (rs : List RecordValue). list_writes built rs [] []) (generated_more n)
+    ∙ list_writes-append built (generated n) (r ∷ []) [] []
+    ∙ ap (λ (one : List ℕ × List ℕ). (before.0 ++ one.0, one.1)) (list_writes-one built r before.0 before.1)
 
 -- ---- room
 
--- so many records, one behind another, have no more octets
-built_short : (n : ℕ) → n ≤ 1000 → length (list_presses built (generated n) [] []).0 ≤ 65 * n
-unfolding list_presses
+-- that many records, one after another, have no more octets
+built_short : (n : ℕ) → n ≤ 1000 → length (list_writes built (generated n) [] []).0 ≤ 65 * n
+unfolding list_writes
 built_short zero few = omega arith
 built_short (suc n) few =
-    let before = list_presses built (generated n) [] [] in
+    let before = list_writes built (generated n) [] [] in
     let one = built (generated_record n) before.0 before.1 in
     omega (
       arith,
@@ -82,16 +82,16 @@ built_short (suc n) few =
 
 pub has_room : (n : ℕ) (draft : Draft) (fits : List ℕ → List ℕ → Type 0) → n < 1000 → HasMade n draft → fits draft.contents draft.places → HasRoom fits (built (generated_record n)) draft
 has_room n draft fits few made fit =
-    let contents : length (list_presses built (generated n) [] []).0 ≡ length draft.contents = ap (λ (r : List ℕ × List ℕ). length r.0) made.octets in
+    let contents : length (list_writes built (generated n) [] []).0 ≡ length draft.contents = ap (λ (r : List ℕ × List ℕ). length r.0) made.octets in
     (fit, omega (arith, few, made.size, contents, built_short n (omega (arith, few)), record_no_longer (generated_record n) draft.contents draft.places, generated_short n few))
 
 -- a push that finds room is accepted
-pub accepted : {A : Type 0} (n : ℕ) (draft : Draft) (fits : List ℕ → List ℕ → Type 0) (presses : Pressing) (result : Result A MessageBuildError) → n < 1000 → HasMade n draft → HasRoom fits presses draft
-    → PushAnswers 1 fits presses draft result → IsOk result
-accepted n draft fits presses (Ok done) few made room answers = refl
-accepted n draft fits presses (Err Misplaced) few made room answers = let w = sym made.last ∙ answers in absurd cc
-accepted n draft fits presses (Err TooMany) few made room answers = absurd (omega (arith, few, made.counted, answers.1))
-accepted n draft fits presses (Err Truncated) few made room answers = absurd (answers.2 room)
+pub accepted : {A : Type 0} (n : ℕ) (draft : Draft) (fits : List ℕ → List ℕ → Type 0) (writes : CompressedWrite) (result : Result A MessageBuildError) → n < 1000 → HasMade n draft → HasRoom fits writes draft
+    → PushAnswers 1 fits writes draft result → IsOk result
+accepted n draft fits writes (Ok done) few made room answers = refl
+accepted n draft fits writes (Err Misplaced) few made room answers = let w = sym made.last ∙ answers in absurd cc
+accepted n draft fits writes (Err TooMany) few made room answers = absurd (omega (arith, few, made.counted, answers.1))
+accepted n draft fits writes (Err Truncated) few made room answers = absurd (answers.2 room)
 
 -- ---- one record more
 
@@ -114,16 +114,16 @@ one_more_made n draft few made =
       last = ap (λ (counts : List ℕ). list_any (λ count. nat_lt 0 count) (drop 2 counts)) counts ∙ made.last;
       counted = ap (λ (counts : List ℕ). slice_index counts 1) counts;
       size = made.size;
-      octets = built_more n ∙ ap (λ (o : List ℕ × List ℕ). behind o r) made.octets;
+      octets = built_more n ∙ ap (λ (o : List ℕ × List ℕ). trailing o r) made.octets;
       known = push_fits draft.contents draft.places made.known (Add 1 r) (omega arith, omega arith, well);
-      items = made.items ++ Told read.0 ∷ [];
+      items = made.items ++ RecordItem read.0 ∷ [];
       read = read.2;
-      alike = ap (map fold) (records_told made.items read.0)
-          ∙ map-append fold (records_among made.items) (read.0 ∷ [])
-          ∙ ap (λ (rs : List Rec). rs ++ fold read.0 ∷ []) made.alike
-          ∙ ap (λ (last : Rec). map fold (generated n) ++ last ∷ []) read.1
-          ∙ sym (map-append fold (generated n) (r ∷ []))
-          ∙ ap (map fold) (sym (generated_more n));
+      alike = ap (map lowercase_names) (records_of_record made.items read.0)
+          ∙ map-append lowercase_names (records_among made.items) (read.0 ∷ [])
+          ∙ ap (λ (rs : List RecordValue). rs ++ lowercase_names read.0 ∷ []) made.alike
+          ∙ ap (λ (last : RecordValue). map lowercase_names (generated n) ++ last ∷ []) read.1
+          ∙ sym (map-append lowercase_names (generated n) (r ∷ []))
+          ∙ ap (map lowercase_names) (sym (generated_more n));
     }
 
 -- ---- a message without records
@@ -132,7 +132,7 @@ nothing_known : FitsIn [] []
 nothing_known = record { places_are = record { rising = λ k within. absurd (omega (arith, within)); few = omega arith; low = tt }; runs = tt }
 
 pub none_made : (draft : Draft) (id flags : ℕ) → draft.header ≡ to_be_bytes w16 id ++ to_be_bytes w16 flags ++ replicate 8 0 → draft.contents ≡ [] → draft.size ≡ 65535 → draft.places ≡ [] → HasMade 0 draft
-unfolding list_presses
+unfolding list_writes
 none_made draft id flags header contents size places = record {
   header = ap length header;
   last = ap (has_later 1) header;
@@ -147,61 +147,61 @@ none_made draft id flags header contents size places = record {
 
 -- ---- the whole message
 
--- it has the canonical list of the records, and their built octets behind the header
-pub all_made : (n : ℕ) (draft : Draft) (rs : List Rec) → HasMade n draft → Valid (drafted draft) rs → (output rs ≡ output (generated n)) × (length (drafted draft) ≡ 12 + length (made n))
+-- it has the canonical list of the records, and their built octets after the header
+pub all_made : (n : ℕ) (draft : Draft) (rs : List RecordValue) → HasMade n draft → Valid (drafted draft) rs → (canonical_list rs ≡ canonical_list (generated n)) × (length (drafted draft) ≡ 12 + length (made n))
 all_made n draft rs is valid =
     let one : rs ≡ records_among is.items = valid_one (drafted draft) rs (records_among is.items) valid (is.items, length draft.contents, is.read, refl) in
     let octets : made n ≡ draft.contents = ap (λ (o : List ℕ × List ℕ). o.0) is.octets in
-    (ap output one ∙ output_of_folds (records_among is.items) (generated n) is.alike, omega (arith, is.header, length-append draft.header draft.contents, ap length octets))
+    (ap canonical_list one ∙ canonical_list_of_lowercased (records_among is.items) (generated n) is.alike, omega (arith, is.header, length-append draft.header draft.contents, ap length octets))
 
-pub valid_made : (n : ℕ) (draft : Draft) → HasMade n draft → (rs : List Rec) × Valid (drafted draft) rs
+pub valid_made : (n : ℕ) (draft : Draft) → HasMade n draft → (rs : List RecordValue) × Valid (drafted draft) rs
 valid_made n draft is = (records_among is.items, (is.items, length draft.contents, is.read, refl))
 
 -- ---- the octets of the canonical list
 
-record_long : (r : Rec) → length (canon r) ≡ length (record_octets r)
+record_long : (r : RecordValue) → length (canonical_wire r) ≡ length (record_octets r)
 record_long r =
     let body = fields_octets r.content in
     let numbers = to_be_bytes w16 r.rtype ++ (to_be_bytes w16 r.class ++ to_be_bytes w32 r.ttl) in
-    omega (arith, canon_long r, length-append (wire r.owner) (numbers ++ (to_be_bytes w16 (length body) ++ body)))
+    omega (arith, canonical_wire_long r, length-append (wire r.owner) (numbers ++ (to_be_bytes w16 (length body) ++ body)))
 
-canon_short : (n first : ℕ) → first + n ≤ 1000 → times length (map canon (filter is_kept (map generated_record (range_with_len first n)))) ≤ 65 * n
-canon_short zero first few = omega arith
-canon_short (suc n) first few = by (is_kept (generated_record first)) (canon_short n (first + 1) (omega (arith, few))) where
-  later : List Rec
-  later = filter is_kept (map generated_record (range_with_len (first + 1) n))
+canonical_wire_short : (n first : ℕ) → first + n ≤ 1000 → times length (map canonical_wire (filter is_not_opt (map generated_record (range_with_len first n)))) ≤ 65 * n
+canonical_wire_short zero first few = omega arith
+canonical_wire_short (suc n) first few = by (is_not_opt (generated_record first)) (canonical_wire_short n (first + 1) (omega (arith, few))) where
+  later : List RecordValue
+  later = filter is_not_opt (map generated_record (range_with_len (first + 1) n))
 
-  by : (kept : Bool) → times length (map canon later) ≤ 65 * n → times length (map canon (cond kept (generated_record first ∷ later) later)) ≤ 65 * suc n
+  by : (not_opt : Bool) → times length (map canonical_wire later) ≤ 65 * n → times length (map canonical_wire (cond not_opt (generated_record first ∷ later) later)) ≤ 65 * suc n
   by true short = omega (arith, short, record_long (generated_record first), generated_short first (omega (arith, few)))
   by false short = omega (arith, short)
 
 -- where alike records are dropped there are no more octets
-octets_dropped : (E : Rec → Rec → Bool) (k : Rec) (rs : List Rec) → times length (map canon (dedup_from E k rs)) ≤ length (canon k) + times length (map canon rs)
+octets_dropped : (E : RecordValue → RecordValue → Bool) (k : RecordValue) (rs : List RecordValue) → times length (map canonical_wire (dedup_from E k rs)) ≤ length (canonical_wire k) + times length (map canonical_wire rs)
 octets_dropped E k [] = omega arith
 octets_dropped E k (r ∷ rs) = by (E r k) (octets_dropped E k rs) (octets_dropped E r rs) where
-  by : (b : Bool) → times length (map canon (dedup_from E k rs)) ≤ length (canon k) + times length (map canon rs) → times length (map canon (dedup_from E r rs)) ≤ length (canon r) + times length (map canon rs)
-      → times length (map canon (cond b (dedup_from E k rs) (k ∷ dedup_from E r rs))) ≤ length (canon k) + (length (canon r) + times length (map canon rs))
+  by : (b : Bool) → times length (map canonical_wire (dedup_from E k rs)) ≤ length (canonical_wire k) + times length (map canonical_wire rs) → times length (map canonical_wire (dedup_from E r rs)) ≤ length (canonical_wire r) + times length (map canonical_wire rs)
+      → times length (map canonical_wire (cond b (dedup_from E k rs) (k ∷ dedup_from E r rs))) ≤ length (canonical_wire k) + (length (canonical_wire r) + times length (map canonical_wire rs))
   by true one other = omega (arith, one)
   by false one other = omega (arith, other)
 
-dropped_short : (E : Rec → Rec → Bool) (rs : List Rec) → times length (map canon (dedup E rs)) ≤ times length (map canon rs)
+dropped_short : (E : RecordValue → RecordValue → Bool) (rs : List RecordValue) → times length (map canonical_wire (dedup E rs)) ≤ times length (map canonical_wire rs)
 dropped_short E [] = omega arith
 dropped_short E (r ∷ rs) = octets_dropped E r rs
 
-pub output_short : (n : ℕ) → n ≤ 1000 → sum_by length (output (generated n)) ≤ 65000
-output_short n few =
-    let kept = filter is_kept (generated n) in
+pub canonical_list_short : (n : ℕ) → n ≤ 1000 → sum_by length (canonical_list (generated n)) ≤ 65000
+canonical_list_short n few =
+    let not_opt = filter is_not_opt (generated n) in
     omega (
       arith,
       few,
-      canon_short n 0 (omega (arith, few)),
-      dropped_short are_alike (in_order kept),
-      sums_permuted (map canon kept) (map canon (in_order kept)) (IsPermutation-map canon kept (in_order kept) (in_order_moves kept)) length,
-      is_sum_by (times length) length refl (λ _ _. refl) (output (generated n)),
+      canonical_wire_short n 0 (omega (arith, few)),
+      dropped_short are_alike (in_order not_opt),
+      sums_permuted (map canonical_wire not_opt) (map canonical_wire (in_order not_opt)) (IsPermutation-map canonical_wire not_opt (in_order not_opt) (in_order_moves not_opt)) length,
+      is_sum_by (times length) length refl (λ _ _. refl) (canonical_list (generated n)),
     )
 
 -- ---- the line
 
-pub printed_so : (n records octets size : ℕ) → records ≡ length (output (generated n)) → octets ≡ sum_by length (output (generated n)) → size ≡ 12 + length (made n)
+pub printed_so : (n records octets size : ℕ) → records ≡ length (canonical_list (generated n)) → octets ≡ sum_by length (canonical_list (generated n)) → size ≡ 12 + length (made n)
     → codes "records " ++ (decimal records ++ (codes " octets " ++ (decimal octets ++ (codes " message " ++ (decimal size ++ 10 ∷ []))))) ≡ made_line n
 printed_so n records octets size r o s = λ k. codes "records " ++ (decimal (r k) ++ (codes " octets " ++ (decimal (o k) ++ (codes " message " ++ (decimal (s k) ++ 10 ∷ [])))))

@@ -1,40 +1,40 @@
--- The verdict on the text of two messages.
+-- The expected status on the text of two messages.
 use Rattle.std.proofs.Common.{◌≡◌, ◌≢◌, ℕ, ◌<◌, ◌≤◌, ◌⊎◌, inl, inr, false, true, ltb, List, [], ◌∷◌, length, Option, Some, None, refl, sym, ap, subst, ◌∙◌}
 use Rattle.std.specs.Prelude.{◌↔◌}
 use Rattle.std.proofs.lemmas.Bool.{cases_lt, le-ltb, lt-ltb}
 use Rattle.dns_wire.specs.Hexadecimal.{Spells, SpellsNothing, spelled, trim}
 use Rattle.dns_wire.specs.Steps.{◌>>=◌}
-use Rattle.dns_message.specs.Messages.{Rec, Valid, BadAt, message_reading}
+use Rattle.dns_message.specs.Messages.{RecordValue, Valid, BadAt, message_reading}
 use Rattle.dns_message.proofs.OneReading.{three_kinds}
 use Rattle.dns_message.proofs.Phrased.{short_reading}
 use Rattle.dns_canon.specs.Parts.{first_text, second_text}
 use Rattle.dns_canon.specs.Refusals.{RefusedOrMemory}
 use Rattle.dns_canon.specs.Statuses.{canon_status}
-use Rattle.dns_canon.specs.Verdict.{verdict, first_refusal, all_spelled, on_messages, SpellsBoth}
+use Rattle.dns_canon.specs.ExpectedStatus.{expected_status, first_refusal, all_spelled, on_messages, SpellsBoth}
 use Rattle.dns_canon.specs.declared.error.CanonError.{CanonError}
 use Rattle.dns_canon.specs.declared.error.CanonError.TheVariants as canon
 use Rattle.dns_canon.specs.declared.status.Status.{Status}
 use Rattle.dns_canon.specs.declared.status.Status.TheVariants.{Done, Short, Item, BadHex, TooLong, Usage, ReadFault, WriteFault, Memory}
 use Rattle.dns_canon.specs.declared.words.Command.TheVariants.{Same}
-use Rattle.dns_canon.proofs.Verdicts.{Refuses}
+use Rattle.dns_canon.proofs.ExpectedStatuses.{Refuses}
 
 -- what calls for a status
 abbrev pub CallsFor : List ℕ → Status → Type 0
-CallsFor t Done = (m n : List ℕ) × (rs ss : List Rec) × SpellsBoth t m n × Valid m rs × Valid n ss
+CallsFor t Done = (m n : List ℕ) × (rs ss : List RecordValue) × SpellsBoth t m n × Valid m rs × Valid n ss
 CallsFor t (Short message) =
-    (m n : List ℕ) × SpellsBoth t m n × (((message ≡ 0) × (length m < 12)) ⊎ ((message ≡ 1) × (rs : List Rec) × Valid m rs × (length n < 12)))
+    (m n : List ℕ) × SpellsBoth t m n × (((message ≡ 0) × (length m < 12)) ⊎ ((message ≡ 1) × (rs : List RecordValue) × Valid m rs × (length n < 12)))
 CallsFor t (Item message section index) =
-    (m n : List ℕ) × SpellsBoth t m n × (((message ≡ 0) × BadAt m section index) ⊎ ((message ≡ 1) × (rs : List Rec) × Valid m rs × BadAt n section index))
+    (m n : List ℕ) × SpellsBoth t m n × (((message ≡ 0) × BadAt m section index) ⊎ ((message ≡ 1) × (rs : List RecordValue) × Valid m rs × BadAt n section index))
 CallsFor t BadHex = (length t ≤ 262144) × (SpellsNothing (first_text t) ⊎ SpellsNothing (second_text t))
 CallsFor t TooLong = 262144 < length t
 CallsFor t status = ⊥
 
 -- ---- from what calls for it
 
-on_both : (t m n : List ℕ) → SpellsBoth t m n → verdict (Some Same) t ≡ first_refusal 0 (message_reading m ∷ message_reading n ∷ [])
+on_both : (t m n : List ℕ) → SpellsBoth t m n → expected_status (Some Same) t ≡ first_refusal 0 (message_reading m ∷ message_reading n ∷ [])
 on_both t m n (within, first, second) = let few : ltb 262144 (length t) ≡ false = le-ltb _ _ within in rw few (rw first (rw second refl))
 
-on_second : (t m n : List ℕ) (rs : List Rec) → SpellsBoth t m n → Valid m rs → verdict (Some Same) t ≡ first_refusal 1 (message_reading n ∷ [])
+on_second : (t m n : List ℕ) (rs : List RecordValue) → SpellsBoth t m n → Valid m rs → expected_status (Some Same) t ≡ first_refusal 1 (message_reading n ∷ [])
 on_second t m n rs both (items, end, is, rs-is) = on_both t m n both ∙ ap (λ r. first_refusal 0 (r ∷ message_reading n ∷ [])) is
 
 -- the second text spells nothing
@@ -44,7 +44,7 @@ second_none a b nothing = by (spelled (trim a)) where
   by None = refl
   by (Some m) = rw nothing refl
 
-pub called : (t : List ℕ) (status : Status) → CallsFor t status → verdict (Some Same) t ≡ status
+pub called : (t : List ℕ) (status : Status) → CallsFor t status → expected_status (Some Same) t ≡ status
 called t Done (m, n, rs, ss, both, valid, (others, last, also, ss-is)) = on_second t m n rs both valid ∙ ap (λ r. first_refusal 1 (r ∷ [])) also
 called t (Short message) (m, n, both, inl (first, few)) =
     on_both t m n both ∙ ap (λ r. first_refusal 0 (r ∷ message_reading n ∷ [])) (short_reading m few) ∙ ap Short (sym first)
@@ -85,43 +85,43 @@ some_call t = elim (cases_lt 262144 (length t)) [
     ]
   ]
 
-pub pair_words : (t : List ℕ) (status : Status) → (verdict (Some Same) t ≡ status) ↔ CallsFor t status
+pub pair_words : (t : List ℕ) (status : Status) → (expected_status (Some Same) t ≡ status) ↔ CallsFor t status
 pair_words t status = (λ e. let some = some_call t in subst (CallsFor t) (sym (called t some.0 some.1) ∙ e) some.1, called t status)
 
 -- ---- refusals
 
-as_verdict : (t : List ℕ) (status : Status) → CallsFor t status → status ≢ Done → Refuses Same t status
-as_verdict t Done call other = absurd (other refl)
-as_verdict t (Short message) call other = (inl (sym (called t (Short message) call)), (λ e. cc, (λ e. cc, (λ e. cc, λ e. cc))))
-as_verdict t (Item message s i) call other = (inl (sym (called t (Item message s i) call)), (λ e. cc, (λ e. cc, (λ e. cc, λ e. cc))))
-as_verdict t BadHex call other = (inl (sym (called t BadHex call)), (λ e. cc, (λ e. cc, (λ e. cc, λ e. cc))))
-as_verdict t TooLong call other = (inl (sym (called t TooLong call)), (λ e. cc, (λ e. cc, (λ e. cc, λ e. cc))))
-as_verdict t Usage call other = absurd call
-as_verdict t ReadFault call other = absurd call
-as_verdict t WriteFault call other = absurd call
-as_verdict t Memory call other = absurd call
+as_expected_status : (t : List ℕ) (status : Status) → CallsFor t status → status ≢ Done → Refuses Same t status
+as_expected_status t Done call other = absurd (other refl)
+as_expected_status t (Short message) call other = (inl (sym (called t (Short message) call)), (λ e. cc, (λ e. cc, (λ e. cc, λ e. cc))))
+as_expected_status t (Item message s i) call other = (inl (sym (called t (Item message s i) call)), (λ e. cc, (λ e. cc, (λ e. cc, λ e. cc))))
+as_expected_status t BadHex call other = (inl (sym (called t BadHex call)), (λ e. cc, (λ e. cc, (λ e. cc, λ e. cc))))
+as_expected_status t TooLong call other = (inl (sym (called t TooLong call)), (λ e. cc, (λ e. cc, (λ e. cc, λ e. cc))))
+as_expected_status t Usage call other = absurd call
+as_expected_status t ReadFault call other = absurd call
+as_expected_status t WriteFault call other = absurd call
+as_expected_status t Memory call other = absurd call
 
 for_memory : (t : List ℕ) → Refuses Same t Memory
 for_memory t = (inr refl, (λ e. cc, (λ e. cc, (λ e. cc, λ e. cc))))
 
 -- a text that spells nothing
 pub nothing_spelled : (t : List ℕ) (status : Status) → length t ≤ 262144 → SpellsNothing (first_text t) ⊎ SpellsNothing (second_text t) → status ≡ BadHex → Refuses Same t status
-nothing_spelled t status within nothing is = subst (Refuses Same t) (sym is) (as_verdict t BadHex (within, nothing) (λ e. cc))
+nothing_spelled t status within nothing is = subst (Refuses Same t) (sym is) (as_expected_status t BadHex (within, nothing) (λ e. cc))
 
 -- the first message is refused
 pub first_refused : (t m n : List ℕ) (error : CanonError) (status : Status) → SpellsBoth t m n → RefusedOrMemory m error → status ≡ canon_status 0 error → Refuses Same t status
 first_refused t m n error status both refused is = subst (Refuses Same t) (sym is) (by error refused) where
   by : (e : CanonError) → RefusedOrMemory m e → Refuses Same t (canon_status 0 e)
-  by canon.Short few = as_verdict t (Short 0) (m, n, both, inl (refl, few)) (λ e. cc)
-  by (canon.Item s i) bad = as_verdict t (Item 0 s i) (m, n, both, inl (refl, bad)) (λ e. cc)
+  by canon.Short few = as_expected_status t (Short 0) (m, n, both, inl (refl, few)) (λ e. cc)
+  by (canon.Item s i) bad = as_expected_status t (Item 0 s i) (m, n, both, inl (refl, bad)) (λ e. cc)
   by canon.Memory none = for_memory t
 
 -- the first message is valid, and the second is refused
-pub second_refused : (t m n : List ℕ) (rs : List Rec) (error : CanonError) (status : Status) → SpellsBoth t m n → Valid m rs → RefusedOrMemory n error → status ≡ canon_status 1 error → Refuses Same t status
+pub second_refused : (t m n : List ℕ) (rs : List RecordValue) (error : CanonError) (status : Status) → SpellsBoth t m n → Valid m rs → RefusedOrMemory n error → status ≡ canon_status 1 error → Refuses Same t status
 second_refused t m n rs error status both valid refused is = subst (Refuses Same t) (sym is) (by error refused) where
   by : (e : CanonError) → RefusedOrMemory n e → Refuses Same t (canon_status 1 e)
-  by canon.Short few = as_verdict t (Short 1) (m, n, both, inr (refl, rs, valid, few)) (λ e. cc)
-  by (canon.Item s i) bad = as_verdict t (Item 1 s i) (m, n, both, inr (refl, rs, valid, bad)) (λ e. cc)
+  by canon.Short few = as_expected_status t (Short 1) (m, n, both, inr (refl, rs, valid, few)) (λ e. cc)
+  by (canon.Item s i) bad = as_expected_status t (Item 1 s i) (m, n, both, inr (refl, rs, valid, bad)) (λ e. cc)
   by canon.Memory none = for_memory t
 
 -- what a text spells, by other words for the text and for the octets

@@ -2,9 +2,9 @@
 use Rattle.std.proofs.Common.{ℕ, List, Option, Some, None, Result, Ok, Err, sym, subst, IfSome, ◌≡◌, true}
 use Rattle.std.specs.Prelude.{IsOk, IsErr, MatchResult}
 use Rattle.dns_wire.specs.Outside.{ReadsAll, Puts}
-use Rattle.dns_wire.specs.declared.outside.Failed.{Failed}
+use Rattle.dns_wire.specs.declared.io.traits.Failed.{Failed}
 use Rattle.dns_canon.specs.Run.{Prints, WritesText, ended}
-use Rattle.dns_canon.specs.Verdict.{reads, text_read}
+use Rattle.dns_canon.specs.ExpectedStatus.{reads, text_read}
 use Rattle.dns_canon.specs.declared.status.Status.{Status}
 use Rattle.dns_canon.specs.declared.status.Status.TheVariants.{WriteFault}
 use Rattle.dns_canon.specs.declared.words.Command.{Command}

@@ -2,22 +2,22 @@
 use Rattle.std.proofs.Common.{◌≡◌, ℕ, suc, ◌+◌, ◌%◌, ◌<◌, List, [], ◌∷◌, ◌++◌, length, map, Some, refl, sym, ap, subst, ◌∙◌, arith}
 use Rattle.std.specs.Prelude.{⊤, IsOk, OnOk, Result, Ok, Err}
 use Rattle.std.specs.Int.{w16}
-use Rattle.dns_wire.specs.Compression.{name_presses}
-use Rattle.dns_wire.specs.Pieces.{laid}
-use Rattle.dns_wire.specs.Pieces.Piece.{Pressed}
-use Rattle.dns_wire.specs.Told.{told_piece}
+use Rattle.dns_wire.specs.Compression.{compressed_name_writes}
+use Rattle.dns_wire.specs.Layout.{laid}
+use Rattle.dns_wire.specs.Layout.LayoutPart.{NamePart}
+use Rattle.dns_wire.specs.LayoutLemmas.{part_matches}
 use Rattle.dns_num.specs.InMessage.{zeros}
 use Rattle.dns_record.specs.Fields.{Field, fields_octets}
-use Rattle.dns_record.specs.Fields.FieldOf.{Named, Bare, Raw, Sized, Byte, Number}
-use Rattle.dns_record.specs.InMessage.{fields_press, fields_fit, record_numbers}
+use Rattle.dns_record.specs.Fields.FieldOf.{Compressible, Uncompressed, Raw, Sized, Byte, Number}
+use Rattle.dns_record.specs.InMessage.{fields_write, fields_fit, record_numbers}
 use Rattle.dns_record.specs.declared.record.Record.{Record}
 use Rattle.dns_rdata.specs.Data.{data_fields}
 use Rattle.dns_rdata.specs.declared.record_data.RecordData.{RecordData}
-use Rattle.dns_message.specs.Building.{Draft, pushed, record_fits_in, record_pressed, HasRoom, PushAnswers}
-use Rattle.dns_message.specs.Built.{field_piece, built}
-use Rattle.dns_message.specs.Seen.{data_seen, record_told}
+use Rattle.dns_message.specs.Building.{Draft, pushed, record_fits_in, record_compressed, HasRoom, PushAnswers}
+use Rattle.dns_message.specs.Built.{field_part, built}
+use Rattle.dns_message.specs.Seen.{data_seen, record_value}
 use Rattle.dns_message.specs.declared.build_error.MessageBuildError.{MessageBuildError}
-use Rattle.dns_message.proofs.BuiltSo.{content_pressed, record_built}
+use Rattle.dns_message.proofs.BuiltSo.{content_compressed, record_built}
 use Rattle.dns_message.proofs.Shorter.{fields_no_longer}
 use Rattle.dns_canon.specs.Generated.{generated_owner, generated_type, generated_content, generated_record}
 use Rattle.dns_canon.specs.Making.{HasMade}
@@ -36,37 +36,37 @@ pub record IsGenerated (i : ℕ) (r : Found) : Type 0 where
   pub ttl : r.ttl.value.value ≡ 60 + i % 3
   pub content : data_seen r.rdata ≡ generated_content (i % 4) i
 
-told_is : (i : ℕ) (r : Found) → IsGenerated i r → record_told r ≡ generated_record i
-told_is i r is = λ k. record { owner = is.owner k; rtype = is.rtype k; class = is.class k; ttl = is.ttl k; content = is.content k }
+record_item_is : (i : ℕ) (r : Found) → IsGenerated i r → record_value r ≡ generated_record i
+record_item_is i r is = λ k. record { owner = is.owner k; rtype = is.rtype k; class = is.class k; ttl = is.ttl k; content = is.content k }
 
 -- nothing is prefixed in names, so all fits
-all_fit : (fields : List Field) (contents places : List ℕ) → fields_fit (λ _ _ _. ⊤) name_presses fields contents places
+all_fit : (fields : List Field) (contents places : List ℕ) → fields_fit (λ _ _ _. ⊤) compressed_name_writes fields contents places
 all_fit [] contents places = tt
-all_fit (Named labels ∷ fields) contents places = let first = name_presses labels contents places in (tt, all_fit fields (contents ++ first.0) first.1)
-all_fit (Bare labels ∷ fields) contents places = (tt, all_fit fields _ _)
+all_fit (Compressible labels ∷ fields) contents places = let first = compressed_name_writes labels contents places in (tt, all_fit fields (contents ++ first.0) first.1)
+all_fit (Uncompressed labels ∷ fields) contents places = (tt, all_fit fields _ _)
 all_fit (Raw octets ∷ fields) contents places = (tt, all_fit fields _ _)
 all_fit (Sized octets ∷ fields) contents places = (tt, all_fit fields _ _)
 all_fit (Byte b ∷ fields) contents places = (tt, all_fit fields _ _)
 all_fit (Number w n ∷ fields) contents places = (tt, all_fit fields _ _)
 
 module _ (i : ℕ) (r : Found) (few : i < 1000) (is : IsGenerated i r) where
-  abbrev presses : List ℕ → List ℕ → List ℕ × List ℕ
-  presses = record_pressed name_presses (λ v. fields_press name_presses (data_fields v)) r
+  abbrev writes : List ℕ → List ℕ → List ℕ × List ℕ
+  writes = record_compressed compressed_name_writes (λ v. fields_write compressed_name_writes (data_fields v)) r
 
   abbrev fits : List ℕ → List ℕ → Type 0
-  fits = record_fits_in (λ _ _ _. ⊤) name_presses (λ v. fields_fit (λ _ _ _. ⊤) name_presses (data_fields v)) (λ v. fields_press name_presses (data_fields v)) r
+  fits = record_fits_in (λ _ _ _. ⊤) compressed_name_writes (λ v. fields_fit (λ _ _ _. ⊤) compressed_name_writes (data_fields v)) (λ v. fields_write compressed_name_writes (data_fields v)) r
 
-  presses_is : presses ≡ built (generated_record i)
-  presses_is = record_built name_presses (λ labels. Some (Pressed labels ∷ [])) (λ labels. told_piece (Pressed labels)) (λ labels. labels) (λ labels. refl) r ∙ ap built (told_is i r is)
+  writes_is : writes ≡ built (generated_record i)
+  writes_is = record_built compressed_name_writes (λ labels. Some (NamePart labels ∷ [])) (λ labels. part_matches (NamePart labels)) (λ labels. labels) (λ labels. refl) r ∙ ap built (record_item_is i r is)
 
   -- the data are few octets, whatever names are known
-  data_few : (contents places : List ℕ) → length (fields_press name_presses (data_fields r.rdata) contents places).0 < 65536
+  data_few : (contents places : List ℕ) → length (fields_write compressed_name_writes (data_fields r.rdata) contents places).0 < 65536
   data_few contents places =
-      let pressed : fields_press name_presses (data_fields r.rdata) ≡ laid (map field_piece (data_seen r.rdata)) =
-      content_pressed name_presses (λ labels. Some (Pressed labels ∷ [])) (λ labels. told_piece (Pressed labels)) (λ labels. labels) (λ labels. refl) (data_fields r.rdata) in
+      let compressed : fields_write compressed_name_writes (data_fields r.rdata) ≡ laid (map field_part (data_seen r.rdata)) =
+      content_compressed compressed_name_writes (λ labels. Some (NamePart labels ∷ [])) (λ labels. part_matches (NamePart labels)) (λ labels. labels) (λ labels. refl) (data_fields r.rdata) in
       omega (
         arith,
-        ap (λ (p : List ℕ → List ℕ → List ℕ × List ℕ). length (p contents places).0) pressed,
+        ap (λ (p : List ℕ → List ℕ → List ℕ × List ℕ). length (p contents places).0) compressed,
         fields_no_longer (data_seen r.rdata) contents places,
         ap (λ (fs : List Field). length (fields_octets fs)) is.content,
         generated_few i few,
@@ -74,18 +74,18 @@ module _ (i : ℕ) (r : Found) (few : i < 1000) (is : IsGenerated i r) where
 
   all_fits : (contents places : List ℕ) → fits contents places
   all_fits contents places =
-      let owner = name_presses r.rname contents places in
+      let owner = compressed_name_writes r.rname contents places in
       let at = ((contents ++ owner.0) ++ record_numbers r.rtype.code.value r.rclass.code.value r.ttl.value.value) ++ zeros w16 in
       (tt, (data_few at owner.1, all_fit (data_fields r.rdata) at owner.1))
 
-  pub push_is_accepted : {A : Type 0} (draft : Draft) (result : Result A MessageBuildError) → HasMade i draft → PushAnswers 1 fits presses draft result → IsOk result
+  pub push_is_accepted : {A : Type 0} (draft : Draft) (result : Result A MessageBuildError) → HasMade i draft → PushAnswers 1 fits writes draft result → IsOk result
   push_is_accepted draft result made answers =
       let room : HasRoom fits (built (generated_record i)) draft = has_room i draft fits few made (all_fits draft.contents draft.places) in
-      accepted i draft fits presses result few made (subst (λ (p : List ℕ → List ℕ → List ℕ × List ℕ). HasRoom fits p draft) (sym presses_is) room) answers
+      accepted i draft fits writes result few made (subst (λ (p : List ℕ → List ℕ → List ℕ × List ℕ). HasRoom fits p draft) (sym writes_is) room) answers
 
-  pub push_makes : (draft after : Draft) → HasMade i draft → after ≡ pushed 1 presses draft → HasMade (suc i) after
+  pub push_makes : (draft after : Draft) → HasMade i draft → after ≡ pushed 1 writes draft → HasMade (suc i) after
   push_makes draft after made e =
-      subst (HasMade (suc i)) (sym (e ∙ ap (λ (p : List ℕ → List ℕ → List ℕ × List ℕ). pushed 1 p draft) presses_is)) (one_more_made i draft few made)
+      subst (HasMade (suc i)) (sym (e ∙ ap (λ (p : List ℕ → List ℕ → List ℕ × List ℕ). pushed 1 p draft) writes_is)) (one_more_made i draft few made)
 
 -- what holds of an accepted push
 pub of_accepted : {A E P : Type 0} (r : Result A E) (x : A) → r ≡ Ok x → OnOk r P → P

@@ -1,14 +1,15 @@
 -- The records of `make`, the message that they make, and what is printed of it.
+use Rattle.dns_wire.specs.declared.sizes.TheConstants.{HEADER_SIZE}
 use Rattle.std.specs.Prelude.{ℕ, zero, suc, ◌+◌, ◌/◌, ◌%◌, List, [], ◌∷◌, ◌++◌, codes, decimal, length, map, sum_by}
 use Rattle.std.specs.Int.{w16}
 use Rattle.std.specs.List.{range_with_len}
-use Rattle.dns_wire.specs.Pieces.{list_presses}
+use Rattle.dns_wire.specs.Layout.{list_writes}
 use Rattle.dns_record.specs.CharStrs.{charstr_wire}
 use Rattle.dns_record.specs.Fields.{Field}
-use Rattle.dns_record.specs.Fields.FieldOf.{Named, Raw, Number}
+use Rattle.dns_record.specs.Fields.FieldOf.{Compressible, Raw, Number}
 use Rattle.dns_message.specs.Built.{built}
-use Rattle.dns_message.specs.Messages.{Rec}
-use Rattle.dns_message.specs.Order.{output}
+use Rattle.dns_message.specs.Messages.{RecordValue}
+use Rattle.dns_message.specs.Order.{canonical_list}
 
 -- ---- the records
 
@@ -42,12 +43,12 @@ generated_type (suc (suc (suc turn))) = 16
 -- string.
 abbrev pub generated_content : ℕ → ℕ → List Field
 generated_content zero i = Raw (10 ∷ 0 ∷ i / 256 ∷ i % 256 ∷ []) ∷ []
-generated_content (suc zero) i = Named (generated_server i) ∷ []
-generated_content (suc (suc zero)) i = Number w16 i ∷ Named (generated_exchange i) ∷ []
+generated_content (suc zero) i = Compressible (generated_server i) ∷ []
+generated_content (suc (suc zero)) i = Number w16 i ∷ Compressible (generated_exchange i) ∷ []
 generated_content (suc (suc (suc turn))) i = Raw (charstr_wire (generated_string i)) ∷ []
 
 -- the record of a number, from 0; its class is IN
-abbrev pub generated_record : ℕ → Rec
+abbrev pub generated_record : ℕ → RecordValue
 generated_record i = record {
   owner = generated_owner i;
   rtype = generated_type (i % 4);
@@ -56,21 +57,21 @@ generated_record i = record {
   content = generated_content (i % 4) i;
 }
 
--- the first so many
-abbrev pub generated : ℕ → List Rec
+-- the first that many
+abbrev pub generated : ℕ → List RecordValue
 generated count = map generated_record (range_with_len 0 count)
 
 -- ---- their message
 
--- the octets behind the header, where no name is known yet and each is shared from then on
+-- the octets after the header, where no name is known yet and each is shared from then on
 abbrev pub made : ℕ → List ℕ
-made count = (list_presses built (generated count) [] []).0
+made count = (list_writes built (generated count) [] []).0
 
 -- ---- what is printed
 
 -- the number of canonical records, the number of their octets in all, and the size of the message, which has a header of 12 octets
 abbrev pub made_line : ℕ → List ℕ
 made_line count =
-    codes "records " ++ (decimal (length (output (generated count)))
-    ++ (codes " octets " ++ (decimal (sum_by length (output (generated count)))
-    ++ (codes " message " ++ (decimal (12 + length (made count)) ++ 10 ∷ [])))))
+    codes "records " ++ (decimal (length (canonical_list (generated count)))
+    ++ (codes " octets " ++ (decimal (sum_by length (canonical_list (generated count)))
+    ++ (codes " message " ++ (decimal (HEADER_SIZE + length (made count)) ++ 10 ∷ [])))))

@@ -5,5 +5,5 @@ pub mod Parts
 pub mod Refusals
 pub mod Run
 pub mod Statuses
-pub mod Verdict
+pub mod ExpectedStatus
 pub mod Words

@@ -8,17 +8,17 @@ unfoldable pub before_lf : List ℕ → List ℕ
 before_lf [] = []
 before_lf (b ∷ rest) = if b == 10 then [] else b ∷ before_lf rest
 
--- what stands behind the first LF; where there is none, nothing
-unfoldable pub behind_lf : List ℕ → List ℕ
-behind_lf [] = []
-behind_lf (b ∷ rest) = if b == 10 then rest else behind_lf rest
+-- what stands after the first LF; where there is none, nothing
+unfoldable pub after_lf : List ℕ → List ℕ
+after_lf [] = []
+after_lf (b ∷ rest) = if b == 10 then rest else after_lf rest
 
 -- the texts of the two messages in a text; blanks at its end do not count
 abbrev pub first_text : List ℕ → List ℕ
 first_text text = before_lf (trim text)
 
 abbrev pub second_text : List ℕ → List ℕ
-second_text text = behind_lf (trim text)
+second_text text = after_lf (trim text)
 
 -- ---- in other words
 

@@ -1,4 +1,5 @@
 -- Why a message has no canonical list.
+use Rattle.dns_wire.specs.declared.sizes.TheConstants.{HEADER_SIZE}
 use Rattle.std.specs.Prelude.{ℕ, ◌<◌, List, length}
 use Rattle.dns_message.specs.Messages.{BadAt}
 use Rattle.dns_canon.specs.declared.error.CanonError.{CanonError}
@@ -6,7 +7,7 @@ use Rattle.dns_canon.specs.declared.error.CanonError.TheVariants.{Short, Item, M
 
 -- the message is refused so, whatever memory there is
 abbrev pub RefusedAs : List ℕ → CanonError → Type 0
-RefusedAs m Short = length m < 12
+RefusedAs m Short = length m < HEADER_SIZE
 RefusedAs m (Item section index) = BadAt m section index
 RefusedAs m Memory = ⊥
 

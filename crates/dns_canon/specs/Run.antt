@@ -2,9 +2,9 @@
 use Rattle.std.specs.Prelude.{◌≡◌, ◌≢◌, ◌⊎◌, ℕ, List, [], ◌∷◌, ◌++◌, codes, Option, Some, IfSome, Result, Ok, Err}
 use Rattle.std.specs.Io.KnownBytes.{Appends}
 use Rattle.dns_wire.specs.Hexadecimal.{Spells, lines}
-use Rattle.dns_wire.specs.Outside.{WritesFront}
-use Rattle.dns_message.specs.Messages.{Rec, Valid}
-use Rattle.dns_message.specs.Order.{output}
+use Rattle.dns_wire.specs.Outside.{WritesPrefix}
+use Rattle.dns_message.specs.Messages.{RecordValue, Valid}
+use Rattle.dns_message.specs.Order.{canonical_list}
 use Rattle.dns_message.specs.Same.{Same as AreSame}
 use Rattle.dns_canon.specs.Generated.{made_line}
 use Rattle.dns_canon.specs.Parts.{first_text, second_text}
@@ -15,13 +15,13 @@ use Rattle.dns_canon.specs.declared.words.Command.TheVariants.{Canon, Same, Make
 
 -- ---- the answer
 
--- The answer is the verdict, or an excuse in its place: the source failed, the sink failed at a text that was to be written,
--- or memory ran out. Nothing excuses from `Usage`.
-abbrev pub Answers : Status → Status → Type 0
-Answers verdict ReadFault = verdict ≢ Usage
-Answers verdict WriteFault = verdict ≡ Done
-Answers verdict Memory = verdict ≢ Usage
-Answers verdict answer = answer ≡ verdict
+-- The answer is the expected status, or one that may come in its place: the source failed, the sink failed at a text that was to be
+-- written, or memory ran out. Nothing comes in place of `Usage`.
+abbrev pub AllowedStatus : Status → Status → Type 0
+AllowedStatus expected_status ReadFault = expected_status ≢ Usage
+AllowedStatus expected_status WriteFault = expected_status ≡ Done
+AllowedStatus expected_status Memory = expected_status ≢ Usage
+AllowedStatus expected_status answer = answer ≡ expected_status
 
 -- how a run ends whose command came to this
 abbrev pub ended : Result (Unit {0}) Status → Status
@@ -31,25 +31,25 @@ ended (Err status) = status
 -- ---- what is written
 
 -- the line on the records of two messages: `same` where they are the same, and else `different`
-abbrev pub TellsSameness : List Rec → List Rec → List ℕ → Type 0
-TellsSameness rs ss printed = (AreSame rs ss × (printed ≡ codes "same" ++ 10 ∷ [])) ⊎ (¬ AreSame rs ss × (printed ≡ codes "different" ++ 10 ∷ []))
+abbrev pub ReportsSameness : List RecordValue → List RecordValue → List ℕ → Type 0
+ReportsSameness rs ss printed = (AreSame rs ss × (printed ≡ codes "same" ++ 10 ∷ [])) ⊎ (¬ AreSame rs ss × (printed ≡ codes "different" ++ 10 ∷ []))
 
 -- the text that a command prints for the text that it reads
 abbrev pub Prints : Command → List ℕ → List ℕ → Type 0
-Prints Canon text printed = (m : List ℕ) × (rs : List Rec) × Spells text m × Valid m rs × (printed ≡ lines (output rs))
+Prints Canon text printed = (m : List ℕ) × (rs : List RecordValue) × Spells text m × Valid m rs × (printed ≡ lines (canonical_list rs))
 Prints Same text printed =
-    (m n : List ℕ) × (rs ss : List Rec) × Spells (first_text text) m × Spells (second_text text) n × Valid m rs × Valid n ss × TellsSameness rs ss printed
+    (m n : List ℕ) × (rs ss : List RecordValue) × Spells (first_text text) m × Spells (second_text text) n × Valid m rs × Valid n ss × ReportsSameness rs ss printed
 Prints (Make count) text printed = printed ≡ made_line count
 
--- all of it is written at `Done`, and some front of it at `WriteFault`
+-- all of it is written at `Done`, and some prefix of it at `WriteFault`
 abbrev pub WritesText : Command → List ℕ → Option (List ℕ) → Option (List ℕ) → Status → Type 0
 WritesText command text old new Done = (printed : List ℕ) × Prints command text printed × Appends old new printed
-WritesText command text old new WriteFault = (printed : List ℕ) × Prints command text printed × WritesFront old new printed
+WritesText command text old new WriteFault = (printed : List ℕ) × Prints command text printed × WritesPrefix old new printed
 WritesText command text old new answer = Unit {0}
 
 -- ---- what is left
 
--- nothing is left of what was told
+-- nothing is left of what was known
 abbrev pub IsEmptied : Option (List ℕ) → Option (List ℕ) → Type 0
 IsEmptied old new = IfSome old (λ _. new ≡ Some [])
 

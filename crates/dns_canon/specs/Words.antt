@@ -1,4 +1,5 @@
 -- The words of the command line.
+use Rattle.dns_canon.specs.declared.words.TheConstants.{MOST_RECORDS}
 use Rattle.std.specs.Prelude.{ℕ, List, [], ◌∷◌, Option, Some, None, ◌&&◌, codes, decimal, nat_le, bytes_eq, if◌then◌else◌}
 use Rattle.std.specs.Option.{option_map}
 use Rattle.std.specs.Str.Parse.{digits_value}
@@ -9,12 +10,12 @@ use Rattle.dns_canon.specs.declared.words.Command.TheVariants.{Canon, Same, Make
 abbrev pub command_named : List ℕ → Option Command
 command_named word = if bytes_eq word (codes "canon") then Some Canon else if bytes_eq word (codes "same") then Some Same else None
 
--- the number that a word is: at most 1,000, and in its own decimal digits, so that no sign and no zero stands in front
+-- the number that a word is: at most 1,000, and in its own decimal digits, so that no sign and no zero stands before
 abbrev pub number_named : List ℕ → Option ℕ
 number_named word =
-    if nat_le (digits_value 10 word) 1000 && bytes_eq word (decimal (digits_value 10 word)) then Some (digits_value 10 word) else None
+    if nat_le (digits_value 10 word) MOST_RECORDS && bytes_eq word (decimal (digits_value 10 word)) then Some (digits_value 10 word) else None
 
--- the command of a word and the word behind it
+-- the command of a word and the word after it
 abbrev pub numbered_command : List ℕ → List ℕ → Option Command
 numbered_command word number = if bytes_eq word (codes "make") then option_map Make (number_named number) else None
 

@@ -3,9 +3,9 @@
 ghost use Rattle.std.specs.Prelude.{◌≡◌, ◌≤◌, ◌⊎◌, ◌↔◌, ℕ, List, map, length, IfOk, IfErr, OnErr, IsNone, IsTrue, slice_get};
 ghost use Rattle.std.specs.Option.{option_copied};
 ghost use Rattle.dns_canon.specs.Refusals.{RefusedAs, RefusedOrMemory};
-ghost use Rattle.dns_message.specs.Canonical.{canon};
-ghost use Rattle.dns_message.specs.Messages.{Rec, Valid};
-ghost use Rattle.dns_message.specs.Order.{output};
+ghost use Rattle.dns_message.specs.Canonical.{canonical_wire};
+ghost use Rattle.dns_message.specs.Messages.{RecordValue, Valid};
+ghost use Rattle.dns_message.specs.Order.{canonical_list};
 
 use crate::error::CanonError;
 use crate::message::read_records;
@@ -78,7 +78,7 @@ impl CanonList {
 
 /// The canonical octets of a record.
 fn octets_of_record(alloc: Global, found: &CanonicalRecord<'_>) -> Result<Vec<u8>, AllocError>
-    ensures { IfOk result (λ octets. octets.items ≡ canon found.now) }
+    ensures { IfOk result (λ octets. octets.items ≡ canonical_wire found.now) }
 {
     let mut octets = vec![in alloc; 0; found.size()]?;
     found.build_at(&mut octets, 0).unwrap();
@@ -87,7 +87,7 @@ fn octets_of_record(alloc: Global, found: &CanonicalRecord<'_>) -> Result<Vec<u8
 
 /// The canonical octets of the records, in their order.
 fn all_octets(alloc: Global, records: &[&CanonicalRecord<'_>]) -> Result<Vec<Vec<u8>>, AllocError>
-    ensures { IfOk result (λ lists. map (λ list. list.items) lists.items ≡ map (λ r. canon r.now) records.now) }
+    ensures { IfOk result (λ lists. map (λ list. list.items) lists.items ≡ map (λ r. canonical_wire r.now) records.now) }
 {
     let mut lists = Vec::with_capacity(alloc, records.len())?;
     for found in records {
@@ -99,12 +99,19 @@ fn all_octets(alloc: Global, records: &[&CanonicalRecord<'_>]) -> Result<Vec<Vec
 /// The canonical list of a message (RFC 4034 section 6): the canonical octets of each record other than OPT, in order. Records
 /// that are alike in owner, class, type and data stand once, with the least TTL (RFC 2181 section 5.2). `Short` and `Item`
 /// come exactly where the message calls for them; `Memory` may come in place of any other answer.
+///
+/// ```
+/// let list = canonicalise(rt.alloc(), &message)?;
+/// for index in 0..list.len() {
+///     println!(rt; "{}", hex::encode(rt.alloc(), list.get(index).unwrap_or(b""))?)?;
+/// }
+/// ```
 pub fn canonicalise(alloc: Global, message: &[u8]) -> Result<CanonList, CanonError>
-    ensures ok { IfOk result (λ list. (rs : List Rec) × Valid message.now rs × (list ≡ output rs)) }
+    ensures ok { IfOk result (λ list. (rs : List RecordValue) × Valid message.now rs × (list ≡ canonical_list rs)) }
     ensures refused { IfErr result (RefusedOrMemory message.now) }
 
-    // Memory aside, the answer is the one that the message calls for.
-    ensures valid { (rs : List Rec) → Valid message.now rs → OnErr result (result ≡ Err CanonError.Memory) }
+    // Except for memory, the answer is the one that the message calls for.
+    ensures valid { (rs : List RecordValue) → Valid message.now rs → OnErr result (result ≡ Err CanonError.Memory) }
     ensures exactly { (error : CanonError) → RefusedAs message.now error
         → (result ≡ Err error) ⊎ (result ≡ Err CanonError.Memory) }
 {

@@ -1,45 +1,31 @@
 //! From words and a text to an answer.
 
 ghost use Rattle.std.specs.Prelude.{◌↔◌, true, false, ◌≡◌, ◌≢◌, ◌⊎◌, ◌+◌, ◌≤◌, List, [], ◌∷◌, ◌++◌, ℕ, codes, length, map, Some, None, IfOk, IfErr, IfSome, OnOk, IsOk, IsErr, MatchResult};
-ghost use Rattle.dns_wire.specs.Outside.{Rose, HasCause, BecomesFlag, WritesFront, Puts};
+ghost use Rattle.dns_wire.specs.Outside.{Rose, HasCause, BecomesFlag, WritesPrefix, Puts};
 ghost use Rattle.std.specs.Io.KnownBytes.{Appends};
-ghost use Rattle.dns_message.specs.Messages.{Rec, Valid};
+ghost use Rattle.dns_message.specs.Messages.{RecordValue, Valid};
 ghost use Rattle.dns_message.specs.Order.{sort_key};
 ghost use Rattle.std.specs.Prelude.{filter};
-ghost use Rattle.dns_message.specs.Canonical.{is_kept};
+ghost use Rattle.dns_message.specs.Canonical.{is_not_opt};
 ghost use Rattle.dns_canon.specs.Refusals.{RefusedOrMemory};
-ghost use Rattle.dns_canon.specs.Run.{Answers, ended, Prints, WritesText, Empties};
+ghost use Rattle.dns_canon.specs.Run.{AllowedStatus, ended, Prints, WritesText, Empties};
 ghost use Rattle.dns_canon.specs.Statuses.{canon_status, note_of};
 ghost use Rattle.dns_text.specs.Taken.{TakesAtMost};
-ghost use Rattle.dns_canon.specs.Verdict.{reads, text_read, limit_of, verdict};
+ghost use Rattle.dns_canon.specs.ExpectedStatus.{reads, text_read, limit_of, expected_status};
 ghost use Rattle.dns_canon.specs.Words.{command_of};
 ghost use Rattle.dns_canon.specs.declared.error.CanonError.{CanonError};
+ghost use Rattle.dns_canon.specs.declared.words.TheConstants.{MOST_RECORDS};
 
 use crate::lines::{LineBuffer, put_records};
 use crate::make::make_text;
-use crate::message::read_records;
+use crate::message::records_of;
 use crate::parts::parted;
 use crate::status::Status;
 use crate::words::{Command, LIMIT, LIMIT_OF_TWO, Words};
 use dns_message::{CanonicalRecord, collapsed};
-use dns_text::{PIECE, octets_of, put_line, put_text, read_text};
+use dns_text::{READ_CHUNK, octets_of, put_line, put_text, read_text};
 use dns_wire::{Failed, Sink, Source};
 use std::alloc::Global;
-
-/// The records of the message of this number.
-pub(crate) fn records_of(
-    alloc: Global,
-    octets: &[u8],
-    message: u8,
-) -> Result<Vec<CanonicalRecord<'_>>, Status>
-    ensures ok { IfOk result (λ records. (rs : List Rec) × Valid octets.now rs × (records.items ≡ filter is_kept rs)) }
-    ensures err { IfErr result (λ status. (error : CanonError) × RefusedOrMemory octets.now error × (status ≡ canon_status message error)) }
-{
-    match read_records(alloc, octets) {
-        Ok(records) => Ok(records),
-        Err(error) => Err(Status::of_message(message, error)),
-    }
-}
 
 /// The word for the records of two messages in order, and LF. Both lists are walked side by side.
 fn sameness(records: &[&CanonicalRecord<'_>], others: &[&CanonicalRecord<'_>]) -> &'static [u8]
@@ -56,8 +42,8 @@ fn sameness(records: &[&CanonicalRecord<'_>], others: &[&CanonicalRecord<'_>]) -
 /// The line for the text of two messages: `same` where they carry the same records, and else `different`.
 fn same_line(alloc: Global, text: &[u8]) -> Result<&'static [u8], Status>
     requires within { length text.now ≤ LIMIT_OF_TWO }
-    ensures ok { IfOk result (λ printed. (verdict (Some Command.Same) text.now ≡ Status.Done) × Prints Command.Same text.now printed.now) }
-    ensures err { IfErr result (λ status. ((status ≡ verdict (Some Command.Same) text.now) ⊎ (status ≡ Status.Memory))
+    ensures ok { IfOk result (λ printed. (expected_status (Some Command.Same) text.now ≡ Status.Done) × Prints Command.Same text.now printed.now) }
+    ensures err { IfErr result (λ status. ((status ≡ expected_status (Some Command.Same) text.now) ⊎ (status ≡ Status.Memory))
         × ((status ≢ Status.Done) × ((status ≢ Status.ReadFault) × ((status ≢ Status.WriteFault) × (status ≢ Status.Usage))))) }
 {
     let (first, second) = parted(text);
@@ -83,8 +69,8 @@ fn written(put: Result<(), Failed>) -> Result<(), Status>
 /// Writes the lines for the text of one message.
 fn put_canon<K: Sink>(alloc: Global, text: &[u8], sink: &mut K) -> Result<(), Status>
     requires within { length text.now ≤ LIMIT }
-    ensures ok { OnOk result (verdict (Some Command.Canon) text.now ≡ Status.Done) }
-    ensures err { IfErr result (λ status. Answers (verdict (Some Command.Canon) text.now) status) }
+    ensures ok { OnOk result (expected_status (Some Command.Canon) text.now ≡ Status.Done) }
+    ensures err { IfErr result (λ status. AllowedStatus (expected_status (Some Command.Canon) text.now) status) }
     ensures refused { (result ≢ Err Status.Done) × (result ≢ Err Status.ReadFault) × (result ≢ Err Status.Usage) }
     ensures write_fault { result ≡ Err Status.WriteFault → Rose (K.faults sink.old) (K.faults sink.new) }
     ensures write_steady { (result ≢ Err Status.WriteFault) → K.faults sink.new ≡ K.faults sink.old }
@@ -106,9 +92,9 @@ fn carry_out<S: Source, K: Sink>(
     source: &mut S,
     sink: &mut K,
 ) -> Result<(), Status>
-    requires few { (count : ℕ) → command ≡ Command.Make count → count ≤ 1000 }
-    ensures ok { OnOk result (IfSome (text_read (Some command) (S.left source.old)) (λ t. verdict (Some command) t ≡ Status.Done)) }
-    ensures err { IfErr result (λ status. IfSome (text_read (Some command) (S.left source.old)) (λ t. Answers (verdict (Some command) t) status)) }
+    requires few { (count : ℕ) → command ≡ Command.Make count → count ≤ MOST_RECORDS }
+    ensures ok { OnOk result (IfSome (text_read (Some command) (S.left source.old)) (λ t. expected_status (Some command) t ≡ Status.Done)) }
+    ensures err { IfErr result (λ status. IfSome (text_read (Some command) (S.left source.old)) (λ t. AllowedStatus (expected_status (Some command) t) status)) }
     ensures refused { (result ≢ Err Status.Done) × (result ≢ Err Status.Usage) }
     ensures read_fault { result ≡ Err Status.ReadFault → Rose (S.faults source.old) (S.faults source.new) }
     ensures read_steady { (result ≢ Err Status.ReadFault) → S.faults source.new ≡ S.faults source.old }
@@ -120,7 +106,7 @@ fn carry_out<S: Source, K: Sink>(
     ensures flushed { OnOk result (BecomesFlag (K.is_flushed sink.old) (K.is_flushed sink.new) true) }
     ensures unread { reads (Some command) ≡ false → source.new ≡ source.old }
     ensures emptied { reads (Some command) ≡ true → Empties (ended result) (S.left source.old) (S.left source.new) }
-    ensures taken { TakesAtMost (S.left source.old) (S.left source.new) (limit_of command + PIECE) }
+    ensures taken { TakesAtMost (S.left source.old) (S.left source.new) (limit_of command + READ_CHUNK) }
 {
     match command {
         Command::Canon => put_canon(alloc, &read_text(alloc, source, LIMIT)?, sink),
@@ -138,7 +124,7 @@ fn carry_out<S: Source, K: Sink>(
 /// Answers the words, and writes what their command prints.
 fn answer<S: Source, K: Sink>(alloc: Global, words: &Words, source: &mut S, sink: &mut K) -> Status
     ensures usage { (result ≡ Status.Usage) ↔ (command_of words.now ≡ None) }
-    ensures verdict { IfSome (text_read (command_of words.now) (S.left source.old)) (λ t. Answers (verdict (command_of words.now) t) result) }
+    ensures expected_status { IfSome (text_read (command_of words.now) (S.left source.old)) (λ t. AllowedStatus (expected_status (command_of words.now) t) result) }
     ensures read_fault { result ≡ Status.ReadFault → Rose (S.faults source.old) (S.faults source.new) }
     ensures write_fault { result ≡ Status.WriteFault → Rose (K.faults sink.old) (K.faults sink.new) }
     ensures read_steady { (result ≢ Status.ReadFault) → S.faults source.new ≡ S.faults source.old }
@@ -150,7 +136,7 @@ fn answer<S: Source, K: Sink>(alloc: Global, words: &Words, source: &mut S, sink
     ensures flushed { result ≡ Status.Done → BecomesFlag (K.is_flushed sink.old) (K.is_flushed sink.new) true }
     ensures unread { reads (command_of words.now) ≡ false → source.new ≡ source.old }
     ensures emptied { reads (command_of words.now) ≡ true → Empties result (S.left source.old) (S.left source.new) }
-    ensures taken { IfSome (command_of words.now) (λ command. TakesAtMost (S.left source.old) (S.left source.new) (limit_of command + PIECE)) }
+    ensures taken { IfSome (command_of words.now) (λ command. TakesAtMost (S.left source.old) (S.left source.new) (limit_of command + READ_CHUNK)) }
 {
     let Some(command) = words.command() else {
         return Status::Usage;
@@ -164,7 +150,7 @@ fn answer<S: Source, K: Sink>(alloc: Global, words: &Words, source: &mut S, sink
 /// Writes the line for a status.
 fn tell<N: Sink>(notes: &mut N, status: Status) -> Result<(), Failed>
     ensures quiet { status ≡ Status.Done → notes.new ≡ notes.old }
-    ensures told { Puts (N.written notes.old) (N.written notes.new) (note_of status) result }
+    ensures reported { Puts (N.written notes.old) (N.written notes.new) (note_of status) result }
     ensures cause { HasCause (N.faults notes.old) (N.faults notes.new) result }
 {
     match status {
@@ -200,8 +186,8 @@ pub fn run<S: Source, K: Sink, N: Sink>(
     // Words that are no command are refused, whatever the source tells.
     ensures usage { (result ≡ Status.Usage) ↔ (command_of words.now ≡ None) }
 
-    // The answer is what the text calls for, or an excuse.
-    ensures verdict { IfSome (text_read (command_of words.now) (S.left source.old)) (λ t. Answers (verdict (command_of words.now) t) result) }
+    // The answer is what the text calls for, or one that may come in its place.
+    ensures expected_status { IfSome (text_read (command_of words.now) (S.left source.old)) (λ t. AllowedStatus (expected_status (command_of words.now) t) result) }
 
     // A fault is answered exactly where its device has counted one, and a fault of the source only where
     // the command reads. A count at its last value stays.
@@ -214,7 +200,7 @@ pub fn run<S: Source, K: Sink, N: Sink>(
     // With no fault of the sink, nor of the source where the command reads, the answer is what the text
     // calls for, or memory was refused.
     ensures complete { (reads (command_of words.now) ≡ true → Rose (S.faults source.old) (S.faults source.new) → ⊥) → (Rose (K.faults sink.old) (K.faults sink.new) → ⊥)
-        → IfSome (text_read (command_of words.now) (S.left source.old)) (λ t. (result ≡ verdict (command_of words.now) t) ⊎ (result ≡ Status.Memory)) }
+        → IfSome (text_read (command_of words.now) (S.left source.old)) (λ t. (result ≡ expected_status (command_of words.now) t) ⊎ (result ≡ Status.Memory)) }
 
     // What is written.
     ensures written { IfSome (command_of words.now) (λ command. IfSome (text_read (Some command) (S.left source.old)) (λ t.
@@ -225,12 +211,12 @@ pub fn run<S: Source, K: Sink, N: Sink>(
     // What is left. No read comes once the limit is passed.
     ensures unread { reads (command_of words.now) ≡ false → source.new ≡ source.old }
     ensures emptied { reads (command_of words.now) ≡ true → Empties result (S.left source.old) (S.left source.new) }
-    ensures taken { IfSome (command_of words.now) (λ command. TakesAtMost (S.left source.old) (S.left source.new) (limit_of command + PIECE)) }
+    ensures taken { IfSome (command_of words.now) (λ command. TakesAtMost (S.left source.old) (S.left source.new) (limit_of command + READ_CHUNK)) }
 
     // The line for the answer goes to the notes.
     ensures quiet { result ≡ Status.Done → notes.new ≡ notes.old }
-    ensures told { WritesFront (N.written notes.old) (N.written notes.new) (note_of result) }
-    ensures told_whole { (Rose (N.faults notes.old) (N.faults notes.new) → ⊥)
+    ensures reported { WritesPrefix (N.written notes.old) (N.written notes.new) (note_of result) }
+    ensures reported_whole { (Rose (N.faults notes.old) (N.faults notes.new) → ⊥)
         → Appends (N.written notes.old) (N.written notes.new) (note_of result) }
 {
     let status = answer(alloc, words, source, sink);

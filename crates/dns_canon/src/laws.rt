@@ -2,32 +2,34 @@
 
 ghost use Rattle.std.specs.Prelude.{◌≡◌, ◌≤◌, ◌<◌, ◌⊎◌, ◌↔◌, ℕ, List, [], ◌∷◌, ◌++◌, Some, None, codes, decimal, length};
 ghost use Rattle.dns_wire.specs.Hexadecimal.{Spells, SpellsNothing, lines};
-ghost use Rattle.dns_message.specs.Messages.{Rec, Valid, BadAt};
-ghost use Rattle.dns_message.specs.Order.{output};
+ghost use Rattle.dns_message.specs.Messages.{RecordValue, Valid, BadAt};
+ghost use Rattle.dns_message.specs.Order.{canonical_list};
 ghost use Rattle.dns_message.specs.Same.{Same};
 ghost use Rattle.dns_canon.specs.Run.{Prints};
-ghost use Rattle.dns_canon.specs.Parts.{before_lf, behind_lf, first_text, second_text, HasParts};
-ghost use Rattle.dns_canon.specs.Verdict.{verdict, SpellsBoth};
+ghost use Rattle.dns_canon.specs.Parts.{before_lf, after_lf, first_text, second_text, HasParts};
+ghost use Rattle.dns_canon.specs.ExpectedStatus.{expected_status, SpellsBoth};
 ghost use Rattle.dns_canon.specs.Words.{command_of};
+ghost use Rattle.dns_canon.specs.declared.words.TheConstants.{LIMIT, LIMIT_OF_TWO, MOST_RECORDS};
+ghost use Rattle.dns_wire.specs.declared.sizes.TheConstants.{HEADER_SIZE};
 
 use crate::status::Status;
 use crate::words::Command;
 
 /// The words of a command are these and no others; the number of `make` is at most 1,000, in decimal digits without a
-/// sign or a zero in front.
+/// sign or a zero before.
 pub fn words_of_commands()
     ensures canon { (words : List (List ℕ)) → (command_of words ≡ Some Command.Canon) ↔ (words ≡ codes "canon" ∷ []) }
     ensures same { (words : List (List ℕ)) → (command_of words ≡ Some Command.Same) ↔ (words ≡ codes "same" ∷ []) }
     ensures make { (words : List (List ℕ)) (count : ℕ) →
-        (command_of words ≡ Some (Command.Make count)) ↔ ((count ≤ 1000) × (words ≡ codes "make" ∷ decimal count ∷ [])) }
+        (command_of words ≡ Some (Command.Make count)) ↔ ((count ≤ MOST_RECORDS) × (words ≡ codes "make" ∷ decimal count ∷ [])) }
 {}
 
 /// What `same` prints for a text whose parts spell two valid messages: `same` and LF exactly where they have the same records,
 /// and else `different` and LF.
 pub fn answers_on_sameness()
-    ensures same { (t m n : List ℕ) (rs ss : List Rec) → Spells (first_text t) m → Spells (second_text t) n → Valid m rs → Valid n ss →
+    ensures same { (t m n : List ℕ) (rs ss : List RecordValue) → Spells (first_text t) m → Spells (second_text t) n → Valid m rs → Valid n ss →
         Prints Command.Same t (codes "same" ++ 10 ∷ []) ↔ Same rs ss }
-    ensures different { (t m n : List ℕ) (rs ss : List Rec) → Spells (first_text t) m → Spells (second_text t) n → Valid m rs → Valid n ss →
+    ensures different { (t m n : List ℕ) (rs ss : List RecordValue) → Spells (first_text t) m → Spells (second_text t) n → Valid m rs → Valid n ss →
         Prints Command.Same t (codes "different" ++ 10 ∷ []) ↔ (¬ Same rs ss) }
     ensures no_others { (t printed : List ℕ) → Prints Command.Same t printed →
         (printed ≡ codes "same" ++ 10 ∷ []) ⊎ (printed ≡ codes "different" ++ 10 ∷ []) }
@@ -35,36 +37,36 @@ pub fn answers_on_sameness()
 
 /// What `canon` prints for two texts that spell valid messages is the same exactly where these carry the same records.
 pub fn equal_lines()
-    ensures { (t u m n : List ℕ) (rs ss : List Rec) → Spells t m → Spells u n → Valid m rs → Valid n ss → (lines (output rs) ≡ lines (output ss)) ↔ Same rs ss }
+    ensures { (t u m n : List ℕ) (rs ss : List RecordValue) → Spells t m → Spells u n → Valid m rs → Valid n ss → (lines (canonical_list rs) ≡ lines (canonical_list ss)) ↔ Same rs ss }
 {}
 
 /// A text is parted at its first LF; where there is none, the first part is the text, and the second is empty.
 pub fn parted_texts()
-    ensures { (text first second : List ℕ) → HasParts text first second ↔ ((before_lf text ≡ first) × (behind_lf text ≡ second)) }
+    ensures { (text first second : List ℕ) → HasParts text first second ↔ ((before_lf text ≡ first) × (after_lf text ≡ second)) }
 {}
 
-/// The verdict on a text in words, for each status that one calls for: first on the text of one message, and then on that of
-/// two. A refusal of the second comes only where the first is valid. `make` reads no text, and its verdict is `Done`.
-pub fn verdicts_in_words()
-    ensures done { (t : List ℕ) → (verdict (Some Command.Canon) t ≡ Status.Done)
-        ↔ ((length t ≤ 131072) × (m : List ℕ) × (rs : List Rec) × Spells t m × Valid m rs) }
-    ensures short { (t : List ℕ) (message : ℕ) → (verdict (Some Command.Canon) t ≡ Status.Short message)
-        ↔ ((message ≡ 0) × (length t ≤ 131072) × (m : List ℕ) × Spells t m × (length m < 12)) }
-    ensures item { (t : List ℕ) (message section index : ℕ) → (verdict (Some Command.Canon) t ≡ Status.Item message section index)
-        ↔ ((message ≡ 0) × (length t ≤ 131072) × (m : List ℕ) × Spells t m × BadAt m section index) }
-    ensures bad_hex { (t : List ℕ) → (verdict (Some Command.Canon) t ≡ Status.BadHex) ↔ ((length t ≤ 131072) × SpellsNothing t) }
-    ensures too_long { (t : List ℕ) → (verdict (Some Command.Canon) t ≡ Status.TooLong) ↔ (131072 < length t) }
-    ensures same_done { (t : List ℕ) → (verdict (Some Command.Same) t ≡ Status.Done)
-        ↔ ((m n : List ℕ) × (rs ss : List Rec) × SpellsBoth t m n × Valid m rs × Valid n ss) }
-    ensures same_short { (t : List ℕ) (message : ℕ) → (verdict (Some Command.Same) t ≡ Status.Short message)
+/// The expected status on a text in words, for each status that one calls for: first on the text of one message, and then on that of
+/// two. A refusal of the second comes only where the first is valid. `make` reads no text, and its expected status is `Done`.
+pub fn expected_statuses_in_words()
+    ensures done { (t : List ℕ) → (expected_status (Some Command.Canon) t ≡ Status.Done)
+        ↔ ((length t ≤ LIMIT) × (m : List ℕ) × (rs : List RecordValue) × Spells t m × Valid m rs) }
+    ensures short { (t : List ℕ) (message : ℕ) → (expected_status (Some Command.Canon) t ≡ Status.Short message)
+        ↔ ((message ≡ 0) × (length t ≤ LIMIT) × (m : List ℕ) × Spells t m × (length m < HEADER_SIZE)) }
+    ensures item { (t : List ℕ) (message section index : ℕ) → (expected_status (Some Command.Canon) t ≡ Status.Item message section index)
+        ↔ ((message ≡ 0) × (length t ≤ LIMIT) × (m : List ℕ) × Spells t m × BadAt m section index) }
+    ensures bad_hex { (t : List ℕ) → (expected_status (Some Command.Canon) t ≡ Status.BadHex) ↔ ((length t ≤ LIMIT) × SpellsNothing t) }
+    ensures too_long { (t : List ℕ) → (expected_status (Some Command.Canon) t ≡ Status.TooLong) ↔ (LIMIT < length t) }
+    ensures same_done { (t : List ℕ) → (expected_status (Some Command.Same) t ≡ Status.Done)
+        ↔ ((m n : List ℕ) × (rs ss : List RecordValue) × SpellsBoth t m n × Valid m rs × Valid n ss) }
+    ensures same_short { (t : List ℕ) (message : ℕ) → (expected_status (Some Command.Same) t ≡ Status.Short message)
         ↔ ((m n : List ℕ) × SpellsBoth t m n
-        × (((message ≡ 0) × (length m < 12)) ⊎ ((message ≡ 1) × (rs : List Rec) × Valid m rs × (length n < 12)))) }
-    ensures same_item { (t : List ℕ) (message section index : ℕ) → (verdict (Some Command.Same) t ≡ Status.Item message section index)
+        × (((message ≡ 0) × (length m < HEADER_SIZE)) ⊎ ((message ≡ 1) × (rs : List RecordValue) × Valid m rs × (length n < 12)))) }
+    ensures same_item { (t : List ℕ) (message section index : ℕ) → (expected_status (Some Command.Same) t ≡ Status.Item message section index)
         ↔ ((m n : List ℕ) × SpellsBoth t m n
-        × (((message ≡ 0) × BadAt m section index) ⊎ ((message ≡ 1) × (rs : List Rec) × Valid m rs × BadAt n section index))) }
-    ensures same_bad_hex { (t : List ℕ) → (verdict (Some Command.Same) t ≡ Status.BadHex)
-        ↔ ((length t ≤ 262144) × (SpellsNothing (first_text t) ⊎ SpellsNothing (second_text t))) }
-    ensures same_too_long { (t : List ℕ) → (verdict (Some Command.Same) t ≡ Status.TooLong) ↔ (262144 < length t) }
-    ensures make_done { (count : ℕ) → verdict (Some (Command.Make count)) [] ≡ Status.Done }
-    ensures usage { (t : List ℕ) → verdict None t ≡ Status.Usage }
+        × (((message ≡ 0) × BadAt m section index) ⊎ ((message ≡ 1) × (rs : List RecordValue) × Valid m rs × BadAt n section index))) }
+    ensures same_bad_hex { (t : List ℕ) → (expected_status (Some Command.Same) t ≡ Status.BadHex)
+        ↔ ((length t ≤ LIMIT_OF_TWO) × (SpellsNothing (first_text t) ⊎ SpellsNothing (second_text t))) }
+    ensures same_too_long { (t : List ℕ) → (expected_status (Some Command.Same) t ≡ Status.TooLong) ↔ (LIMIT_OF_TWO < length t) }
+    ensures make_done { (count : ℕ) → expected_status (Some (Command.Make count)) [] ≡ Status.Done }
+    ensures usage { (t : List ℕ) → expected_status None t ≡ Status.Usage }
 {}

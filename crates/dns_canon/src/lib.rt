@@ -14,10 +14,10 @@ mod words;
 
 pub use canonical::{CanonList, canonicalise};
 pub use command::run;
-pub use dns_text::PIECE;
+pub use dns_text::READ_CHUNK;
 pub use error::CanonError;
 pub use laws::{
-    answers_on_sameness, equal_lines, parted_texts, verdicts_in_words, words_of_commands,
+    answers_on_sameness, equal_lines, expected_statuses_in_words, parted_texts, words_of_commands,
 };
 pub use status::Status;
 pub use words::{Command, LIMIT, LIMIT_OF_TWO, MOST_RECORDS, Words};

@@ -3,7 +3,7 @@
 ghost use Rattle.std.specs.Prelude.{◌≡◌, ◌≤◌, ◌<◌, ◌+◌, ◌-◌, ◌*◌, [], ◌++◌, length, map, take, true, IfOk, OnOk};
 ghost use Rattle.dns_wire.specs.Hexadecimal.{line, lines};
 ghost use Rattle.dns_wire.specs.Outside.{HasCause, BecomesFlag, Puts};
-ghost use Rattle.dns_message.specs.Canonical.{canon};
+ghost use Rattle.dns_message.specs.Canonical.{canonical_wire};
 
 use dns_message::CanonicalRecord;
 use dns_text::{put_all, put_text};
@@ -12,20 +12,20 @@ use std::alloc::{AllocError, Global};
 use std::marker::Model;
 
 /// The most canonical octets of a record: an owner of 255, ten octets, and data of 65,535.
-const MOST_OCTETS: usize = 65_800;
+const MOST_OCTETS: usize = CanonicalRecord::MAX_SIZE;
 
 /// The most octets of a line: two digits for each of those, and LF.
-const MOST_LINE: usize = 131_601;
+const MOST_LINE: usize = 2 * MOST_OCTETS + 1;
 
-/// Writes the canonical octets of a record to the front of some octets, of which there are enough.
+/// Writes the canonical octets of a record to the start of some octets, of which there are enough.
 fn write_octets(found: &CanonicalRecord<'_>, octets: &mut [u8])
-    requires { length (canon found.now) ≤ length octets.old }
-    ensures { take (length (canon found.now)) octets.new ≡ canon found.now }
+    requires { length (canonical_wire found.now) ≤ length octets.old }
+    ensures { take (length (canonical_wire found.now)) octets.new ≡ canonical_wire found.now }
 {
     found.build_at(octets, 0).unwrap();
 }
 
-/// Writes the line of some octets behind what stands before a place of the text, where there is room for it.
+/// Writes the line of some octets after what stands before a place of the text, where there is room for it.
 fn write_line(text: &mut [u8], start: usize, octets: &[u8])
     requires { start + 2 * length octets.now < length text.old }
     ensures { take (start + 2 * length octets.now + 1) text.new ≡ take start text.old ++ line octets.now }
@@ -35,7 +35,7 @@ fn write_line(text: &mut [u8], start: usize, octets: &[u8])
     text[end] = b'\n';
 }
 
-/// Lines that are to be written, one behind another. All its memory is taken when it is made.
+/// Lines that are to be written, one after another. All its memory is taken when it is made.
 #[derive(Drop)]
 pub(crate) struct LineBuffer {
     /// Room for the canonical octets of one record.
@@ -48,12 +48,13 @@ pub(crate) struct LineBuffer {
 
 impl Model for LineBuffer {
     ghost use Rattle.std.specs.Prelude.{◌≡◌, ◌≤◌, ℕ, List, length, take};
+    ghost use Rattle.dns_canon.specs.declared.lines.TheConstants.{MOST_LINE, MOST_OCTETS};
 
     ghost Value = { List ℕ };
 
     ghost view = { λ b. take b.filled b.text.items };
 
-    ghost invariant = { λ b. (length b.octets.items ≡ 65800) × (length b.text.items ≡ 131601) × (b.filled ≤ 131601) };
+    ghost invariant = { λ b. (length b.octets.items ≡ MOST_OCTETS) × (length b.text.items ≡ MOST_LINE) × (b.filled ≤ MOST_LINE) };
 }
 
 impl LineBuffer {
@@ -72,7 +73,7 @@ impl LineBuffer {
 
     /// How many octets there is still room for.
     fn room(&self) -> usize
-        ensures { result ≡ 131601 - length self.now }
+        ensures { result ≡ MOST_LINE - length self.now }
     {
         MOST_LINE - self.filled
     }
@@ -86,8 +87,8 @@ impl LineBuffer {
 
     /// Holds the line of one more record.
     fn hold(&mut self, found: &CanonicalRecord<'_>)
-        requires { length self.old + 2 * length (canon found.now) < 131601 }
-        ensures { self.new ≡ self.old ++ line (canon found.now) }
+        requires { length self.old + 2 * length (canonical_wire found.now) < MOST_LINE }
+        ensures { self.new ≡ self.old ++ line (canonical_wire found.now) }
     {
         let size = found.size();
         write_octets(found, &mut self.octets);
@@ -110,7 +111,7 @@ pub(crate) fn put_records<K: Sink>(
     buffer: &mut LineBuffer,
 ) -> Result<(), Failed>
     requires { buffer.old ≡ [] }
-    ensures puts { Puts (K.written sink.old) (K.written sink.new) (lines (map (λ r. canon r.now) records.now)) result }
+    ensures puts { Puts (K.written sink.old) (K.written sink.new) (lines (map (λ r. canonical_wire r.now) records.now)) result }
     ensures flushed { OnOk result (BecomesFlag (K.is_flushed sink.old) (K.is_flushed sink.new) true) }
     ensures cause { HasCause (K.faults sink.old) (K.faults sink.new) result }
 {

@@ -1,14 +1,15 @@
 //! The message of generated records.
 
 ghost use Rattle.std.specs.Prelude.{◌≡◌, ◌≤◌, ◌<◌, ◌+◌, ◌/◌, ◌%◌, ◌^◌, [], ◌∷◌, length, map, sum_by, IfOk, OnOk, IfErr};
-ghost use Rattle.dns_message.specs.Canonical.{canon};
+ghost use Rattle.dns_message.specs.Canonical.{canonical_wire};
 ghost use Rattle.dns_record.specs.CharStrs.{charstr_wire};
 ghost use Rattle.dns_rdata.specs.Data.{type_number};
 ghost use Rattle.dns_message.specs.Seen.{data_seen};
 ghost use Rattle.dns_canon.specs.Generated.{generated_owner, generated_server, generated_exchange, generated_string, generated_type, generated_content, made_line};
 ghost use Rattle.dns_canon.specs.Making.{HasMade};
+ghost use Rattle.dns_canon.specs.declared.words.TheConstants.{MOST_RECORDS};
 
-use crate::command::records_of;
+use crate::message::records_of;
 use crate::status::Status;
 use dns_basic::{Mx, Ns};
 use dns_message::{CanonicalRecord, HeaderFlags, MessageBuilder, collapsed};
@@ -23,10 +24,10 @@ use std::alloc::{AllocError, Global};
 /// The most octets of a message (RFC 1035 section 4.2.2).
 const MESSAGE_LIMIT: usize = 65_535;
 
-/// The line on the message of so many generated records, at most 1,000: how many records its canonical list has, how many octets
+/// The line on the message of that many generated records, at most 1,000: how many records its canonical list has, how many octets
 /// these have, and how many the message has, whose names are shared.
 pub(crate) fn make_text(alloc: Global, count: u16) -> Result<Vec<u8>, Status>
-    requires { count ≤ 1000 }
+    requires { count ≤ MOST_RECORDS }
     ensures ok { IfOk result (λ printed. printed.items ≡ made_line count) }
     ensures err { IfErr result (λ status. status ≡ Status.Memory) }
 {
@@ -49,8 +50,8 @@ pub(crate) fn make_text(alloc: Global, count: u16) -> Result<Vec<u8>, Status>
 
 /// The number of canonical octets of all the records.
 fn octets_in(records: &[&CanonicalRecord<'_>]) -> usize
-    requires { sum_by length (map (λ r. canon r.now) records.now) < 2 ^ 64 }
-    ensures { result ≡ sum_by length (map (λ r. canon r.now) records.now) }
+    requires { sum_by length (map (λ r. canonical_wire r.now) records.now) < 2 ^ 64 }
+    ensures { result ≡ sum_by length (map (λ r. canonical_wire r.now) records.now) }
 {
     records.iter().map(|found| found.size()).sum()
 }
@@ -61,7 +62,7 @@ fn push_records(
     builder: &mut MessageBuilder<'_>,
     count: u16,
 ) -> Result<(), AllocError>
-    requires few { count ≤ 1000 }
+    requires few { count ≤ MOST_RECORDS }
     requires none { HasMade 0 builder.old }
     ensures { OnOk result (HasMade count builder.new) }
 {
@@ -77,7 +78,7 @@ fn push_record(
     builder: &mut MessageBuilder<'_>,
     index: u16,
 ) -> Result<(), AllocError>
-    requires few { index < 1000 }
+    requires few { index < MOST_RECORDS }
     requires before { HasMade index builder.old }
     ensures { OnOk result (HasMade (index + 1) builder.new) }
 {
@@ -113,7 +114,7 @@ fn push_answer(
     owner: NameBuf,
     rdata: RecordData<'_, NameBuf>,
 )
-    requires few { index < 1000 }
+    requires few { index < MOST_RECORDS }
     requires before { HasMade index builder.old }
     requires owner { owner ≡ generated_owner index }
     requires rtype { type_number rdata ≡ generated_type (index % 4) }

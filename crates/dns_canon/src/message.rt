@@ -2,23 +2,26 @@
 
 ghost use Rattle.std.specs.Prelude.{◌≡◌, List, IfOk, IfErr, filter};
 ghost use Rattle.dns_canon.specs.Refusals.{RefusedOrMemory};
-ghost use Rattle.dns_message.specs.Canonical.{is_kept};
-ghost use Rattle.dns_message.specs.Messages.{Rec, Valid};
+ghost use Rattle.dns_canon.specs.Statuses.{canon_status};
+ghost use Rattle.dns_canon.specs.declared.error.CanonError.{CanonError};
+ghost use Rattle.dns_message.specs.Canonical.{is_not_opt};
+ghost use Rattle.dns_message.specs.Messages.{RecordValue, Valid};
 
 use crate::error::CanonError;
+use crate::status::Status;
 use dns_message::{CanonicalRecord, MessageParser};
 use std::alloc::Global;
 
-/// The fewest octets of a record: a root, and ten octets behind it (RFC 1035 section 3.2.1).
+/// The fewest octets of a record: a root, and ten octets after it (RFC 1035 section 3.2.1).
 const FEWEST_OCTETS: usize = 11;
 
-/// Reads a whole message, and keeps its records but those of type OPT, in the message's order. Their data are lent by the
+/// Reads a whole message, and keeps its records but those of type OPT, in the message's order. Their data are borrowed by the
 /// message, and memory is taken once, for as many as the header counts and the contents can hold.
 pub(crate) fn read_records(
     alloc: Global,
     message: &[u8],
 ) -> Result<Vec<CanonicalRecord<'_>>, CanonError>
-    ensures read { IfOk result (λ records. (rs : List Rec) × Valid message.now rs × (records.items ≡ filter is_kept rs)) }
+    ensures read { IfOk result (λ records. (rs : List RecordValue) × Valid message.now rs × (records.items ≡ filter is_not_opt rs)) }
     ensures refused { IfErr result (RefusedOrMemory message.now) }
 {
     let Ok(mut parser) = MessageParser::new(message) else {
@@ -40,4 +43,19 @@ pub(crate) fn read_records(
         }
     }
     Ok(records)
+}
+
+/// The records of the message of this number.
+pub(crate) fn records_of(
+    alloc: Global,
+    octets: &[u8],
+    message: u8,
+) -> Result<Vec<CanonicalRecord<'_>>, Status>
+    ensures ok { IfOk result (λ records. (rs : List RecordValue) × Valid octets.now rs × (records.items ≡ filter is_not_opt rs)) }
+    ensures err { IfErr result (λ status. (error : CanonError) × RefusedOrMemory octets.now error × (status ≡ canon_status message error)) }
+{
+    match read_records(alloc, octets) {
+        Ok(records) => Ok(records),
+        Err(error) => Err(Status::of_message(message, error)),
+    }
 }

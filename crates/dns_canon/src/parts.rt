@@ -5,7 +5,7 @@ ghost use Rattle.dns_canon.specs.Parts.{first_text, second_text};
 
 use dns_text::trimmed;
 
-/// The texts of two messages in a text, which stand before and behind its first LF; blanks at its end do
+/// The texts of two messages in a text, which stand before and after its first LF; blanks at its end do
 /// not count. Where there is no LF, the second is empty.
 pub(crate) fn parted(text: &[u8]) -> (&[u8], &[u8])
     ensures first { result.0.now ≡ first_text text.now }

@@ -22,7 +22,7 @@ pub enum Command {
     Canon,
     /// `same`: whether two messages carry the same records.
     Same,
-    /// `make`: the sizes of a message of so many generated records, at most 1,000.
+    /// `make`: the sizes of a message of that many generated records, at most 1,000.
     Make { count: u16 },
 }
 
@@ -38,7 +38,7 @@ impl Command {
         }
     }
 
-    /// The command of a word and the word behind it; none where they are no command.
+    /// The command of a word and the word after it; none where they are no command.
     fn numbered(word: &str, number: &str) -> Option<Command>
         ensures { result ≡ numbered_command word.now number.now }
     {
@@ -50,7 +50,7 @@ impl Command {
     }
 }
 
-/// How many records a word asks for: a number from 0 to 1,000 in decimal digits, without a sign or a zero in front.
+/// How many records a word asks for: a number from 0 to 1,000 in decimal digits, without a sign or a zero before.
 fn count_named(word: &str) -> Option<u16>
     ensures { result ≡ number_named word.now }
 {

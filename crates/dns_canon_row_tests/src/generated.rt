@@ -194,13 +194,13 @@ fn show_comparison(
     found: &Outcome,
 ) -> io::Result<()> {
     let (text, output) = (made.text.len(), found.output.len());
-    let verdict = if found.output == made.lines {
+    let outcome = if found.output == made.lines {
         "those of the rule"
     } else {
         "others"
     };
     show_ending(rt, name, found)?;
-    println!(rt; "a text of {text} digits, and lines of {output} octets: {verdict}")
+    println!(rt; "a text of {text} digits, and lines of {output} octets: {outcome}")
 }
 
 /// Prints the answer of `same` to a text and itself.

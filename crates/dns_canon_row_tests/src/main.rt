@@ -1,4 +1,4 @@
-//! Answers rows: each line of standard input is a row, and what `dns_canon::run` does for it is printed. A row is a
+//! Answers cases: each line of standard input is a case, and what `dns_canon::run` does for it is printed. A case is a
 //! kind, a name and the fields of the kind, with a blank between two. A line that begins with a number sign is a
 //! comment.
 #![tactic(auto)]
@@ -55,9 +55,9 @@ fn show_pair(
     show_same(rt, alloc, "the other way round", second, first)
 }
 
-/// Prints what a row asks for.
-fn show_row(rt: &impl Print, alloc: Global, row: &str) -> io::Result<()> {
-    let mut fields = row.split(' ');
+/// Prints what a case asks for.
+fn show_case(rt: &impl Print, alloc: Global, case: &str) -> io::Result<()> {
+    let mut fields = case.split(' ');
     let kind = fields.next().unwrap_or("");
     let name = fields.next().unwrap_or("");
     let first = fields.next().unwrap_or("");
@@ -77,10 +77,10 @@ fn show_row(rt: &impl Print, alloc: Global, row: &str) -> io::Result<()> {
 
 fn main(rt: HostRuntime) -> io::Result<()> {
     let alloc = rt.alloc();
-    for row in BufReader::new(alloc, rt.reader())?.lines(alloc) {
-        let row = row?;
-        if !row.is_empty() && !row.starts_with('#') {
-            show_row(&rt, alloc, row.as_str())?;
+    for case in BufReader::new(alloc, rt.reader())?.lines(alloc) {
+        let case = case?;
+        if !case.is_empty() && !case.starts_with('#') {
+            show_case(&rt, alloc, case.as_str())?;
         }
     }
     Ok(())

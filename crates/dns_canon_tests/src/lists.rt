@@ -1,7 +1,7 @@
 //! Canonical lists of messages, as values.
 
 use dns_canon::{
-    CanonError, answers_on_sameness, canonicalise, parted_texts, verdicts_in_words,
+    CanonError, answers_on_sameness, canonicalise, expected_statuses_in_words, parted_texts,
     words_of_commands,
 };
 use std::alloc::Global;
@@ -60,6 +60,33 @@ fn lists_canonical_octets(rt: HostRuntime) {
     assert!(rt; has_at(rt.alloc(), ADDRESS, 1, None), "after the last");
 }
 
+/// The message of the most records: 5,956 of 11 octets, one of each class from 0 on.
+fn most_records() -> [u8; 65_528] {
+    let mut message = [0; 65_528];
+    message[6] = 0x17;
+    message[7] = 0x44;
+    for index in 0..5_956 {
+        message[13 + 11 * index] = 0xff;
+        message[15 + 11 * index] = (index / 256) as u8;
+        message[16 + 11 * index] = (index % 256) as u8;
+    }
+    message
+}
+
+#[test]
+fn lists_the_most_records(rt: HostRuntime) {
+    let message = most_records();
+    let last = b"\0\xff\0\x17\x43\0\0\0\0\0\0".as_slice();
+    assert!(rt;
+        length_of(rt.alloc(), &message) == Some((5_956, false)),
+        "all records"
+    );
+    assert!(rt;
+        has_at(rt.alloc(), &message, 5_955, Some(last)),
+        "the greatest class"
+    );
+}
+
 #[test]
 fn refuses_messages(rt: HostRuntime) {
     let item = CanonError::Item {
@@ -96,7 +123,7 @@ fn compares_canonical_lists(rt: HostRuntime) {
 /// Each theorem is called.
 #[test]
 fn states_theorems() {
-    verdicts_in_words();
+    expected_statuses_in_words();
     words_of_commands();
     answers_on_sameness();
     parted_texts();

@@ -4,7 +4,7 @@ use dns_name::{Name, NameBuf};
 use dns_record::{QClass, QType, Question, RClass, RType, Record, TTL, UnparsedRecordData};
 use dns_wire::{BuildBytes, SplitBytes, SplitMessageBytes};
 
-/// The value at the front of octets, and the rest.
+/// The value at the start of octets, and the rest.
 fn split<'a, T: SplitBytes<'a>>(octets: &'a [u8]) -> Option<(T, &'a [u8])> {
     T::split_bytes(octets).ok()
 }
@@ -14,7 +14,7 @@ fn split_at<'a, T: SplitMessageBytes<'a>>(contents: &'a [u8], start: usize) -> O
     T::split_message_bytes(contents, start).ok()
 }
 
-/// Whether a value is written as the octets, to the front of twenty.
+/// Whether a value is written as the octets, to the prefix of twenty.
 fn writes<T: BuildBytes>(value: &T, octets: &[u8]) -> bool {
     let mut buffer = [0; 20];
     let left = match value.build_bytes(&mut buffer) {
@@ -82,7 +82,7 @@ fn splits_record(octets: &[u8], owner: &[u8], rest: &[u8]) -> bool {
     }
 }
 
-/// Whether a record at the front is written again as the octets.
+/// Whether a record at the start is written again as the octets.
 fn rewrites_record(octets: &[u8], wanted: &[u8]) -> bool {
     match split::<Record<Name<'_>, UnparsedRecordData<'_>>>(octets) {
         Some((record, _)) => writes(&record, wanted),

@@ -1,13 +1,13 @@
 //! Codes and printed texts of statuses, commands and limits.
 
 use crate::answers::words_of;
-use dns_canon::{Command, LIMIT, LIMIT_OF_TWO, MOST_RECORDS, PIECE, Status};
+use dns_canon::{Command, LIMIT, LIMIT_OF_TWO, MOST_RECORDS, READ_CHUNK, Status};
 use std::alloc::Global;
 
 #[test]
 fn ends_with_a_code(rt: HostRuntime) {
     let (message, section, index) = (0, 0, 0);
-    let rows = [
+    let cases = [
         (Status::Done, 0),
         (Status::Short { message }, 1),
         (
@@ -25,7 +25,7 @@ fn ends_with_a_code(rt: HostRuntime) {
         (Status::WriteFault, 7),
         (Status::Memory, 8),
     ];
-    for (status, code) in rows {
+    for (status, code) in cases {
         assert!(rt; status.code() == code, "{code}");
     }
 }
@@ -40,19 +40,19 @@ fn command_of(alloc: Global, line: &str) -> Option<Command> {
 
 #[test]
 fn words_name_commands(rt: HostRuntime) {
-    let rows = [
+    let cases = [
         ("canon", Some(Command::Canon)),
         ("same", Some(Command::Same)),
         ("make 1000", Some(Command::Make { count: 1000 })),
         ("canonical", None),
     ];
-    for (line, command) in rows {
+    for (line, command) in cases {
         assert!(rt; command_of(rt.alloc(), line) == command, "{line}");
     }
 }
 
 #[test]
 fn keeps_limits(rt: HostRuntime) {
-    let limits = (LIMIT, LIMIT_OF_TWO, usize::from(MOST_RECORDS), PIECE);
+    let limits = (LIMIT, LIMIT_OF_TWO, usize::from(MOST_RECORDS), READ_CHUNK);
     assert!(rt; limits == (131_072, 262_144, 1000, 4096), "limits");
 }

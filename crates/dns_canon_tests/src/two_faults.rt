@@ -8,7 +8,7 @@ use dns_canon::Status;
 /// the answer.
 #[test]
 fn the_first_of_two_faults_is_reported(rt: HostRuntime) {
-    let rows: [(&str, &str, [u64; 3], Status, &[u8]); 6] = [
+    let cases: [(&str, &str, [u64; 3], Status, &[u8]); 6] = [
         (
             "canon",
             "0g",
@@ -46,7 +46,7 @@ fn the_first_of_two_faults_is_reported(rt: HostRuntime) {
         ),
         ("make 1001", "", [0, 0, NEVER], Status::Usage, b"usage\n"),
     ];
-    for (line, text, failing, status, note) in rows {
+    for (line, text, failing, status, note) in cases {
         let devices = Devices::failing_at([7, 7, 64], failing);
         let wanted: Wanted<'_> = (status, b"", note);
         assert!(rt;

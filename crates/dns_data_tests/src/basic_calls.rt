@@ -58,7 +58,7 @@ pub(crate) fn parses_as<'a, D: ParseRecordDataBytes<'a> + BuildBytes>(
     }
 }
 
-/// How many octets are left after the data at the front, which are written again as those before.
+/// How many octets are left after the data at the start, which are written again as those before.
 pub(crate) fn octets_left<'a, D: SplitBytes<'a> + BuildBytes>(octets: &'a [u8]) -> Option<usize> {
     match D::split_bytes(octets) {
         Ok((value, rest)) => {

@@ -100,7 +100,7 @@ fn is_window(size: u8, count: usize) -> bool {
 /// numbers do not rise.
 #[test]
 fn malformed_windows_are_refused(rt: HostRuntime) {
-    let rows: [&[u8]; 9] = [
+    let cases: [&[u8]; 9] = [
         b"\0",
         b"\0\0",
         b"\0\x01",
@@ -111,7 +111,7 @@ fn malformed_windows_are_refused(rt: HostRuntime) {
         b"\0\x01\x40\0\x01\x40",
         b"\x01\x01\x40\0\x01\x40",
     ];
-    for octets in rows {
+    for octets in cases {
         assert!(rt; !is_bitmap(octets), "{octets:?}");
     }
     holds(&rt, is_window(32, 32), "32 octets");

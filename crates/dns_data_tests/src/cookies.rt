@@ -49,12 +49,12 @@ struct Exchange {
 }
 
 /// The cookie that is given to the client.
-fn given(row: &Exchange) -> Option<[u8; 24]> {
+fn given(case: &Exchange) -> Option<[u8; 24]> {
     let mut octets = [0; 24];
-    let client = ClientCookie::from(row.client);
-    let now = Serial::new(row.time);
+    let client = ClientCookie::from(case.client);
+    let now = Serial::new(case.time);
     let is_given = client
-        .respond_into(row.address, &row.secret, now, &SipHash, &mut octets)
+        .respond_into(case.address, &case.secret, now, &SipHash, &mut octets)
         .is_ok();
     is_given.then_some(octets)
 }
@@ -76,27 +76,27 @@ fn takes(octets: &[u8], address: Address, secret: &[u8; 16], from: u32, until: u
 }
 
 /// Whether the cookie that is given ends with the hash, and is taken at its address and under its secret alone.
-fn gives(row: &Exchange) -> bool {
-    let Some(octets) = given(row) else {
+fn gives(case: &Exchange) -> bool {
+    let Some(octets) = given(case) else {
         return false;
     };
-    let (from, until) = (row.time, row.time.wrapping_add(1));
-    octets.starts_with(&row.client)
-        && octets.ends_with(&row.hash)
-        && takes(&octets, row.address, &row.secret, from, until)
-        && !takes(&octets, ELSEWHERE, &row.secret, from, until)
-        && !takes(&octets, row.address, &[0; 16], from, until)
+    let (from, until) = (case.time, case.time.wrapping_add(1));
+    octets.starts_with(&case.client)
+        && octets.ends_with(&case.hash)
+        && takes(&octets, case.address, &case.secret, from, until)
+        && !takes(&octets, ELSEWHERE, &case.secret, from, until)
+        && !takes(&octets, case.address, &[0; 16], from, until)
 }
 
 /// Whether the cookie that is given at its moment is taken this number of seconds later, for one second.
-fn takes_later(row: &Exchange, later: u32) -> bool {
-    let client = ClientCookie::from(row.client);
-    let from = row.time.wrapping_add(later);
+fn takes_later(case: &Exchange, later: u32) -> bool {
+    let client = ClientCookie::from(case.client);
+    let from = case.time.wrapping_add(later);
     takes_what_it_gives(
         client,
-        row.address,
-        &row.secret,
-        Serial::new(row.time),
+        case.address,
+        &case.secret,
+        Serial::new(case.time),
         Serial::new(from),
         Serial::new(from.wrapping_add(1)),
         &SipHash,

@@ -48,7 +48,7 @@ fn leaves(octets: &[u8], rest: &[u8]) -> bool {
 /// with these codes and octets; they know no lengths of cookies.
 #[test]
 fn opt_data_are_iterated(rt: HostRuntime) {
-    let rows: [(&[u8], &[u8]); 6] = [
+    let cases: [(&[u8], &[u8]); 6] = [
         (b"", b""),
         (b"\0\x03\0\x02ns", b"o"),
         (b"\0\0\0\0", b"o"),
@@ -59,7 +59,7 @@ fn opt_data_are_iterated(rt: HostRuntime) {
         ),
         (b"\0\x0f\0\x03\0\0A\0\x0a\0\x0812345678\xff\xfe\0\0", b"eco"),
     ];
-    for (octets, letters) in rows {
+    for (octets, letters) in cases {
         assert!(rt; has_options(octets, letters), "{octets:?}");
     }
     let cookie = b"\0\x0a\0\x01\0\0\x0f\0\x03\0\0A";
@@ -70,7 +70,7 @@ fn opt_data_are_iterated(rt: HostRuntime) {
 /// Cookies of 8 octets and of 16 to 40 octets suit their code (RFC 7873 section 4).
 #[test]
 fn cookies_suit_by_their_length(rt: HostRuntime) {
-    let rows: [(&[u8], &[u8]); 4] = [
+    let cases: [(&[u8], &[u8]); 4] = [
         (b"\0\x0a\0\x08\x24\x64\xc4\xab\xcf\x10\xc9\x57", b"c"),
         (b"\0\x0a\0\x10123456789abcdefg", b"s"),
         (
@@ -82,7 +82,7 @@ fn cookies_suit_by_their_length(rt: HostRuntime) {
             b"-",
         ),
     ];
-    for (octets, letters) in rows {
+    for (octets, letters) in cases {
         assert!(rt; has_options(octets, letters), "{octets:?}");
     }
     holds(&rt, has_options(b"\0\x0a\0\0", b"-"), "no octets");
@@ -94,7 +94,7 @@ fn cookies_suit_by_their_length(rt: HostRuntime) {
 /// whole record.
 #[test]
 fn extended_errors_suit(rt: HostRuntime) {
-    let rows: [(&[u8], &[u8]); 7] = [
+    let cases: [(&[u8], &[u8]); 7] = [
         (b"\0\x0a\0\x09\x24\x64\xc4\xab\xcf\x10\xc9\x57\0", b"-"),
         (b"\0\x0a\0\x0f123456789abcdef", b"-"),
         (b"\0\x0f\0\x02\0\0", b"e"),
@@ -103,7 +103,7 @@ fn extended_errors_suit(rt: HostRuntime) {
         (b"\0\x0f\0\x01\0", b"-"),
         (b"\0\x0f\0\x03\0\0\xff", b"-"),
     ];
-    for (octets, letters) in rows {
+    for (octets, letters) in cases {
         assert!(rt; has_options(octets, letters), "{octets:?}");
     }
 }
@@ -116,7 +116,7 @@ fn are_options(octets: &[u8]) -> (bool, bool) {
 /// Neither dnspython 2.3.0 nor ldns 1.8.3 reads these.
 #[test]
 fn malformed_options_are_refused(rt: HostRuntime) {
-    let rows: [&[u8]; 6] = [
+    let cases: [&[u8]; 6] = [
         b"\0",
         b"\0\0\0",
         b"\0\x03\0\0\0",
@@ -124,7 +124,7 @@ fn malformed_options_are_refused(rt: HostRuntime) {
         b"\0\x03\0\x03\xaa\xaa",
         b"\0\x0a\0\x0812345678\0\x0f\0\x03\0\0A\0\x03\0\x02\xaa",
     ];
-    for octets in rows {
+    for octets in cases {
         assert!(rt; are_options(octets) == (false, false), "{octets:?}");
     }
     holds(
@@ -201,7 +201,7 @@ fn equals_options(octets: &[u8], letters: [u8; 3], count: usize) -> bool {
 #[test]
 fn opt_data_are_compared_with_options(rt: HostRuntime) {
     let both: &[u8] = b"\0\x0f\0\x03\0\0A\0\x03\0\x02ns";
-    let rows: [(&[u8], &[u8; 3], usize, bool); 6] = [
+    let cases: [(&[u8], &[u8; 3], usize, bool); 6] = [
         (both, b"eo.", 2, true),
         (both, b"oe.", 2, false),
         (both, b"e..", 1, false),
@@ -209,7 +209,7 @@ fn opt_data_are_compared_with_options(rt: HostRuntime) {
         (b"", b"...", 0, true),
         (b"\0\x0a\0\x01\0", b"...", 1, false),
     ];
-    for (octets, letters, count, wanted) in rows {
+    for (octets, letters, count, wanted) in cases {
         assert!(rt;
             equals_options(octets, *letters, count) == wanted,
             "{letters:?} {count}"
@@ -224,12 +224,12 @@ fn is_empty() -> bool {
 
 /// Whether the octets of OPT data, and of option data that are kept, are the same.
 fn keeps_octets(octets: &[u8]) -> bool {
-    let is_kept = match UnknownOptionData::parse_bytes(octets) {
+    let is_not_opt = match UnknownOptionData::parse_bytes(octets) {
         Ok(data) => data.as_bytes() == octets,
         Err(_) => false,
     };
     match Opt::parse_bytes(octets) {
-        Ok(opt) => is_kept && opt.as_bytes() == octets,
+        Ok(opt) => is_not_opt && opt.as_bytes() == octets,
         Err(_) => false,
     }
 }
@@ -266,13 +266,13 @@ fn writes_unparsed(content: &[u8], octets: &[u8]) -> bool {
 /// The octets are those that dnspython 2.3.0 writes for the same options.
 #[test]
 fn options_are_written(rt: HostRuntime) {
-    let rows: [&[u8]; 4] = [
+    let cases: [&[u8]; 4] = [
         b"\0\x0a\0\x0812345678",
         b"\0\x0a\0\x10123456789abcdefg",
         b"\0\x0f\0\x03\0\x18A",
         b"\0\x03\0\x02ns",
     ];
-    for octets in rows {
+    for octets in cases {
         assert!(rt; rewrites_option(octets), "{octets:?}");
     }
     holds(&rt, writes(&option(b'o'), b"\0\x03\0\x02ns"), "made");

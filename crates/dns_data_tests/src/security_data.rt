@@ -87,13 +87,13 @@ fn reads_no_less(kind: &str, contents: &[u8], number: u16) -> bool {
 #[test]
 fn least_data_are_read(rt: HostRuntime) {
     let signature: &[u8] = b".\0\x01\x05\x03\0\x01\x51\x80\0\0\0\x02\0\0\0\x01\x0a\x52\x01a\0";
-    let rows: [(&str, u16, &[u8]); 4] = [
+    let cases: [(&str, u16, &[u8]); 4] = [
         ("RRSIG", 46, signature),
         ("ZONEMD of two octets", 63, b".\0\0\0\x01\x01\x01ab"),
         ("NSEC", 47, b".\x01a\0\0\x02\0\x08"),
         ("NSEC3", 50, b".\x01\0\0\0\0\0"),
     ];
-    for (kind, number, contents) in rows {
+    for (kind, number, contents) in cases {
         assert!(rt; reads_no_less(kind, contents, number), "{kind}");
     }
 }
@@ -104,7 +104,7 @@ fn least_data_are_read(rt: HostRuntime) {
 fn malformed_data_are_refused(rt: HostRuntime) {
     let pointed: &[u8] = b"\x01a\0\0\x01\x05\x03\0\x01\x51\x80\0\0\0\x02\0\0\0\x01\x0a\x52\xc0\x0c";
     let cut: &[u8] = &HASHED[..38];
-    let rows: [(&str, u16, &[u8], usize); 8] = [
+    let cases: [(&str, u16, &[u8], usize); 8] = [
         ("ZONEMD of two octets", 63, b"\0\0\0\x01\x01\x01abc", 0),
         ("RRSIG", 46, pointed, 3),
         ("OPT", 41, b"\0\x03\0\x03\xaa\xaa", 0),
@@ -114,7 +114,7 @@ fn malformed_data_are_refused(rt: HostRuntime) {
         ("NSEC3", 50, b"\x01\0\0\0\0\0\0", 0),
         ("NSEC3", 50, cut, 0),
     ];
-    for (kind, number, contents, start) in rows {
+    for (kind, number, contents, start) in cases {
         assert!(rt;
             read_forms(kind, contents, start, number) == [false; 4],
             "{kind} at {start}"
@@ -125,13 +125,13 @@ fn malformed_data_are_refused(rt: HostRuntime) {
 /// OPT data, which may be empty, are read from the place on, but not after the end.
 #[test]
 fn opt_data_are_read(rt: HostRuntime) {
-    let rows: [(u16, &[u8], usize, [bool; 4]); 4] = [
+    let cases: [(u16, &[u8], usize, [bool; 4]); 4] = [
         (41, b"..\0\x03\0\x02ns", 2, [true; 4]),
         (16, b"..\0\x03\0\x02ns", 2, [true, true, false, false]),
         (41, b"..", 2, [true; 4]),
         (41, b"..", 3, [true, false, true, false]),
     ];
-    for (number, contents, start, wanted) in rows {
+    for (number, contents, start, wanted) in cases {
         assert!(rt;
             read_forms("OPT", contents, start, number) == wanted,
             "{number} at {start}"
@@ -160,7 +160,7 @@ fn rewrites_kind(kind: &str, octets: &[u8], canonical: &[u8]) -> bool {
 #[test]
 fn data_are_written(rt: HostRuntime) {
     let option: &[u8] = b"\0\x03\0\x02ns";
-    let rows: [(&str, &[u8], &[u8]); 11] = [
+    let cases: [(&str, &[u8], &[u8]); 11] = [
         ("DS", DIGEST, DIGEST),
         ("DNSKEY", KEY, KEY),
         ("CDS", CHILD_DIGEST, CHILD_DIGEST),
@@ -173,7 +173,7 @@ fn data_are_written(rt: HostRuntime) {
         ("NSEC3PARAM", PARAMETERS, PARAMETERS),
         ("OPT", option, option),
     ];
-    for (kind, octets, canonical) in rows {
+    for (kind, octets, canonical) in cases {
         assert!(rt; rewrites_kind(kind, octets, canonical), "{kind}");
     }
 }

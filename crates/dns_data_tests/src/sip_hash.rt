@@ -114,13 +114,13 @@ fn hashes(key: &[u8; 16], input: &[u8]) -> [u8; 8] {
 #[test]
 fn sip_hash_is_that_of_its_paper(rt: HostRuntime) {
     let key = *b"\0\x01\x02\x03\x04\x05\x06\x07\x08\x09\x0a\x0b\x0c\x0d\x0e\x0f";
-    let rows: [(&[u8], [u8; 8]); 4] = [
+    let cases: [(&[u8], [u8; 8]); 4] = [
         (b"", *b"\x31\x0e\x0e\xdd\x47\xdb\x6f\x72"),
         (&key[..7], *b"\x37\xd1\x01\x8b\xf5\x00\x02\xab"),
         (&key[..8], *b"\x62\x24\x93\x9a\x79\xf5\xf5\x93"),
         (&key[..15], *b"\xe5\x45\xbe\x49\x61\xca\x29\xa1"),
     ];
-    for (input, hash) in rows {
+    for (input, hash) in cases {
         assert!(rt; hashes(&key, input) == hash, "{input:?}");
     }
 }

@@ -16,7 +16,7 @@ fn moment(stamp: u32, reference: u64) -> Option<u64> {
 /// The moments of this number, from 1970 on, that are nearest to the reference.
 #[test]
 fn moments_are_near_their_reference(rt: HostRuntime) {
-    let rows = [
+    let cases = [
         (1_048_354_263, 1_048_354_263, 1_048_354_263),
         (5, 4_294_967_295, 4_294_967_301),
         (4_294_967_295, 4_294_967_296, 4_294_967_295),
@@ -27,7 +27,7 @@ fn moments_are_near_their_reference(rt: HostRuntime) {
         (0, 2_147_483_648, 0),
         (0, 2_147_483_649, 4_294_967_296),
     ];
-    for (stamp, reference, wanted) in rows {
+    for (stamp, reference, wanted) in cases {
         assert!(rt;
             moment(stamp, reference) == Some(wanted),
             "{stamp} at {reference}"
@@ -48,13 +48,13 @@ fn are_equal(one: u32, other: u32) -> bool {
 /// As serial numbers (RFC 1982 section 3.2).
 #[test]
 fn timestamps_are_compared_as_serial_numbers(rt: HostRuntime) {
-    let rows = [
+    let cases = [
         (0, 4_294_967_295, Some(Ordering::Greater)),
         (4_294_967_295, 0, Some(Ordering::Less)),
         (0, 2_147_483_648, None),
         (0, 0, Some(Ordering::Equal)),
     ];
-    for (one, other, wanted) in rows {
+    for (one, other, wanted) in cases {
         assert!(rt; order(one, other) == wanted, "{one} and {other}");
     }
     holds(&rt, are_equal(0, 0), "equal");

@@ -1,7 +1,7 @@
 //! The strings of TXT data, how many octets they may have, and when they are the same.
 
 use crate::basic_calls::read;
-use dns_plain::{Txt, strings_of_texts};
+use dns_plain::{Txt, strings_of_character_strings};
 use dns_record::{ParseRecordData, RType};
 use dns_wire::{ParseBytes, ParseMessageBytes};
 use std::alloc::Global;
@@ -38,10 +38,10 @@ fn strings_come_in_order(rt: HostRuntime) {
     assert!(rt; string_count(TEXTS) == Some(3), "a clone of the iterator");
     let wanted: [&[u8]; 3] = [b"Some Text", b"", b"B"];
     assert!(rt; goes_over(TEXTS, wanted), "the strings");
-    strings_of_texts();
+    strings_of_character_strings();
 }
 
-/// Whether so many empty strings are data, and one fewer from the second octet of a message on.
+/// Whether that many empty strings are data, and one fewer from the second octet of a message on.
 fn reads_empty_strings(alloc: Global, count: usize) -> Option<[bool; 3]> {
     match vec![in alloc; 0u8; count] {
         Ok(octets) => Some([

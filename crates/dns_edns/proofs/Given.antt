@@ -28,14 +28,14 @@ module _ (client : List ℕ) (time : ℕ) (hashed : List ℕ) (long : length cli
 
 pub taken : (hash : List ℕ → List ℕ) (client : List ℕ) (time : ℕ) (address : List ℕ) (from until : ℕ) → length client ≡ 8 → time < 2 ^ 32 → length (hash (unhashed client time ++ address)) ≡ 8 → IsWithin from until time → IsTaken hash address from until (response hash client time address)
 taken hash client time address from until long short eight within =
-    let front : List ℕ = unhashed client time in
-    let hashed : List ℕ = hash (front ++ address) in
-    let behind : hash_in (front ++ hashed) ≡ hashed = drop_at front hashed 16 (sixteen client time hashed long) in
+    let prefix : List ℕ = unhashed client time in
+    let hashed : List ℕ = hash (prefix ++ address) in
+    let trailing : hash_in (prefix ++ hashed) ≡ hashed = drop_at prefix hashed 16 (sixteen client time hashed long) in
     record {
       version = version client time hashed long;
-      size = ap length behind ∙ eight;
+      size = ap length trailing ∙ eight;
       moment = subst (λ (t : ℕ). IsWithin from until t) (sym (timestamp client time hashed long short)) within;
-      hashed = ap (λ (l : List ℕ). hash (l ++ address)) (take_at front hashed 16 (sixteen client time hashed long)) ∙ sym behind;
+      hashed = ap (λ (l : List ℕ). hash (l ++ address)) (take_at prefix hashed 16 (sixteen client time hashed long)) ∙ sym trailing;
     }
 
 -- where a cookie has the octets of one that was given, it is taken exactly within the time

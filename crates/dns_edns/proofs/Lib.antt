@@ -1,8 +1,8 @@
 -- The crate's own lemmas.
-pub mod Bits
-mod Counted
+pub mod FlagBits
+mod CountedOptions
 pub mod Fronts
 pub mod Given
 mod Items
-mod Matching
-pub mod Texts
+mod MatchingOptions
+pub mod TrimmedTexts

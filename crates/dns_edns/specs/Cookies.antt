@@ -8,7 +8,7 @@ use Rattle.dns_record.specs.Serials.{serial_cmp}
 abbrev pub cookie : List ℕ → Option (List ℕ × List ℕ)
 cookie bytes = if nat_lt (length bytes) 16 || nat_lt 40 (length bytes) then None else Some (bytes, [])
 
--- the client cookie in front
+-- the client cookie before
 abbrev pub request_in : List ℕ → List ℕ
 request_in octets = take 8 octets
 
@@ -20,17 +20,17 @@ version_in octets = slice_index octets 8
 abbrev pub timestamp_in : List ℕ → ℕ
 timestamp_in octets = from_be_bytes w32 (take 4 (drop 12 octets))
 
--- the hash behind it
+-- the hash after it
 abbrev pub hash_in : List ℕ → List ℕ
 hash_in octets = drop 16 octets
 
 -- ---- what a server gives and takes (RFC 9018 section 4)
 
--- what stands in front of the hash: the cookie of the client, version 1, three zeros and the time
+-- what stands before the hash: the cookie of the client, version 1, three zeros and the time
 abbrev pub unhashed : List ℕ → ℕ → List ℕ
 unhashed client time = client ++ 1 ∷ 0 ∷ 0 ∷ 0 ∷ to_be_bytes w32 time
 
--- the cookie that a server gives to an address: the hash is that of the octets in front, and of the address
+-- the cookie that a server gives to an address: the hash is that of the octets before, and of the address
 abbrev pub response : (List ℕ → List ℕ) → List ℕ → ℕ → List ℕ → List ℕ
 response hash client time address = unhashed client time ++ hash (unhashed client time ++ address)
 

@@ -6,7 +6,7 @@ use Rattle.dns_wire.specs.Steps.{◌>>=◌}
 use Rattle.dns_wire.specs.Texts.{text}
 use Rattle.dns_edns.specs.declared.ext_error.ExtError.{ExtError}
 
--- a code, and a text of all the octets behind it
+-- a code, and a text of all the octets after it
 abbrev pub ext_error : List ℕ → Option ((ℕ × List ℕ) × List ℕ)
 ext_error bytes = do
   code ← number w16 bytes

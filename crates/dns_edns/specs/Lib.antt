@@ -1,14 +1,14 @@
 -- What the contracts of EDNS cite.
 pub mod Addresses
 pub mod Cookies
-pub mod CookiesLeft
+pub mod CookiesLemmas
 pub mod Digits
 pub mod ExtErrors
-pub mod ExtErrorsLeft
+pub mod ExtErrorsLemmas
 pub mod Flags
-pub mod Left
+pub mod OptionsLemmas
 pub mod Options
 pub mod Seen
 pub mod Suiting
-pub mod SuitingLeft
+pub mod SuitingLemmas
 pub mod Types

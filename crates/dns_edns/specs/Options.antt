@@ -7,6 +7,6 @@ use Rattle.dns_num.specs.Prefixed.{sized}
 abbrev pub everything : List ℕ → Option (List ℕ × List ℕ)
 everything bytes = Some (bytes, [])
 
--- the octets of an option: its code, and its data behind their size
+-- the octets of an option: its code, and its data after their size
 abbrev pub option_octets : ℕ → List ℕ → List ℕ
 option_octets code content = to_be_bytes w16 code ++ sized w16 content

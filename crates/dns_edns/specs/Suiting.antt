@@ -31,7 +31,7 @@ suited code content =
     else if code == 15 then option_map OfError (all_of (ext_error content))
     else Some (OfOther code content)
 
--- an option whose data suit its code, in front
+-- an option whose data suit its code, before
 abbrev pub suited_option : List ℕ → Option (Suited × List ℕ)
 suited_option bytes = do
   found ← option bytes
@@ -73,7 +73,7 @@ abbrev pub then_options : (List ℕ → List OptionSeen) → Option (OptionSeen 
 then_options more None = []
 then_options more (Some (found, rest)) = found ∷ more rest
 
--- the options at the front, one after another, of which at most so many are read
+-- the options at the start, one after another, of which at most that many are read
 unfoldable pub options_up_to : ℕ → List ℕ → List OptionSeen
 options_up_to zero bytes = []
 options_up_to (suc steps) bytes = then_options (λ more. options_up_to steps more) (option bytes)

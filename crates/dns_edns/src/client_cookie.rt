@@ -1,6 +1,6 @@
 //! Cookies of clients.
 
-ghost use Rattle.dns_wire.specs.Left.{octets_leave, plain_ends};
+ghost use Rattle.dns_wire.specs.ReadingLemmas.{octets_leave, plain_ends};
 ghost use Rattle.std.specs.Prelude.{◌≡◌, ◌≤◌, ◌<◌, ℕ, List, [], length, drop, IfOk, OnOk, OnErr, Some, ⊤};
 ghost use Rattle.std.specs.List.{flat_map};
 ghost use Rattle.std.specs.Borrow.{sem};
@@ -27,7 +27,7 @@ pub struct ClientCookie {
 impl ClientCookie {
     /// Writes the cookie that a server gives for this one at a place of the buffer, and gives the place where it ends:
     /// 24 octets, which are this cookie, version 1, three zeros, the moment, the most significant octet first, and the
-    /// hash of these 16 octets with those of the address behind them (RFC 9018 section 4). `TruncationError` comes exactly
+    /// hash of these 16 octets with those of the address after them (RFC 9018 section 4). `TruncationError` comes exactly
     /// where fewer than 24 octets are free; those before the place are then as before.
     pub fn respond_at<H: KeyedHash>(
         &self,
@@ -47,7 +47,7 @@ impl ClientCookie {
     }
 
     /// Writes the cookie that a server gives for this one to the beginning of the buffer, as `respond_at` does. What
-    /// is behind its 24 octets is lent back as it was. `TruncationError` comes exactly where the buffer has fewer than 24
+    /// is after its 24 octets is borrowed back as it was. `TruncationError` comes exactly where the buffer has fewer than 24
     /// octets; what it holds then is open.
     pub fn respond_into<'b, H: KeyedHash>(
         &self,
@@ -92,23 +92,23 @@ impl ClientCookie {
     ) -> [u8; 24]
         ensures { result ≡ response (H.keyed hash.now secret.now) self.now.octets now.0.value (address_octets addr) }
     {
-        let front = self.unhashed(now);
-        let hashed = server_hash(&front, &addr, secret, hash);
+        let prefix = self.unhashed(now);
+        let hashed = server_hash(&prefix, &addr, secret, hash);
         let mut octets = [0; 24];
-        octets[..16].copy_from_slice(&front);
+        octets[..16].copy_from_slice(&prefix);
         octets[16..].copy_from_slice(&hashed);
         octets
     }
 
-    /// What stands in front of the hash of a server cookie.
+    /// What stands before the hash of a server cookie.
     fn unhashed(&self, now: Serial) -> [u8; 16]
         ensures { result ≡ unhashed self.now.octets now.0.value }
     {
-        let mut front = [0; 16];
-        front[..8].copy_from_slice(&self.octets);
+        let mut prefix = [0; 16];
+        prefix[..8].copy_from_slice(&self.octets);
         let time = now.get().to_be_bytes();
-        front[8..].copy_from_slice(&[1, 0, 0, 0, time[0], time[1], time[2], time[3]]);
-        front
+        prefix[8..].copy_from_slice(&[1, 0, 0, 0, time[0], time[1], time[2], time[3]]);
+        prefix
     }
 }
 

@@ -1,7 +1,7 @@
 //! Cookies of servers.
 
-ghost use Rattle.dns_wire.specs.Left.{plain_ends};
-ghost use Rattle.dns_edns.specs.CookiesLeft.{cookie_leaves};
+ghost use Rattle.dns_wire.specs.ReadingLemmas.{plain_ends};
+ghost use Rattle.dns_edns.specs.CookiesLemmas.{cookie_leaves};
 ghost use Rattle.std.specs.Prelude.{◌≡◌, ◌≤◌, ◌↔◌, ℕ, List, [], length, IsOk, IsErr, IsTrue, ⊤};
 ghost use Rattle.dns_wire.specs.Reading.{plain_at};
 ghost use Rattle.dns_edns.specs.Addresses.{address_octets};
@@ -15,7 +15,7 @@ use dns_record::Serial;
 use dns_wire::{BuildBytes, ParseBytes, ParseError, TruncationError, put};
 use std::cmp::Ordering;
 
-/// The cookie of a client, and that of a server behind it: 16 to 40 octets (RFC 7873 section 4.2). A server
+/// The cookie of a client, and that of a server after it: 16 to 40 octets (RFC 7873 section 4.2). A server
 /// cookie is a version, three octets that are reserved, the time when it was made, and a hash (RFC 9018
 /// section 4).
 #[derive(Clone, Copy, Debug, PartialEq, Eq, Hash)]
@@ -73,13 +73,13 @@ impl<'a> Cookie<'a> {
         ensures accepted { IsOk result ↔ IsTaken (H.keyed hash.now secret.now) (address_octets addr) from.0.value until.0.value (cookie_octets self.now) }
         ensures refused { IsErr result ↔ IsRefused (H.keyed hash.now secret.now) (address_octets addr) from.0.value until.0.value (cookie_octets self.now) }
     {
-        let Some((front, hashed)) = self.slice.split_first_chunk::<16>() else {
+        let Some((prefix, hashed)) = self.slice.split_first_chunk::<16>() else {
             return Err(CookieError);
         };
         if self.version() != 1 || hashed.len() != 8 || !self.is_within(from, until) {
             return Err(CookieError);
         }
-        if server_hash(front, &addr, secret, hash).as_slice() == hashed {
+        if server_hash(prefix, &addr, secret, hash).as_slice() == hashed {
             Ok(())
         } else {
             Err(CookieError)

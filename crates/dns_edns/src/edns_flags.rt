@@ -1,9 +1,9 @@
 //! The flags of an EDNS record.
 
-ghost use Rattle.dns_wire.specs.Left.{number_leaves};
+ghost use Rattle.dns_wire.specs.ReadingLemmas.{number_leaves};
 ghost use Rattle.std.specs.Prelude.{◌≡◌, ◌≢◌, ◌↔◌, ℕ, [], None, IsTrue, if◌then◌else◌, ⊤};
 ghost use Rattle.std.specs.Int.{w16, bit_at, to_be_bytes};
-ghost use Rattle.dns_wire.specs.Pieces.{whole_presses};
+ghost use Rattle.dns_wire.specs.Layout.{octets_writes};
 ghost use Rattle.dns_wire.specs.Reading.{number};
 ghost use Rattle.dns_edns.specs.Flags.{flag_bits};
 
@@ -37,9 +37,9 @@ impl EdnsFlags {
         self.bits.get() >> 15 & 1 == 1
     }
 
-    /// The flags with the bit DO as told. Every other bit stays.
+    /// The flags with the bit DO as given. Every other bit stays.
     pub fn set_dnssec_ok(self, value: bool) -> EdnsFlags
-        ensures told { bit_at (flag_bits result) 15 ≡ (if value then 1 else 0) }
+        ensures set { bit_at (flag_bits result) 15 ≡ (if value then 1 else 0) }
         ensures others { (i : ℕ) → i ≢ 15 → bit_at (flag_bits result) i ≡ bit_at (flag_bits self) i }
     {
         if value {
@@ -83,9 +83,9 @@ impl BuildBytes for EdnsFlags {
 
 /// Whole, with no name in it.
 impl BuildInMessage for EdnsFlags {
-    ghost presses = { λ v. whole_presses (to_be_bytes w16 (flag_bits v)) };
+    ghost writes = { λ v. octets_writes (to_be_bytes w16 (flag_bits v)) };
 
-    ghost told = { λ _. tt };
+    ghost layout_matches = { λ _. tt };
 
     fn build_in_message(
         &self,

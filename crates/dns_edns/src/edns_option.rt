@@ -1,7 +1,7 @@
 //! Options.
 
-ghost use Rattle.dns_wire.specs.Left.{plain_ends};
-ghost use Rattle.dns_edns.specs.SuitingLeft.{suited_option_leaves};
+ghost use Rattle.dns_wire.specs.ReadingLemmas.{plain_ends};
+ghost use Rattle.dns_edns.specs.SuitingLemmas.{suited_option_leaves};
 ghost use Rattle.std.specs.Prelude.{◌≡◌, ◌↔◌, ◌≤◌, ◌<◌, ◌^◌, [], length, Ok, IsTrue};
 ghost use Rattle.dns_wire.specs.Building.{Builds};
 ghost use Rattle.dns_wire.specs.Reading.{Gives, plain_at};
@@ -115,7 +115,7 @@ impl<'a> SplitBytes<'a> for EdnsOption<'a> {
     }
 }
 
-/// Writes the code, and the data behind their size.
+/// Writes the code, and the data after their size.
 fn build_option<T: BuildBytes>(
     code: OptionCode,
     content: &T,

@@ -1,7 +1,7 @@
 //! Extended errors.
 
-ghost use Rattle.dns_wire.specs.Left.{plain_ends};
-ghost use Rattle.dns_edns.specs.ExtErrorsLeft.{ext_error_leaves};
+ghost use Rattle.dns_wire.specs.ReadingLemmas.{plain_ends};
+ghost use Rattle.dns_edns.specs.ExtErrorsLemmas.{ext_error_leaves};
 ghost use Rattle.std.specs.Prelude.{◌≡◌, ◌↔◌, ℕ, List, [], ◌++◌, None, IfSome, ⊤};
 ghost use Rattle.std.specs.Int.{w16, to_be_bytes};
 ghost use Rattle.dns_wire.specs.Reading.{plain_at};
@@ -36,13 +36,13 @@ impl<'a> ExtError<'a> {
             return None;
         }
         match self.text.strip_suffix('\0') {
-            Some(front) => Some(front),
+            Some(prefix) => Some(prefix),
             None => Some(self.text),
         }
     }
 }
 
-/// `ParseError` comes exactly where there are fewer than two octets, or those behind them are not UTF-8.
+/// `ParseError` comes exactly where there are fewer than two octets, or those after them are not UTF-8.
 impl<'a> ParseBytes<'a> for ExtError<'a> {
     ghost Seen = { ℕ × List ℕ };
 

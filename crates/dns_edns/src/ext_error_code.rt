@@ -1,9 +1,9 @@
 //! Codes of extended errors.
 
-ghost use Rattle.dns_wire.specs.Left.{number_leaves};
+ghost use Rattle.dns_wire.specs.ReadingLemmas.{number_leaves};
 ghost use Rattle.std.specs.Prelude.{◌≡◌, ℕ, [], None, ⊤, ◌≤◌, ◌↔◌, IsTrue};
 ghost use Rattle.std.specs.Int.{w16, to_be_bytes};
-ghost use Rattle.dns_wire.specs.Pieces.{whole_presses};
+ghost use Rattle.dns_wire.specs.Layout.{octets_writes};
 ghost use Rattle.dns_wire.specs.Reading.{number};
 
 use dns_num::U16;
@@ -210,9 +210,9 @@ impl BuildBytes for ExtErrorCode {
 
 /// Whole, with no name in it.
 impl BuildInMessage for ExtErrorCode {
-    ghost presses = { λ v. whole_presses (to_be_bytes w16 v.code.value) };
+    ghost writes = { λ v. octets_writes (to_be_bytes w16 v.code.value) };
 
-    ghost told = { λ _. tt };
+    ghost layout_matches = { λ _. tt };
 
     fn build_in_message(
         &self,

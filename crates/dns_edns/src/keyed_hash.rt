@@ -15,20 +15,20 @@ pub trait KeyedHash {
         ensures { result ≡ keyed self.now secret.now input.now };
 }
 
-/// The hash of the 16 octets in front of a server cookie's hash, and of the client's address behind them (RFC
+/// The hash of the 16 octets before a server cookie's hash, and of the client's address after them (RFC
 /// 9018 section 4.4).
 pub(crate) fn server_hash<H: KeyedHash>(
-    front: &[u8; 16],
+    prefix: &[u8; 16],
     addr: &Address,
     secret: &[u8; 16],
     hash: &H,
 ) -> [u8; 8]
-    ensures { result ≡ H.keyed hash.now secret.now (front.now ++ address_octets addr.now) }
+    ensures { result ≡ H.keyed hash.now secret.now (prefix.now ++ address_octets addr.now) }
 {
     let octets = addr.octets();
     let end = 16 + octets.len();
     let mut input = [0; 32];
-    input[..16].copy_from_slice(front);
+    input[..16].copy_from_slice(prefix);
     input[16..end].copy_from_slice(octets);
     hash.hash(secret, &input[..end])
 }

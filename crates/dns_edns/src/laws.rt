@@ -1,8 +1,10 @@
 //! The definitions of this crate in other words.
 
-ghost use Rattle.std.specs.Prelude.{◌≡◌, ◌↔◌, ◌<◌, ◌^◌, ◌++◌, ℕ, List, Some, true, length, nat_eq, IsTrue, IsOk};
+ghost use Rattle.std.specs.Prelude.{◌≡◌, ◌↔◌, ◌<◌, ◌^◌, ◌++◌, ◌&&◌, bytes_eq, ℕ, List, Some, true, length, nat_eq, IsTrue, IsOk};
+ghost use Rattle.std.specs.Cmp.Lexicographic.{pointwise};
 ghost use Rattle.std.specs.Ordering.{nat_cmp};
-ghost use Rattle.dns_record.specs.Options.{is_options, options_of};
+ghost use Rattle.dns_record.specs.InPlace.{FilledBy};
+ghost use Rattle.dns_record.specs.Options.{OptionSeen, is_option_data, is_options, options_of};
 ghost use Rattle.dns_edns.specs.Cookies.{IsWithin, IsTaken, unhashed, response};
 ghost use Rattle.dns_edns.specs.Flags.{flag_bits};
 ghost use Rattle.dns_edns.specs.Suiting.{options_in, seen_option};
@@ -13,9 +15,12 @@ use crate::cookie::Cookie;
 use crate::edns_flags::EdnsFlags;
 use crate::edns_option::EdnsOption;
 use crate::error::CookieError;
+use crate::ext_error::ExtError;
 use crate::ext_error_code::ExtErrorCode;
 use crate::keyed_hash::KeyedHash;
 use crate::option_code::OptionCode;
+use crate::unknown_option::UnknownOptionData;
+use crate::unparsed_option::UnparsedEdnsOption;
 use dns_record::Serial;
 use dns_wire::ParseBytes;
 
@@ -71,14 +76,30 @@ pub fn codes_are_compared_by_number()
     ensures flags { (a b : _) → ⟦<EdnsFlags as PartialEq>⟧.eq a b ≡ nat_eq (flag_bits a) (flag_bits b) }
 {}
 
-/// The options that are gone over are those that all the octets spell (RFC 6891 section 6.1.2).
+/// The options that are gone over are those that all the octets spell: one after another, they fill the octets, and octets that
+/// options fill are gone over as just these (RFC 6891 section 6.1.2).
 pub fn options_of_octets()
-    ensures { (bytes : List ℕ) → is_options bytes ≡ true → options_of bytes ≡ Some (options_in bytes) }
+    ensures spelled { (bytes : List ℕ) → is_options bytes ≡ true → options_of bytes ≡ Some (options_in bytes) }
+    ensures filled { (bytes : List ℕ) → is_option_data bytes ≡ true → FilledBy (options_in bytes) bytes }
+    ensures read { (bytes : List ℕ) (options : List OptionSeen) → length bytes < 2 ^ 16 → FilledBy options bytes →
+        (is_option_data bytes ≡ true) × (options_in bytes ≡ options) }
 {}
 
 /// Options are equal where their codes and data are, octet by octet.
 pub fn options_are_equal_by_content()
     ensures { (a b : _) → IsTrue (⟦<EdnsOption<'static> as PartialEq>⟧.eq a b) ↔ (seen_option a ≡ seen_option b) }
+{}
+
+/// Cookies and data of unknown options are equal octet by octet; an extended error where its code and its text are, and an
+/// option that is not read by its code where code and data are.
+pub fn option_data_are_equal_by_octets()
+    ensures client { (a b : _) → ⟦<ClientCookie as PartialEq>⟧.eq a b ≡ pointwise nat_eq a.octets b.octets }
+    ensures cookie { (a b : _) → ⟦<Cookie<'static> as PartialEq>⟧.eq a b ≡ pointwise nat_eq a.slice.now b.slice.now }
+    ensures unknown { (a b : _) → ⟦<UnknownOptionData<'static> as PartialEq>⟧.eq a b ≡ pointwise nat_eq a.octets.now b.octets.now }
+    ensures error { (a b : _) → ⟦<ExtError<'static> as PartialEq>⟧.eq a b
+        ≡ (nat_eq a.code.code.value b.code.code.value && bytes_eq a.text.now b.text.now) }
+    ensures unparsed { (a b : _) → ⟦<UnparsedEdnsOption<'static> as PartialEq>⟧.eq a b
+        ≡ (nat_eq a.code.code.value b.code.code.value && pointwise nat_eq a.content.now b.content.now) }
 {}
 
 /// The cookie that a server gives to an address is one that it takes from there, under the same function and

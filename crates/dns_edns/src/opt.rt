@@ -7,17 +7,17 @@ ghost use Rattle.std.proofs.lemmas.List.{append-nil};
 ghost use Rattle.dns_wire.specs.Building.{Builds};
 ghost use Rattle.dns_wire.specs.Compression.{FitsIn};
 ghost use Rattle.dns_wire.specs.InMessage.{BuildsIn};
-ghost use Rattle.dns_wire.specs.Pieces.{whole_presses};
-ghost use Rattle.dns_wire.specs.Pieces.Piece.{Whole};
-ghost use Rattle.dns_wire.specs.Told.{told_piece};
+ghost use Rattle.dns_wire.specs.Layout.{octets_writes};
+ghost use Rattle.dns_wire.specs.Layout.LayoutPart.{OctetsPart};
+ghost use Rattle.dns_wire.specs.LayoutLemmas.{part_matches};
 ghost use Rattle.dns_wire.specs.Reading.{Gives, all_of, all_at, plain_at};
 ghost use Rattle.dns_record.specs.Canonical.{ranked_cmp};
 ghost use Rattle.dns_record.specs.Fields.{Field, canonical_octets};
 ghost use Rattle.dns_record.specs.Kinds.{fields_of, no_name};
-ghost use Rattle.dns_record.specs.Left.{bare_leave, bare_end};
+ghost use Rattle.dns_record.specs.DataLemmas.{uncompressed_leave, uncompressed_end};
 ghost use Rattle.dns_record.proofs.Sizes.{canonical_long};
 ghost use Rattle.dns_record.specs.Options.{is_option_data};
-ghost use Rattle.dns_record.specs.Rows.{row};
+ghost use Rattle.dns_record.specs.Formats.{rdata_format};
 ghost use Rattle.dns_edns.specs.Suiting.{items_in};
 ghost use Rattle.dns_edns.specs.Types.{opt_fields};
 
@@ -86,13 +86,13 @@ impl<'a> ParseBytes<'a> for Opt<'a> {
 
     ghost seen = { λ v. opt_fields v.slice.now };
 
-    ghost reads = { fields_of no_name (row 41) };
+    ghost reads = { fields_of no_name (rdata_format 41) };
 
-    ghost reads_at = { plain_at (fields_of no_name (row 41)) };
+    ghost reads_at = { plain_at (fields_of no_name (rdata_format 41)) };
 
-    ghost leaves_rest = { bare_leave (row 41) };
+    ghost leaves_rest = { uncompressed_leave (rdata_format 41) };
 
-    ghost ends_within = { bare_end (row 41) };
+    ghost ends_within = { uncompressed_end (rdata_format 41) };
 
     #[tactic(auto, unfolding(dns_record::specs::Options::is_option_data))]
     fn parse_bytes(bytes: &'a [u8]) -> Result<Opt<'a>, ParseError> {
@@ -132,13 +132,13 @@ impl BuildBytes for Opt<'_> {
     }
 }
 
-/// Whole, in one piece.
+/// Uncompressed, as one part.
 impl BuildInMessage for Opt<'_> {
-    ghost presses = { λ v. whole_presses v.slice.now };
+    ghost writes = { λ v. octets_writes v.slice.now };
 
-    ghost pieces = { λ v. Some (Whole v.slice.now ∷ []) };
+    ghost layout = { λ v. Some (OctetsPart v.slice.now ∷ []) };
 
-    ghost told = { λ v. told_piece (Whole v.slice.now) };
+    ghost layout_matches = { λ v. part_matches (OctetsPart v.slice.now) };
 
     fn build_in_message(
         &self,

@@ -1,9 +1,9 @@
 //! Codes of options.
 
-ghost use Rattle.dns_wire.specs.Left.{number_leaves};
+ghost use Rattle.dns_wire.specs.ReadingLemmas.{number_leaves};
 ghost use Rattle.std.specs.Prelude.{◌≡◌, ℕ, [], None, ⊤};
 ghost use Rattle.std.specs.Int.{w16, to_be_bytes};
-ghost use Rattle.dns_wire.specs.Pieces.{whole_presses};
+ghost use Rattle.dns_wire.specs.Layout.{octets_writes};
 ghost use Rattle.dns_wire.specs.Reading.{number};
 
 use dns_num::U16;
@@ -78,9 +78,9 @@ impl BuildBytes for OptionCode {
 
 /// Whole, with no name in it.
 impl BuildInMessage for OptionCode {
-    ghost presses = { λ v. whole_presses (to_be_bytes w16 v.code.value) };
+    ghost writes = { λ v. octets_writes (to_be_bytes w16 v.code.value) };
 
-    ghost told = { λ _. tt };
+    ghost layout_matches = { λ _. tt };
 
     fn build_in_message(
         &self,

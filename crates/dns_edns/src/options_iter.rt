@@ -37,10 +37,10 @@ impl<'a> EdnsOptionsIter<'a> {
     {
         let mut rest = bytes;
         while !rest.is_empty() {
-            let Ok((_option, behind)) = UnparsedEdnsOption::split_bytes(rest) else {
+            let Ok((_option, trailing)) = UnparsedEdnsOption::split_bytes(rest) else {
                 return false;
             };
-            rest = behind;
+            rest = trailing;
         }
         true
     }

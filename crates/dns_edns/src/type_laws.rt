@@ -1,4 +1,4 @@
-//! The type of this crate by the one table: what is read and written for its number is what its row says.
+//! The type of this crate by the one table: what is read and written for its number is what its RDATA format says.
 
 ghost use Rattle.std.specs.Prelude.{◌≡◌, ℕ, List, nat_eq};
 ghost use Rattle.std.specs.Cmp.Lexicographic.{pointwise};
@@ -13,7 +13,7 @@ use crate::opt::Opt;
 use dns_record::{CanonicalRecordData, ParseRecordDataBytes};
 use std::hash::Hash;
 
-/// Of all the octets, `Opt` reads the field of its number's row, and for any other number nothing (RFC 6891 section
+/// Of all the octets, `Opt` reads the field of its number's RDATA format, and for any other number nothing (RFC 6891 section
 /// 6.1.2).
 pub fn types_are_read_by_number()
     ensures opt { (rtype : ℕ) (bytes : List ℕ) → ⟦<Opt<'static> as ParseRecordDataBytes<'static>>⟧.reads_as rtype bytes ≡ of_type 41 rtype (data_as plain_name 41 bytes) }
@@ -34,7 +34,7 @@ pub fn data_are_equal_by_fields()
     ensures opt { (a b : _) → ⟦<Opt<'static> as PartialEq>⟧.eq a b ≡ pointwise nat_eq a.slice.now b.slice.now }
 {}
 
-/// Data feed a hasher their octets behind the number of these.
+/// Data feed a hasher their octets after the number of these.
 pub fn data_are_hashed_by_fields()
     ensures opt { (v : _) → ⟦<Opt<'static> as Hash>⟧.hash_input v ≡ slice u8 v.slice.now }
 {}

@@ -1,7 +1,7 @@
 //! Data of options that are kept as they stand.
 
-ghost use Rattle.dns_wire.specs.Left.{plain_ends};
-ghost use Rattle.dns_edns.specs.Left.{everything_leaves};
+ghost use Rattle.dns_wire.specs.ReadingLemmas.{plain_ends};
+ghost use Rattle.dns_edns.specs.OptionsLemmas.{everything_leaves};
 ghost use Rattle.std.specs.Prelude.{◌≡◌, ℕ, List, [], ⊤};
 ghost use Rattle.dns_wire.specs.Reading.{plain_at};
 ghost use Rattle.dns_edns.specs.Options.{everything};

@@ -1,7 +1,7 @@
 //! Options whose data are not read.
 
-ghost use Rattle.dns_wire.specs.Left.{plain_ends};
-ghost use Rattle.dns_edns.specs.Left.{option_leaves};
+ghost use Rattle.dns_wire.specs.ReadingLemmas.{plain_ends};
+ghost use Rattle.dns_edns.specs.OptionsLemmas.{option_leaves};
 ghost use Rattle.std.specs.Prelude.{◌≡◌, ◌<◌, ◌^◌, ℕ, List, [], length};
 ghost use Rattle.dns_wire.specs.Reading.{plain_at};
 ghost use Rattle.dns_record.specs.Options.{OptionSeen, option};
@@ -11,7 +11,7 @@ use crate::option_code::OptionCode;
 use dns_num::{SizePrefixed, U16};
 use dns_wire::{BuildBytes, ParseBytes, ParseError, SplitBytes, TruncationError, whole};
 
-/// An option whose data are not read: its code, and its data behind their size (RFC 6891 section 6.1.2).
+/// An option whose data are not read: its code, and its data after their size (RFC 6891 section 6.1.2).
 #[derive(Clone, Copy, Debug, PartialEq, Eq, Hash)]
 pub struct UnparsedEdnsOption<'a> {
     /// What the option is.

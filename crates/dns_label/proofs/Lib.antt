@@ -1,7 +1,8 @@
 -- The crate's own lemmas.
-pub mod Compared
-pub mod Filled
-pub mod Plain
+pub mod ComparedLabels
+pub mod FilledLabels
+pub mod PlainOctets
 pub mod Preceding
 pub mod Scanned
-pub mod Stored
+pub mod StoredLabels
+pub mod TextFaults

@@ -39,8 +39,8 @@ numbers_tell =
 module _ {A : Type 0} (compare : A → A → Ordering) (IsLess : A → A → Type 0) (tells : Tells compare IsLess) where
   further : (x y : A) (xs ys : List A) → x ≡ y → Precedes IsLess xs ys → Precedes IsLess (x ∷ xs) (y ∷ ys)
   further x y xs ys e (ends z more is) = ends z more (ap (λ (l : List A). y ∷ l) is ∙ ap (λ (h : A). h ∷ (xs ++ z ∷ more)) (sym e))
-  further x y xs ys e (differs front u v more others is_less first second) =
-      differs (x ∷ front) u v more others is_less (ap (λ (l : List A). x ∷ l) first) (ap (λ (l : List A). y ∷ l) second ∙ ap (λ (h : A). h ∷ (front ++ v ∷ others)) (sym e))
+  further x y xs ys e (differs prefix u v more others is_less first second) =
+      differs (x ∷ prefix) u v more others is_less (ap (λ (l : List A). x ∷ l) first) (ap (λ (l : List A). y ∷ l) second ∙ ap (λ (h : A). h ∷ (prefix ++ v ∷ others)) (sym e))
 
   first_decides : (x y : A) (xs ys : List A) (r : Ordering) → compare x y ≡ r → (slice_cmp compare xs ys ≡ Less → Precedes IsLess xs ys) → ordering_then r (slice_cmp compare xs ys) ≡ Less → Precedes IsLess (x ∷ xs) (y ∷ ys)
   first_decides x y xs ys Less is later e = differs [] x y xs ys (tells.less x y is) refl refl
@@ -53,16 +53,16 @@ module _ {A : Type 0} (compare : A → A → Ordering) (IsLess : A → A → Typ
   lists_less (x ∷ xs) [] e = absurd cc
   lists_less (x ∷ xs) (y ∷ ys) e = first_decides x y xs ys (compare x y) refl (lists_less xs ys) e
 
-  -- a front that the two share does not count
-  same_front : (front xs ys : List A) → slice_cmp compare (front ++ xs) (front ++ ys) ≡ slice_cmp compare xs ys
-  same_front [] xs ys = refl
-  same_front (x ∷ front) xs ys = rw (tells.tied x) (same_front front xs ys)
+  -- a prefix that the two share does not count
+  same_prefix : (prefix xs ys : List A) → slice_cmp compare (prefix ++ xs) (prefix ++ ys) ≡ slice_cmp compare xs ys
+  same_prefix [] xs ys = refl
+  same_prefix (x ∷ prefix) xs ys = rw (tells.tied x) (same_prefix prefix xs ys)
 
   lists_is : (xs ys : List A) → Precedes IsLess xs ys → slice_cmp compare xs ys ≡ Less
   lists_is xs ys (ends y more is) =
-      ap (slice_cmp compare xs) is ∙ ap (λ (l : List A). slice_cmp compare l (xs ++ y ∷ more)) (sym (append-nil xs)) ∙ same_front xs [] (y ∷ more)
-  lists_is xs ys (differs front x y more others is_less first second) =
-      ap (slice_cmp compare xs) second ∙ ap (λ (l : List A). slice_cmp compare l (front ++ y ∷ others)) first ∙ same_front front (x ∷ more) (y ∷ others)
+      ap (slice_cmp compare xs) is ∙ ap (λ (l : List A). slice_cmp compare l (xs ++ y ∷ more)) (sym (append-nil xs)) ∙ same_prefix xs [] (y ∷ more)
+  lists_is xs ys (differs prefix x y more others is_less first second) =
+      ap (slice_cmp compare xs) second ∙ ap (λ (l : List A). slice_cmp compare l (prefix ++ y ∷ others)) first ∙ same_prefix prefix (x ∷ more) (y ∷ others)
       ∙ ap (λ (r : Ordering). ordering_then r (slice_cmp compare more others)) (tells.is x y is_less)
 
   first_tied : (x y : A) (xs ys : List A) (r : Ordering) → compare x y ≡ r → (slice_cmp compare xs ys ≡ Equal → xs ≡ ys) → ordering_then r (slice_cmp compare xs ys) ≡ Equal → x ∷ xs ≡ y ∷ ys

@@ -16,7 +16,7 @@ use Rattle.dns_label.specs.declared.text_error.LabelSplitError.TheVariants.{Inva
 use Rattle.dns_label.specs.declared.text_error.LabelSplitError.{LabelSplitError}
 use Rattle.dns_label.specs.declared.text_error.ScanFault.{ScanFault}
 use Rattle.dns_label.specs.declared.text_error.ScanFault.TheVariants.{Overlong, CutEscape, WrongEscape}
-use Rattle.dns_label.specs.Text.{is_plain, shown_octet, shown_label, three_digits, in_digits, escaped, next_octet, with_octet, then_octets, octets_within, label_scan, parse_error, front_label, whole_text, parsed_label, front_of_text, split_label, IsForeign, EndsLabel, Spells, IsPlainText}
+use Rattle.dns_label.specs.Text.{is_plain, shown_octet, shown_label, three_digits, in_digits, escaped, next_octet, with_octet, then_octets, octets_within, label_scan, parse_error, prefix_label, whole_text, parsed_label, prefix_of_text, split_label, IsForeign, EndsLabel, Spells, IsPlainText}
 
 -- ---- the next octet
 
@@ -96,7 +96,7 @@ next_again text octet rest (digits a b c is_a is_b is_c small value parts) =
     let fits : leb (three_digits a b c) 255 ≡ true = le-leb (three_digits a b c) 255 small in
     ap next_octet parts ∙ rw (no_plain_backslash, is_a, is_b, is_c, fits, value) refl
 
--- the text behind an octet is shorter
+-- the text after an octet is shorter
 pub next_shorter : (text : List ℕ) (octet : ℕ) (rest : List ℕ) → next_octet text ≡ Ok (Some (octet, rest)) → length rest < length text
 next_shorter text octet rest e =
     elim (next_is text octet rest e) [
@@ -165,28 +165,28 @@ with_is octet (Ok (others, left)) contents rest e =
     (others, ap (λ (l : List ℕ). Ok (others, l)) same.1, sym same.0)
 with_is octet (Err fault) contents rest e = absurd cc
 
--- what a scan has read in words: a spelling of the contents, and a text behind it that ends a label's
+-- what a scan has read in words: a spelling of the contents, and a text after it that ends a label's
 pub record Takes (room : ℕ) (text contents rest : List ℕ) : Type 0 where
-  pub front : List ℕ
-  pub text_is : text ≡ front ++ rest
-  pub spells : Spells front contents
+  pub prefix : List ℕ
+  pub text_is : text ≡ prefix ++ rest
+  pub spells : Spells prefix contents
   pub fits : length contents ≤ room
   pub ends : EndsLabel rest
 
--- a spelling with the spelling of an octet in front
-further : (text octets front : List ℕ) (octet : ℕ) (rest more : List ℕ) → Next text octet more → more ≡ front ++ rest → Spells front octets → (whole : List ℕ) × (text ≡ whole ++ rest) × Spells whole (octet ∷ octets)
-further text octets front octet rest more (itself plain parts) behind spells =
-    (octet ∷ front, parts ∙ ap (λ (l : List ℕ). octet ∷ l) behind, Spells.itself octet front octets plain spells)
-further text octets front octet rest more (backslash graphic no_digit parts) behind spells =
-    (92 ∷ octet ∷ front, parts ∙ ap (λ (l : List ℕ). 92 ∷ octet ∷ l) behind, Spells.backslash octet front octets graphic no_digit spells)
-further text octets front octet rest more (digits a b c is_a is_b is_c small value parts) behind spells =
-    (92 ∷ a ∷ b ∷ c ∷ front, parts ∙ ap (λ (l : List ℕ). 92 ∷ a ∷ b ∷ c ∷ l) behind, subst (λ (o : ℕ). Spells (92 ∷ a ∷ b ∷ c ∷ front) (o ∷ octets)) (sym value) (Spells.digits a b c front octets is_a is_b is_c small spells))
+-- a spelling with the spelling of an octet before
+pub further : (text octets prefix : List ℕ) (octet : ℕ) (rest more : List ℕ) → Next text octet more → more ≡ prefix ++ rest → Spells prefix octets → (whole : List ℕ) × (text ≡ whole ++ rest) × Spells whole (octet ∷ octets)
+further text octets prefix octet rest more (itself plain parts) trailing spells =
+    (octet ∷ prefix, parts ∙ ap (λ (l : List ℕ). octet ∷ l) trailing, Spells.itself octet prefix octets plain spells)
+further text octets prefix octet rest more (backslash graphic no_digit parts) trailing spells =
+    (92 ∷ octet ∷ prefix, parts ∙ ap (λ (l : List ℕ). 92 ∷ octet ∷ l) trailing, Spells.backslash octet prefix octets graphic no_digit spells)
+further text octets prefix octet rest more (digits a b c is_a is_b is_c small value parts) trailing spells =
+    (92 ∷ a ∷ b ∷ c ∷ prefix, parts ∙ ap (λ (l : List ℕ). 92 ∷ a ∷ b ∷ c ∷ l) trailing, subst (λ (o : ℕ). Spells (92 ∷ a ∷ b ∷ c ∷ prefix) (o ∷ octets)) (sym value) (Spells.digits a b c prefix octets is_a is_b is_c small spells))
 
 stopped_takes : (room : ℕ) (text contents rest : List ℕ) → next_octet text ≡ Ok None → ◌≡◌ {A = Read} (Ok ([], text)) (Ok (contents, rest)) → Takes room text contents rest
 stopped_takes room text contents rest none e =
     let same = ok_parts [] contents text rest e in
     record {
-      front = [];
+      prefix = [];
       text_is = same.1;
       spells = subst (Spells []) same.0 Spells.ended;
       fits = omega (arith, ap length same.0);
@@ -204,16 +204,16 @@ some_takes room reads text contents rest (Err fault) later is e = absurd cc
 some_takes room reads text contents rest (Ok (Some (octet, more))) later is e =
     let w = with_is octet (reads more) contents rest e in
     let t = later more w.0 w.1 in
-    let f = further text w.0 t.front octet rest more (next_is text octet more is) t.text_is t.spells in
+    let f = further text w.0 t.prefix octet rest more (next_is text octet more is) t.text_is t.spells in
     record {
-      front = f.0;
+      prefix = f.0;
       text_is = f.1;
       spells = subst (Spells f.0) (sym w.2) f.2;
       fits = omega (arith, ap length w.2, t.fits);
       ends = t.ends;
     }
 
-within_takes : (room : ℕ) (text contents rest : List ℕ) → octets_within room text ≡ Ok (contents, rest) → Takes room text contents rest
+pub within_takes : (room : ℕ) (text contents rest : List ℕ) → octets_within room text ≡ Ok (contents, rest) → Takes room text contents rest
 unfolding octets_within
 within_takes zero text contents rest e = full_takes text contents rest (next_octet text) refl e
 within_takes (suc room) text contents rest e =
@@ -224,26 +224,26 @@ unfolding label_scan
 scan_takes text contents rest e = within_takes 63 text contents rest e
 
 -- one step of the scan
-within_step : (room : ℕ) (text : List ℕ) (octet : ℕ) (more : List ℕ) → next_octet text ≡ Ok (Some (octet, more)) → octets_within (suc room) text ≡ with_octet octet (octets_within room more)
+pub within_step : (room : ℕ) (text : List ℕ) (octet : ℕ) (more : List ℕ) → next_octet text ≡ Ok (Some (octet, more)) → octets_within (suc room) text ≡ with_octet octet (octets_within room more)
 unfolding octets_within
 within_step room text octet more e = rw e refl
 
-within_ends : (room : ℕ) (text : List ℕ) → next_octet text ≡ Ok None → octets_within room text ≡ Ok ([], text)
+pub within_ends : (room : ℕ) (text : List ℕ) → next_octet text ≡ Ok None → octets_within room text ≡ Ok ([], text)
 unfolding octets_within
 within_ends zero text e = rw e refl
 within_ends (suc room) text e = rw e refl
 
-within_fails : (room : ℕ) (text : List ℕ) (fault : ScanFault) → next_octet text ≡ Err fault → octets_within room text ≡ Err fault
+pub within_fails : (room : ℕ) (text : List ℕ) (fault : ScanFault) → next_octet text ≡ Err fault → octets_within room text ≡ Err fault
 unfolding octets_within
 within_fails zero text fault e = rw e refl
 within_fails (suc room) text fault e = rw e refl
 
-within_full : (text : List ℕ) (octet : ℕ) (more : List ℕ) → next_octet text ≡ Ok (Some (octet, more)) → octets_within zero text ≡ Err Overlong
+pub within_full : (text : List ℕ) (octet : ℕ) (more : List ℕ) → next_octet text ≡ Ok (Some (octet, more)) → octets_within zero text ≡ Err Overlong
 unfolding octets_within
 within_full text octet more e = rw e refl
 
 -- what is spelled is read, where there is room
-within_again : (room : ℕ) (text contents rest : List ℕ) → Spells text contents → length contents ≤ room → EndsLabel rest → octets_within room (text ++ rest) ≡ Ok (contents, rest)
+pub within_again : (room : ℕ) (text contents rest : List ℕ) → Spells text contents → length contents ≤ room → EndsLabel rest → octets_within room (text ++ rest) ≡ Ok (contents, rest)
 within_again room text contents rest Spells.ended fits ends = within_ends room rest (ends_none rest ends)
 within_again zero text contents rest (Spells.itself octet more octets plain spells) fits ends = absurd (omega arith)
 within_again (suc room) text contents rest (Spells.itself octet more octets plain spells) fits ends =
@@ -394,27 +394,27 @@ plain_shown text contents is spells =
 
 -- ---- a scan under way
 
--- what is read, with octets in front that were read before
-abbrev pub in_front : List ℕ → Read → Read
-in_front front (Ok (others, rest)) = Ok (front ++ others, rest)
-in_front front (Err fault) = Err fault
+-- what is read, with octets before that were read before
+abbrev pub in_prefix : List ℕ → Read → Read
+in_prefix prefix (Ok (others, rest)) = Ok (prefix ++ others, rest)
+in_prefix prefix (Err fault) = Err fault
 
-one_in_front : (front : List ℕ) (octet : ℕ) (read : Read) → in_front front (with_octet octet read) ≡ in_front (front ++ octet ∷ []) read
-one_in_front front octet (Ok (others, rest)) = ap (λ (l : List ℕ). Ok (l, rest)) (sym (append_assoc front (octet ∷ []) others))
-one_in_front front octet (Err fault) = refl
+one_in_prefix : (prefix : List ℕ) (octet : ℕ) (read : Read) → in_prefix prefix (with_octet octet read) ≡ in_prefix (prefix ++ octet ∷ []) read
+one_in_prefix prefix octet (Ok (others, rest)) = ap (λ (l : List ℕ). Ok (l, rest)) (sym (append_assoc prefix (octet ∷ []) others))
+one_in_prefix prefix octet (Err fault) = refl
 
-pub none_in_front : (read : Read) → in_front [] read ≡ read
-none_in_front (Ok (others, rest)) = refl
-none_in_front (Err fault) = refl
+pub none_in_prefix : (read : Read) → in_prefix [] read ≡ read
+none_in_prefix (Ok (others, rest)) = refl
+none_in_prefix (Err fault) = refl
 
 -- these octets are read, and this text is left
 pub record Underway (text label rest : List ℕ) : Type 0 where
   pub fits : length label ≤ 63
-  pub left : label_scan text ≡ in_front label (octets_within (63 - length label) rest)
+  pub left : label_scan text ≡ in_prefix label (octets_within (63 - length label) rest)
 
 pub begun : (text label : List ℕ) → label ≡ [] → Underway text label text
 unfolding label_scan
-begun text label e = rw e (record { fits = omega arith; left = sym (none_in_front (octets_within 63 text)) })
+begun text label e = rw e (record { fits = omega arith; left = sym (none_in_prefix (octets_within 63 text)) })
 
 pub gone_on : (text label rest next more : List ℕ) (octet : ℕ) → Underway text label rest → next_octet rest ≡ Ok (Some (octet, more)) → length label < 63 → next ≡ label ++ octet ∷ [] → Underway text next more
 gone_on text label rest next more octet way read room e =
@@ -423,25 +423,25 @@ gone_on text label rest next more octet way read room e =
     record {
       fits = omega (arith, long);
       left =
-          way.left ∙ ap (λ (n : ℕ). in_front label (octets_within n rest)) one
-          ∙ ap (in_front label) (within_step (63 - length next) rest octet more read)
-          ∙ one_in_front label octet (octets_within (63 - length next) more)
-          ∙ ap (λ (l : List ℕ). in_front l (octets_within (63 - length next) more)) (sym e);
+          way.left ∙ ap (λ (n : ℕ). in_prefix label (octets_within n rest)) one
+          ∙ ap (in_prefix label) (within_step (63 - length next) rest octet more read)
+          ∙ one_in_prefix label octet (octets_within (63 - length next) more)
+          ∙ ap (λ (l : List ℕ). in_prefix l (octets_within (63 - length next) more)) (sym e);
     }
 
 pub ended_scan : (text label rest : List ℕ) → Underway text label rest → next_octet rest ≡ Ok None → label_scan text ≡ Ok (label, rest)
 ended_scan text label rest way read =
-    way.left ∙ ap (in_front label) (within_ends (63 - length label) rest read) ∙ ap (λ (l : List ℕ). Ok (l, rest)) (append-nil label)
+    way.left ∙ ap (in_prefix label) (within_ends (63 - length label) rest read) ∙ ap (λ (l : List ℕ). Ok (l, rest)) (append-nil label)
 
 pub failed_scan : (text label rest : List ℕ) (fault : ScanFault) → Underway text label rest → next_octet rest ≡ Err fault → label_scan text ≡ Err fault
-failed_scan text label rest fault way read = way.left ∙ ap (in_front label) (within_fails (63 - length label) rest fault read)
+failed_scan text label rest fault way read = way.left ∙ ap (in_prefix label) (within_fails (63 - length label) rest fault read)
 
 pub full_scan : (text label rest more : List ℕ) (octet : ℕ) → Underway text label rest → next_octet rest ≡ Ok (Some (octet, more)) → 63 ≤ length label → label_scan text ≡ Err Overlong
 full_scan text label rest more octet way read full =
     let none : 63 - length label ≡ zero = omega arith in
-    way.left ∙ ap (λ (n : ℕ). in_front label (octets_within n rest)) none ∙ ap (in_front label) (within_full rest octet more read)
+    way.left ∙ ap (λ (n : ℕ). in_prefix label (octets_within n rest)) none ∙ ap (in_prefix label) (within_full rest octet more read)
 
--- ---- whole texts, and the fronts of texts
+-- ---- whole texts, and the prefixes of texts
 
 whole_is : (read : Read) (contents : List ℕ) → whole_text read ≡ Ok contents → read ≡ Ok (contents, [])
 whole_is (Ok (found, [])) contents e = ap (λ (l : List ℕ). Ok (l, [])) (let h : found ≡ contents = cc in h)
@@ -451,62 +451,62 @@ whole_is (Err fault) contents e = absurd cc
 pub parsed_takes : (text contents : List ℕ) → parsed_label text ≡ Ok contents → Spells text contents × IsShort contents
 parsed_takes text contents e =
     let t = scan_takes text contents [] (whole_is (label_scan text) contents e) in
-    (subst (λ (l : List ℕ). Spells l contents) (sym (t.text_is ∙ append-nil t.front)) t.spells, omega (arith, t.fits))
+    (subst (λ (l : List ℕ). Spells l contents) (sym (t.text_is ∙ append-nil t.prefix)) t.spells, omega (arith, t.fits))
 
 pub parsed_again : (text contents : List ℕ) → Spells text contents → IsShort contents → parsed_label text ≡ Ok contents
 parsed_again text contents spells short =
     ap (λ (l : List ℕ). whole_text (label_scan l)) (sym (append-nil text)) ∙ ap whole_text (scan_again text contents [] spells short tt)
 
-mapped_is : (read : Read) (contents rest : List ℕ) → ◌≡◌ {A = Result (List ℕ × List ℕ) LabelParseError} (result_map_both (λ front. front) parse_error read) (Ok (contents, rest)) → read ≡ Ok (contents, rest)
-mapped_is (Ok front) contents rest e = ap Ok (let h : front ≡ (contents, rest) = cc in h)
+mapped_is : (read : Read) (contents rest : List ℕ) → ◌≡◌ {A = Result (List ℕ × List ℕ) LabelParseError} (result_map_both (λ prefix. prefix) parse_error read) (Ok (contents, rest)) → read ≡ Ok (contents, rest)
+mapped_is (Ok prefix) contents rest e = ap Ok (let h : prefix ≡ (contents, rest) = cc in h)
 mapped_is (Err fault) contents rest e = absurd cc
 
-pub front_takes : (text contents rest : List ℕ) → front_label text ≡ Ok (contents, rest) → Takes 63 text contents rest
-front_takes text contents rest e = scan_takes text contents rest (mapped_is (label_scan text) contents rest e)
+pub prefix_takes : (text contents rest : List ℕ) → prefix_label text ≡ Ok (contents, rest) → Takes 63 text contents rest
+prefix_takes text contents rest e = scan_takes text contents rest (mapped_is (label_scan text) contents rest e)
 
-pub front_again : (text contents rest : List ℕ) → Spells text contents → IsShort contents → EndsLabel rest → front_label (text ++ rest) ≡ Ok (contents, rest)
-front_again text contents rest spells short ends = ap (result_map_both (λ front. front) parse_error) (scan_again text contents rest spells short ends)
+pub prefix_again : (text contents rest : List ℕ) → Spells text contents → IsShort contents → EndsLabel rest → prefix_label (text ++ rest) ≡ Ok (contents, rest)
+prefix_again text contents rest spells short ends = ap (result_map_both (λ prefix. prefix) parse_error) (scan_again text contents rest spells short ends)
 
-abbrev Front : Type 0
-Front = Result (List ℕ × List ℕ) LabelSplitError
+abbrev Prefix : Type 0
+Prefix = Result (List ℕ × List ℕ) LabelSplitError
 
-front_parts : (a b x y : List ℕ) → ◌≡◌ {A = Front} (Ok (a, x)) (Ok (b, y)) → (a ≡ b) × (x ≡ y)
-front_parts a b x y e =
+prefix_parts : (a b x y : List ℕ) → ◌≡◌ {A = Prefix} (Ok (a, x)) (Ok (b, y)) → (a ≡ b) × (x ≡ y)
+prefix_parts a b x y e =
     let h : ◌≡◌ {A = List ℕ × List ℕ} (a, x) (b, y) = cc in
     (ap (λ (p : List ℕ × List ℕ). p.0) h, ap (λ (p : List ℕ × List ℕ). p.1) h)
 
-front_is : (read : Read) (contents rest : List ℕ) → front_of_text read ≡ Ok (contents, rest) → (read ≡ Ok (contents, rest)) × (rest ≢ [])
-front_is (Ok (found, [])) contents rest e = absurd cc
-front_is (Err fault) contents rest e = absurd cc
-front_is (Ok (found, octet ∷ left)) contents rest e =
-    let same = front_parts found contents (octet ∷ left) rest e in
+prefix_is : (read : Read) (contents rest : List ℕ) → prefix_of_text read ≡ Ok (contents, rest) → (read ≡ Ok (contents, rest)) × (rest ≢ [])
+prefix_is (Ok (found, [])) contents rest e = absurd cc
+prefix_is (Err fault) contents rest e = absurd cc
+prefix_is (Ok (found, octet ∷ left)) contents rest e =
+    let same = prefix_parts found contents (octet ∷ left) rest e in
     (ap (λ (l : List ℕ). Ok (l, octet ∷ left)) same.0 ∙ ap (λ (l : List ℕ). Ok (contents, l)) same.1, λ none. let h = same.1 ∙ none in cc)
 
-pub split_takes : (text contents rest : List ℕ) → split_label text ≡ Ok (contents, rest) → (front : List ℕ) × (text ≡ front ++ rest) × Spells front contents × IsShort contents × (rest ≢ []) × EndsLabel rest
+pub split_takes : (text contents rest : List ℕ) → split_label text ≡ Ok (contents, rest) → (prefix : List ℕ) × (text ≡ prefix ++ rest) × Spells prefix contents × IsShort contents × (rest ≢ []) × EndsLabel rest
 split_takes text contents rest e =
-    let f = front_is (label_scan text) contents rest e in
+    let f = prefix_is (label_scan text) contents rest e in
     let t = scan_takes text contents rest f.0 in
-    (t.front, t.text_is, t.spells, omega (arith, t.fits), f.1, t.ends)
+    (t.prefix, t.text_is, t.spells, omega (arith, t.fits), f.1, t.ends)
 
 pub split_again : (text contents rest : List ℕ) (octet : ℕ) → Spells text contents → IsShort contents → IsForeign octet → split_label (text ++ octet ∷ rest) ≡ Ok (contents, octet ∷ rest)
-split_again text contents rest octet spells short foreign = ap front_of_text (scan_again text contents (octet ∷ rest) spells short foreign)
+split_again text contents rest octet spells short foreign = ap prefix_of_text (scan_again text contents (octet ∷ rest) spells short foreign)
 
--- a text that may go on is never refused for an octet that no text of a label has, and no front of one is
-front_never_invalid : (read : Read) → front_of_text read ≢ Err InvalidChar
-front_never_invalid (Ok (found, [])) e = cc
-front_never_invalid (Ok (found, octet ∷ rest)) e = cc
-front_never_invalid (Err Overlong) e = cc
-front_never_invalid (Err CutEscape) e = cc
-front_never_invalid (Err WrongEscape) e = cc
+-- a text that may go on is never refused for an octet that no text of a label has, and no prefix of one is
+prefix_never_invalid : (read : Read) → prefix_of_text read ≢ Err InvalidChar
+prefix_never_invalid (Ok (found, [])) e = cc
+prefix_never_invalid (Ok (found, octet ∷ rest)) e = cc
+prefix_never_invalid (Err Overlong) e = cc
+prefix_never_invalid (Err CutEscape) e = cc
+prefix_never_invalid (Err WrongEscape) e = cc
 
 pub split_never : (text : List ℕ) → split_label text ≢ Err InvalidChar
-split_never text = front_never_invalid (label_scan text)
+split_never text = prefix_never_invalid (label_scan text)
 
-mapped_never : (read : Read) → ◌≢◌ {A = Result (List ℕ × List ℕ) LabelParseError} (result_map_both (λ front. front) parse_error read) (Err parse_errors.InvalidChar)
-mapped_never (Ok front) e = cc
+mapped_never : (read : Read) → ◌≢◌ {A = Result (List ℕ × List ℕ) LabelParseError} (result_map_both (λ prefix. prefix) parse_error read) (Err parse_errors.InvalidChar)
+mapped_never (Ok prefix) e = cc
 mapped_never (Err Overlong) e = cc
 mapped_never (Err CutEscape) e = cc
 mapped_never (Err WrongEscape) e = cc
 
-pub front_never : (text : List ℕ) → front_label text ≢ Err parse_errors.InvalidChar
-front_never text = mapped_never (label_scan text)
+pub prefix_never : (text : List ℕ) → prefix_label text ≢ Err parse_errors.InvalidChar
+prefix_never text = mapped_never (label_scan text)

@@ -1,4 +1,4 @@
--- Labels, and how they stand on the wire (RFC 1035 section 3.1): a length of at most 63, and so many octets. The root's
+-- Labels, and how they stand on the wire (RFC 1035 section 3.1): a length of at most 63, and that many octets. The root's
 -- label is the empty one.
 use Rattle.std.specs.Prelude.{◌≡◌, ℕ, zero, suc, ◌<◌, List, [], ◌∷◌, length, take, drop, Option, Some, None, unwrap_or, nat_lt, ◌||◌, if◌then◌else◌}
 
@@ -16,13 +16,13 @@ IsShort contents = length contents < 64
 
 -- ---- reading
 
--- the label at the front, and what follows it
+-- the label at the start, and what follows it
 unfoldable pub plain_label : List ℕ → Option (List ℕ × List ℕ)
 plain_label [] = None
 plain_label (size ∷ rest) =
     if nat_lt 63 size || nat_lt (length rest) size then None else Some (take size rest, drop size rest)
 
--- a label in front of what is read after it
+-- a label before what is read after it
 abbrev pub with_label : List ℕ → Option (List (List ℕ)) → Option (List (List ℕ))
 with_label contents None = None
 with_label contents (Some others) = Some (contents ∷ others)

@@ -1,7 +1,7 @@
 -- What the contracts of labels cite.
 pub mod Hashing
 pub mod Labels
-pub mod Left
+pub mod LabelsLemmas
 pub mod Lends
 pub mod Order
 pub mod Text

@@ -5,7 +5,7 @@ use Rattle.std.specs.Str.{str_to_ascii_lowercase}
 use Rattle.std.specs.Cmp.Lexicographic.{slice_cmp}
 use Rattle.std.specs.declared.cmp.Ordering.{Ordering}
 
--- labels octet by octet, in small letters; a proper prefix comes first
+-- labels octet by octet, in lowercase; a proper prefix comes first
 abbrev pub label_cmp : List ℕ → List ℕ → Ordering
 label_cmp a b = slice_cmp nat_cmp (str_to_ascii_lowercase a) (str_to_ascii_lowercase b)
 
@@ -13,4 +13,4 @@ label_cmp a b = slice_cmp nat_cmp (str_to_ascii_lowercase a) (str_to_ascii_lower
 -- what the first has is less. So no octet sorts before a zero octet.
 pub data Precedes {A : Type 0} (IsLess : A → A → Type 0) (xs ys : List A) : Type 0 where
   ends : (y : A) (more : List A) → ys ≡ xs ++ y ∷ more → Precedes IsLess xs ys
-  differs : (front : List A) (x y : A) (more others : List A) → IsLess x y → xs ≡ front ++ x ∷ more → ys ≡ front ++ y ∷ others → Precedes IsLess xs ys
+  differs : (leading : List A) (x y : A) (more others : List A) → IsLess x y → xs ≡ leading ++ x ∷ more → ys ≡ leading ++ y ∷ others → Precedes IsLess xs ys

@@ -13,7 +13,7 @@ impl Hash for Label<'_> {
 
     ghost respects_eq = { λ a b same. same_labels_alike (contents_of a.slice.now) (contents_of b.slice.now) same };
 
-    /// Feeds the length octet and the contents in small letters, in one write.
+    /// Feeds the length octet and the contents in lowercase, in one write.
     fn hash<H: Hasher>(&self, state: &mut H) {
         let mut lowered = self.to_buf();
         lowered.make_lowercase();

@@ -2,7 +2,7 @@
 
 ghost use Rattle.std.specs.Prelude.{◌≡◌, ◌↔◌, [], IsTrue, ⊤};
 ghost use Rattle.std.specs.Iterator.{YieldsFirstBy, item_count};
-ghost use Rattle.dns_wire.specs.Names.{heads};
+ghost use Rattle.dns_wire.specs.Names.{labels_wire};
 ghost use Rattle.dns_label.specs.Labels.{AreLabels, contents_of, sequence_labels};
 
 use crate::label::Label;
@@ -41,15 +41,15 @@ impl<'a> LabelIter<'a> {
         ensures { IsTrue result ↔ AreLabels octets.now }
     {
         let mut rest = octets;
-        while let Ok((_label, behind)) = Label::split_bytes(rest) {
-            rest = behind;
+        while let Ok((_label, trailing)) = Label::split_bytes(rest) {
+            rest = trailing;
         }
         rest.is_empty()
     }
 
     /// The octets of the labels that are still to come.
     pub fn remaining(&self) -> &'a [u8]
-        ensures octets { result.now ≡ heads self.now }
+        ensures octets { result.now ≡ labels_wire self.now }
         ensures labels { sequence_labels result.now ≡ self.now }
     {
         self.octets

@@ -3,7 +3,7 @@
 ghost use Rattle.std.specs.Prelude.{◌≡◌, ◌≤◌, ◌↔◌, ℕ, List, [], ◌∷◌, length, codes, Option, Some, IsTrue};
 ghost use Rattle.std.proofs.Props.{props};
 ghost use Rattle.dns_wire.specs.Reading.{all_of};
-ghost use Rattle.dns_label.specs.Left.{label_leaves};
+ghost use Rattle.dns_label.specs.LabelsLemmas.{label_leaves};
 ghost use Rattle.dns_label.specs.Labels.{plain_label, contents_of, label_wire};
 
 use crate::label_buf::LabelBuf;
@@ -12,8 +12,8 @@ use dns_wire::{
     TruncationError, build_whole, put,
 };
 
-/// A label: a length of at most 63, and so many octets (RFC 1035 section 3.1). What contracts see of it
-/// are the octets behind the length, its contents.
+/// A label: a length of at most 63, and that many octets (RFC 1035 section 3.1). What contracts see of it
+/// are the octets after the length, its contents.
 #[derive(Clone, Copy, Debug)]
 pub struct Label<'a> {
     /// The length octet and the contents.
@@ -96,11 +96,11 @@ impl<'a> ReadPlainValue<'a> for Label<'a> {
 
     #[tactic(auto, unfolding(crate::specs::Labels::plain_label))]
     fn read_plain(bytes: &'a [u8]) -> Result<(Label<'a>, &'a [u8]), ParseError> {
-        let [size, behind @ ..] = bytes else {
+        let [size, trailing @ ..] = bytes else {
             return Err(ParseError);
         };
         let size = *size as usize;
-        if size > Label::MAX_SIZE || behind.len() < size {
+        if size > Label::MAX_SIZE || trailing.len() < size {
             return Err(ParseError);
         }
         let (slice, rest) = bytes.split_at(1 + size);
@@ -130,11 +130,11 @@ impl<'a> BuildBytes for Label<'a> {
 /// Whole: a label by itself is not shared.
 impl<'a> BuildInMessage for Label<'a> {
     ghost use Rattle.std.specs.Prelude.{None, ⊤};
-    ghost use Rattle.dns_wire.specs.Pieces.{whole_presses};
+    ghost use Rattle.dns_wire.specs.Layout.{octets_writes};
 
-    ghost presses = { λ v. whole_presses (label_wire (contents_of v.slice.now)) };
+    ghost writes = { λ v. octets_writes (label_wire (contents_of v.slice.now)) };
 
-    ghost told = { λ _. tt };
+    ghost layout_matches = { λ _. tt };
 
     fn build_in_message(
         &self,

@@ -3,7 +3,7 @@
 ghost use Rattle.std.specs.Prelude.{◌≡◌, ◌≤◌, ◌<◌, ◌+◌, ◌↔◌, ℕ, List, [], ◌∷◌, ◌++◌, length, take, slice_index, IsOk, IfOk, OnOk, OnErr, ⊤};
 ghost use Rattle.std.specs.Borrow.{sem};
 ghost use Rattle.std.specs.Str.{str_to_ascii_lowercase};
-ghost use Rattle.dns_label.specs.Left.{label_leaves};
+ghost use Rattle.dns_label.specs.LabelsLemmas.{label_leaves};
 ghost use Rattle.dns_label.specs.Labels.{plain_label, contents_of};
 
 use crate::label::Label;
@@ -15,6 +15,10 @@ use std::alloc::AllocError;
 use std::marker::Model;
 
 /// A label that owns its octets, and is seen as its contents. It takes no memory.
+///
+/// ```
+/// println!(rt; "{}", label_of(b"a.b\0")?)?; // a\.b\000
+/// ```
 #[derive(Debug, Drop)]
 pub struct LabelBuf {
     storage: Storage<64>,
@@ -82,7 +86,7 @@ impl LabelBuf {
         self.append(&[byte])
     }
 
-    /// Keeps so many octets from the front.
+    /// Keeps that many octets from the start.
     pub fn truncate(&mut self, new_len: usize)
         requires { new_len ≤ length self.old }
         ensures { self.new ≡ take new_len self.old }
@@ -119,7 +123,7 @@ impl LabelBuf {
     }
 }
 
-/// Copies the octets behind the length octet and so many others.
+/// Copies the octets after the length octet and that many others.
 fn append_at(octets: &mut [u8], size: usize, bytes: &[u8])
     requires { 1 + size + length bytes.now ≤ length octets.old }
     ensures { take (1 + size + length bytes.now) octets.new ≡ take (1 + size) octets.old ++ bytes.now }
@@ -137,11 +141,11 @@ pub fn label_of(bytes: &[u8]) -> Result<LabelBuf, TruncationError>
     Ok(label)
 }
 
+/// The empty label.
 impl Default for LabelBuf {
-    /// The empty label.
-    fn default() -> LabelBuf
-        ensures { result ≡ [] }
-    {
+    ghost is_default = { λ label. label ≡ [] };
+
+    fn default() -> LabelBuf {
         LabelBuf::new()
     }
 }
@@ -196,12 +200,12 @@ impl BuildBytes for LabelBuf {
 /// Whole: a label by itself is not shared.
 impl BuildInMessage for LabelBuf {
     ghost use Rattle.std.specs.Prelude.{None, ⊤};
-    ghost use Rattle.dns_wire.specs.Pieces.{whole_presses};
+    ghost use Rattle.dns_wire.specs.Layout.{octets_writes};
     ghost use Rattle.dns_label.specs.Labels.{label_wire};
 
-    ghost presses = { λ v. whole_presses (label_wire v) };
+    ghost writes = { λ v. octets_writes (label_wire v) };
 
-    ghost told = { λ _. tt };
+    ghost layout_matches = { λ _. tt };
 
     fn build_in_message(
         &self,

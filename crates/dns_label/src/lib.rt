@@ -14,6 +14,8 @@ mod text_laws;
 pub use iter::LabelIter;
 pub use label::Label;
 pub use label_buf::{LabelBuf, label_of};
-pub use laws::{labels_fill, one_label, order_of_labels};
+pub use laws::{label_sizes, labels_fill, one_label, order_of_labels};
 pub use text_error::{LabelParseError, LabelSplitError};
-pub use text_laws::{label_texts, plain_texts_are_printed, printed_labels_are_read};
+pub use text_laws::{
+    label_text_errors, label_texts, plain_texts_are_printed, printed_labels_are_read,
+};

@@ -1,4 +1,4 @@
-//! The order of labels: by their octets in small letters (RFC 4034 section 6.1).
+//! The order of labels: by their octets in lowercase (RFC 4034 section 6.1).
 
 ghost use Rattle.std.specs.Prelude.{◌≡◌};
 ghost use Rattle.std.proofs.Common.{rules};
@@ -18,7 +18,7 @@ impl PartialEq for Label<'_> {
 
     ghost laws = { Prim.search (comparing, rules) depth 9 };
 
-    /// Whether the contents are the same, ASCII case aside.
+    /// Whether the contents are the same, ignoring ASCII case.
     fn eq(&self, other: &Self) -> bool {
         self.contents().eq_ignore_ascii_case(other.contents())
     }
@@ -37,7 +37,7 @@ impl Ord for Label<'_> {
 
     ghost matches_eq = { Prim.search (comparing, rules) depth 9 };
 
-    /// By octets in small letters; a proper prefix comes first.
+    /// By octets in lowercase; a proper prefix comes first.
     fn cmp(&self, other: &Self) -> Ordering {
         compare_lowercase(self.contents(), other.contents())
     }
@@ -58,7 +58,7 @@ impl PartialEq for LabelBuf {
 
     ghost laws = { Prim.search (comparing, rules) depth 9 };
 
-    /// Whether the contents are the same, ASCII case aside.
+    /// Whether the contents are the same, ignoring ASCII case.
     fn eq(&self, other: &Self) -> bool {
         self.as_label() == other.as_label()
     }

@@ -34,7 +34,7 @@ impl LabelBuf {
         Ok(label)
     }
 
-    /// Reads the label at the front of the text, and gives the text behind it, which begins with an octet
+    /// Reads the label at the start of the text, and gives the text after it, which begins with an octet
     /// that no text of a label has. Each error comes exactly where its fault is the first one from the left.
     pub fn split_str(s: &[u8]) -> Result<(LabelBuf, &[u8]), LabelSplitError>
         ensures { Answers (λ x. (x.0, x.1.now)) result (split_label s.now) }
@@ -58,52 +58,52 @@ impl FromStr for LabelBuf {
     }
 }
 
-/// Scans a label from the left, and gives the text behind it.
+/// Scans a label from the left, and gives the text after it.
 fn scan(text: &[u8]) -> Result<(LabelBuf, &[u8]), ScanFault>
     ensures { Answers (λ x. (x.0, x.1.now)) result (label_scan text.now) }
 {
     let mut label = LabelBuf::new();
     let mut rest = text;
-    while let Some((octet, behind)) = next_octet(rest)? {
+    while let Some((octet, trailing)) = next_octet(rest)? {
         if label.push(octet).is_err() {
             return Err(ScanFault::Overlong);
         }
-        rest = behind;
+        rest = trailing;
     }
     Ok((label, rest))
 }
 
-/// The next octet of a label, and the text behind it. There is none at the end of the text, and before an
+/// The next octet of a label, and the text after it. There is none at the end of the text, and before an
 /// octet that no text of a label has.
 #[tactic(auto, unfolding(crate::specs::Text::next_octet))]
 fn next_octet(text: &[u8]) -> Result<Option<(u8, &[u8])>, ScanFault>
     ensures { Answers (λ found. option_map (λ x. (x.0, x.1.now)) found) result (next_octet text.now) }
 {
-    let [octet, behind @ ..] = text else {
+    let [octet, trailing @ ..] = text else {
         return Ok(None);
     };
     if is_plain(*octet) {
-        return Ok(Some((*octet, behind)));
+        return Ok(Some((*octet, trailing)));
     }
     if *octet == b'\\' {
-        return escaped(behind);
+        return escaped(trailing);
     }
     Ok(None)
 }
 
-/// The octet that stands behind a backslash, and the text behind it.
+/// The octet that stands after a backslash, and the text after it.
 #[tactic(auto, unfolding(crate::specs::Text::escaped))]
 fn escaped(text: &[u8]) -> Result<Option<(u8, &[u8])>, ScanFault>
     ensures { Answers (λ found. option_map (λ x. (x.0, x.1.now)) found) result (escaped text.now) }
 {
-    let [octet, behind @ ..] = text else {
+    let [octet, trailing @ ..] = text else {
         return Err(ScanFault::CutEscape);
     };
     if octet.is_ascii_digit() {
-        return in_digits(*octet, behind);
+        return in_digits(*octet, trailing);
     }
     if octet.is_ascii_graphic() {
-        return Ok(Some((*octet, behind)));
+        return Ok(Some((*octet, trailing)));
     }
     Err(ScanFault::WrongEscape)
 }
@@ -114,7 +114,7 @@ fn in_digits(first: u8, text: &[u8]) -> Result<Option<(u8, &[u8])>, ScanFault>
     requires { IsAsciiDigit first }
     ensures { Answers (λ found. option_map (λ x. (x.0, x.1.now)) found) result (in_digits first text.now) }
 {
-    let [second, third, behind @ ..] = text else {
+    let [second, third, trailing @ ..] = text else {
         return Err(ScanFault::CutEscape);
     };
     if !second.is_ascii_digit() || !third.is_ascii_digit() {
@@ -124,7 +124,7 @@ fn in_digits(first: u8, text: &[u8]) -> Result<Option<(u8, &[u8])>, ScanFault>
     if number > 255 {
         return Err(ScanFault::WrongEscape);
     }
-    Ok(Some((number as u8, behind)))
+    Ok(Some((number as u8, trailing)))
 }
 
 /// The number of three decimal digits.
@@ -162,7 +162,7 @@ impl fmt::Display for Label<'_> {
     ghost output = { λ v. Some (shown_label (contents_of v.slice.now)) };
 
     /// Prints the contents octet by octet: letters, digits and most marks as they are, other graphic ASCII
-    /// behind a backslash, and any other octet as a backslash and three decimal digits.
+    /// after a backslash, and any other octet as a backslash and three decimal digits.
     fn fmt<W: fmt::Write>(&self, f: &mut fmt::Formatter<W>) -> fmt::Result {
         for octet in self.contents() {
             f.write(Shown(*octet))?;

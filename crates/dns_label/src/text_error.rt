@@ -11,7 +11,7 @@ pub enum LabelParseError {
     /// An octet stands in the text that no text of a label has, as a space or a dot.
     #[error("the label contained an invalid character")]
     InvalidChar,
-    /// The text ends within an escape: behind a backslash, or before the third of three digits.
+    /// The text ends within an escape: after a backslash, or before the third of three digits.
     #[error("the label contained an incomplete escape")]
     PartialEscape,
     /// A backslash stands before what is no escape: a number that is not of three decimal digits or is
@@ -20,7 +20,7 @@ pub enum LabelParseError {
     InvalidEscape,
 }
 
-/// No label is at the front of a text.
+/// No label is at the start of a text.
 #[derive(Clone, Copy, Debug, PartialEq, Eq, Error)]
 pub enum LabelSplitError {
     /// The label would have more than 63 octets (RFC 1035 section 2.3.4).

@@ -7,13 +7,13 @@ use Rattle.dns_record.specs.Fields.{fields_octets, canonical_fields, canonical_o
 use Rattle.dns_record.specs.declared.record.Record.{Record}
 use Rattle.dns_rdata.specs.Data.{type_number}
 use Rattle.dns_rdata.specs.declared.record_data.RecordData.{RecordData}
-use Rattle.dns_message.specs.Canonical.{canon, octets_of_parts}
-use Rattle.dns_message.specs.Seen.{AreSound, data_seen, record_told}
+use Rattle.dns_message.specs.Canonical.{canonical_wire, octets_of_parts}
+use Rattle.dns_message.specs.Seen.{AreSound, data_seen, record_value}
 use Rattle.dns_message.proofs.Lengths.{as_canonical}
 
 -- the octets of the parts are the canonical ones
 parts_are : (a : Record (List (List ℕ)) (RecordData (List (List ℕ)))) → AreSound a
-    → octets_of_parts (lowered a.rname) a.rtype.code.value a.rclass.code.value a.ttl.value.value (canonical_octets (type_number a.rdata) (data_seen a.rdata)) ≡ canon (record_told a)
+    → octets_of_parts (lowered a.rname) a.rtype.code.value a.rclass.code.value a.ttl.value.value (canonical_octets (type_number a.rdata) (data_seen a.rdata)) ≡ canonical_wire (record_value a)
 parts_are a sound =
     ap (λ (t : ℕ). octets_of_parts (lowered a.rname) a.rtype.code.value a.rclass.code.value a.ttl.value.value (fields_octets (canonical_fields t (data_seen a.rdata)))) (sym sound.0.0)
 
@@ -22,10 +22,10 @@ built_as octets others old new start (Ok end) fits is built = record { ok = (tt,
 built_as octets others old new start (Err e) fits is built = record { ok = tt; err = (built.err.0, built.err.1, λ _. omega (arith, built.err.2 fits, ap length is)) }
 
 -- so they are written where the parts are, whose data are short
-pub canon_built : {E F : Type 0} (a : Record (List (List ℕ)) (RecordData (List (List ℕ)))) → AreSound a → (v : RecordData (List (List ℕ))) → v ≡ a.rdata
+pub canonical_wire_built : {E F : Type 0} (a : Record (List (List ℕ)) (RecordData (List (List ℕ)))) → AreSound a → (v : RecordData (List (List ℕ))) → v ≡ a.rdata
     → (old new : List ℕ) (start : ℕ) (result : Result ℕ E) → (length (canonical_octets (type_number v) (data_seen v)) < 2 ^ 16 → F)
     → Builds F (octets_of_parts (lowered a.rname) a.rtype.code.value a.rclass.code.value a.ttl.value.value (canonical_octets (type_number v) (data_seen v))) old start new result
-    → Builds ⊤ (canon (record_told a)) old start new result
-canon_built a sound v is old new start result fits built =
+    → Builds ⊤ (canonical_wire (record_value a)) old start new result
+canonical_wire_built a sound v is old new start result fits built =
     let parts = ap (λ (d : RecordData (List (List ℕ))). octets_of_parts (lowered a.rname) a.rtype.code.value a.rclass.code.value a.ttl.value.value (canonical_octets (type_number d) (data_seen d))) is in
     built_as _ _ old new start result (fits (omega (arith, as_canonical v, sound.1, ap (λ d. length (fields_octets (data_seen d))) is))) (parts ∙ parts_are a sound) built

@@ -27,12 +27,12 @@ contained x (y ∷ ys) (inr h) = let c = contained x ys h in (suc c.0, omega (ar
 among_either : {X : Type 0} (x : X) (xs ys : List X) → Among x (xs ++ ys) → Among x xs ⊎ Among x ys
 among_either x [] ys h = inr h
 among_either x (y ∷ xs) ys (inl e) = inl (inl e)
-among_either x (y ∷ xs) ys (inr h) = elim (among_either x xs ys h) [ inl front ↦ inl (inr front) | inr back ↦ inr back ]
+among_either x (y ∷ xs) ys (inr h) = elim (among_either x xs ys h) [ inl prefix ↦ inl (inr prefix) | inr back ↦ inr back ]
 
-among_front : {X : Type 0} (x : X) (xs ys : List X) → Among x xs → Among x (xs ++ ys)
-among_front x [] ys h = absurd h
-among_front x (y ∷ xs) ys (inl e) = inl e
-among_front x (y ∷ xs) ys (inr h) = inr (among_front x xs ys h)
+among_prefix : {X : Type 0} (x : X) (xs ys : List X) → Among x xs → Among x (xs ++ ys)
+among_prefix x [] ys h = absurd h
+among_prefix x (y ∷ xs) ys (inl e) = inl e
+among_prefix x (y ∷ xs) ys (inr h) = inr (among_prefix x xs ys h)
 
 among_back : {X : Type 0} (x : X) (xs ys : List X) → Among x ys → Among x (xs ++ ys)
 among_back x [] ys h = h
@@ -59,10 +59,10 @@ slots_have section first (suc n) index low high = elim (cases_lt first index) [
 
 -- a place in the sections from this one on
 record InSections (counts : List ℕ) (section : ℕ) (x : ℕ × ℕ) : Type 0 where
-  behind : ℕ
-  there : x.0 ≡ section + behind
-  known : behind < length counts
-  below : x.1 < get_or counts behind 0
+  trailing : ℕ
+  there : x.0 ≡ section + trailing
+  known : trailing < length counts
+  below : x.1 < get_or counts trailing 0
 
 in_sections : (counts : List ℕ) (section : ℕ) (x : ℕ × ℕ) → Among x (slots_from section counts) → InSections counts section x
 unfolding slots_from
@@ -70,23 +70,23 @@ in_sections [] section x h = absurd h
 in_sections (count ∷ counts) section x h = elim (among_either x (slots section 0 count) (slots_from (section + 1) counts) h) [
   | inl here ↦
       let p = in_slots section 0 count x here in
-      record { behind = 0; there = omega (arith, p.0); known = omega arith; below = omega (arith, p.2) }
+      record { trailing = 0; there = omega (arith, p.0); known = omega arith; below = omega (arith, p.2) }
   | inr later ↦
       let p = in_sections counts (section + 1) x later in
-      record { behind = suc p.behind; there = omega (arith, p.there); known = omega (arith, p.known); below = p.below }
+      record { trailing = suc p.trailing; there = omega (arith, p.there); known = omega (arith, p.known); below = p.below }
 ]
 
-sections_have : (counts : List ℕ) (section behind index : ℕ) → behind < length counts → index < get_or counts behind 0 → Among (section + behind, index) (slots_from section counts)
+sections_have : (counts : List ℕ) (section trailing index : ℕ) → trailing < length counts → index < get_or counts trailing 0 → Among (section + trailing, index) (slots_from section counts)
 unfolding slots_from
-sections_have [] section behind index known below = absurd (omega arith)
+sections_have [] section trailing index known below = absurd (omega arith)
 sections_have (count ∷ counts) section zero index known below =
     let here : section ≡ section + 0 = omega arith in
-    among_front (section + 0, index) (slots section 0 count) (slots_from (section + 1) counts)
+    among_prefix (section + 0, index) (slots section 0 count) (slots_from (section + 1) counts)
     (subst (λ (s : ℕ). Among (s, index) (slots section 0 count)) here (slots_have section 0 count index (omega arith) (omega arith)))
-sections_have (count ∷ counts) section (suc behind) index known below =
-    let here : section + 1 + behind ≡ section + suc behind = omega arith in
-    among_back (section + suc behind, index) (slots section 0 count) (slots_from (section + 1) counts)
-    (subst (λ (s : ℕ). Among (s, index) (slots_from (section + 1) counts)) here (sections_have counts (section + 1) behind index (omega arith) below))
+sections_have (count ∷ counts) section (suc trailing) index known below =
+    let here : section + 1 + trailing ≡ section + suc trailing = omega arith in
+    among_back (section + suc trailing, index) (slots section 0 count) (slots_from (section + 1) counts)
+    (subst (λ (s : ℕ). Among (s, index) (slots_from (section + 1) counts)) here (sections_have counts (section + 1) trailing index (omega arith) below))
 
 -- ---- the counts
 
@@ -112,7 +112,7 @@ among_counted m section index is =
 counted_among : (m : List ℕ) (section index : ℕ) → 12 ≤ length m → Among (section, index) (counted_slots m) → IsCounted m section index
 counted_among m section index header h =
     let p = in_sections (counts_of m) 0 (section, index) h in
-    let here : p.behind ≡ section = omega (arith, p.there) in
+    let here : p.trailing ≡ section = omega (arith, p.there) in
     let four : section ≤ 3 = omega (arith, p.known, here) in
     record {
       four = four;
@@ -136,8 +136,8 @@ Rises (x ∷ xs) = ((y : ℕ × ℕ) → Among y xs → IsEarlier x y) × Rises 
 both_rise : (xs ys : List (ℕ × ℕ)) → Rises xs → Rises ys → ((x y : ℕ × ℕ) → Among x xs → Among y ys → IsEarlier x y) → Rises (xs ++ ys)
 both_rise [] ys p q far = q
 both_rise (x ∷ xs) ys p q far = (
-  λ y h. elim (among_either y xs ys h) [ inl front ↦ p.0 y front | inr back ↦ far x y (inl refl) back ],
-  both_rise xs ys p.1 q (λ z y front back. far z y (inr front) back),
+  λ y h. elim (among_either y xs ys h) [ inl prefix ↦ p.0 y prefix | inr back ↦ far x y (inl refl) back ],
+  both_rise xs ys p.1 q (λ z y prefix back. far z y (inr prefix) back),
 )
 
 slots_rise : (section first n : ℕ) → Rises (slots section first n)
@@ -150,11 +150,11 @@ unfolding slots_from
 sections_rise [] section = tt
 sections_rise (count ∷ counts) section =
     both_rise (slots section 0 count) (slots_from (section + 1) counts) (slots_rise section 0 count) (sections_rise counts (section + 1))
-    (λ x y front back. (let k = in_slots section 0 count x front in let p = in_sections counts (section + 1) y back in inl (omega (arith, k.0, p.there))))
+    (λ x y prefix back. (let k = in_slots section 0 count x prefix in let p = in_sections counts (section + 1) y back in inl (omega (arith, k.0, p.there))))
 
-before_is : (front middle back : List (ℕ × ℕ)) (x y : ℕ × ℕ) → Rises (front ++ x ∷ (middle ++ y ∷ back)) → IsEarlier x y
+before_is : (prefix middle back : List (ℕ × ℕ)) (x y : ℕ × ℕ) → Rises (prefix ++ x ∷ (middle ++ y ∷ back)) → IsEarlier x y
 before_is [] middle back x y p = p.0 y (among_back y middle (y ∷ back) (inl refl))
-before_is (z ∷ front) middle back x y p = before_is front middle back x y p.1
+before_is (z ∷ prefix) middle back x y p = before_is prefix middle back x y p.1
 
 not_both : (x y : ℕ × ℕ) → IsEarlier x y → IsEarlier y x → ⊥
 not_both x y (inl p) (inl q) = absurd (omega arith)
@@ -162,7 +162,7 @@ not_both x y (inl p) (inr q) = absurd (omega (arith, q.0))
 not_both x y (inr p) (inl q) = absurd (omega (arith, p.0))
 not_both x y (inr p) (inr q) = absurd (omega (arith, p.1, q.1))
 
-parted : (y : ℕ × ℕ) (ys : List (ℕ × ℕ)) → Among y ys → (front back : List (ℕ × ℕ)) × (ys ≡ front ++ y ∷ back)
+parted : (y : ℕ × ℕ) (ys : List (ℕ × ℕ)) → Among y ys → (prefix back : List (ℕ × ℕ)) × (ys ≡ prefix ++ y ∷ back)
 parted y [] h = absurd h
 parted y (z ∷ ys) (inl e) = ([], ys, ap (λ (w : ℕ × ℕ). w ∷ ys) (sym e))
 parted y (z ∷ ys) (inr h) = let p = parted y ys h in (z ∷ p.0, p.1, ap (λ (l : List (ℕ × ℕ)). z ∷ l) p.2)
@@ -181,7 +181,7 @@ stands_before (z ∷ zs) x y rises (inr h) (inr k) earlier =
     (z ∷ s.0, s.1, s.2, ap (λ (l : List (ℕ × ℕ)). z ∷ l) s.3)
 
 pub earlier_before : (m : List ℕ) (x y : ℕ × ℕ) → StandsBefore x y (counted_slots m) → IsEarlier x y
-earlier_before m x y (front, middle, back, is) = before_is front middle back x y (subst Rises is (sections_rise (counts_of m) 0))
+earlier_before m x y (prefix, middle, back, is) = before_is prefix middle back x y (subst Rises is (sections_rise (counts_of m) 0))
 
 pub order_words : (m : List ℕ) (section index other place : ℕ) → IsCounted m section index → IsCounted m other place
     → StandsBefore (section, index) (other, place) (counted_slots m) ↔ IsEarlier (section, index) (other, place)

@@ -1,13 +1,13 @@
--- Octets behind an item do not change how it is read.
+-- Octets after an item do not change how it is read.
 use Rattle.std.proofs.Common.{◌≡◌, ℕ, List, [], ◌∷◌, ◌++◌, take, drop, Some, sym, ap, subst, ◌∙◌, arith}
 use Rattle.std.specs.Int.{Width, byte_len, from_be_bytes}
 use Rattle.std.proofs.lemmas.List.{length-append, length-drop, take-append-le, drop-append-le}
 use Rattle.dns_wire.proofs.Following.{name_more}
 use Rattle.dns_record.specs.InPlace.{NumberAt, DataAt, QuestionAt, RecordAt}
-use Rattle.dns_message.specs.Messages.{Item, Rec, Question, item_at}
-use Rattle.dns_message.specs.Messages.Item.{Asked, Told}
+use Rattle.dns_message.specs.Messages.{Item, RecordValue, Question, item_at}
+use Rattle.dns_message.specs.Messages.Item.{QuestionItem, RecordItem}
 use Rattle.dns_message.specs.Worded.{ItemAt, ItemsAt}
-use Rattle.dns_message.proofs.Standing.{item_is, item_found}
+use Rattle.dns_message.proofs.ItemLemmas.{item_is, item_found}
 
 number_more : (contents more : List ℕ) (at : ℕ) (w : Width) (n end : ℕ) → NumberAt contents at w n end → NumberAt (contents ++ more) at w n end
 number_more contents more at w n end is =
@@ -26,7 +26,7 @@ question_more contents more at q end is = record {
 }
 
 -- data are read up to the end of their record alone
-record_more : (contents more : List ℕ) (at : ℕ) (r : Rec) (end : ℕ) → RecordAt contents at r end → RecordAt (contents ++ more) at r end
+record_more : (contents more : List ℕ) (at : ℕ) (r : RecordValue) (end : ℕ) → RecordAt contents at r end → RecordAt (contents ++ more) at r end
 record_more contents more at r end is = record {
   owner_end = is.owner_end;
   type_end = is.type_end;
@@ -45,8 +45,8 @@ record_more contents more at r end is = record {
 }
 
 stands_more : (section : ℕ) (contents more : List ℕ) (at : ℕ) (item : Item) (end : ℕ) → ItemAt section contents at item end → ItemAt section (contents ++ more) at item end
-stands_more section contents more at (Asked q) end is = (is.0, question_more contents more at q end is.1)
-stands_more section contents more at (Told r) end is = (is.0, record_more contents more at r end is.1)
+stands_more section contents more at (QuestionItem q) end is = (is.0, question_more contents more at q end is.1)
+stands_more section contents more at (RecordItem r) end is = (is.0, record_more contents more at r end is.1)
 
 pub item_more : (section : ℕ) (contents more : List ℕ) (at : ℕ) (item : Item) (end : ℕ) → item_at section contents at ≡ Some (item, end) → item_at section (contents ++ more) at ≡ Some (item, end)
 item_more section contents more at item end e =

@@ -7,10 +7,10 @@ use Rattle.dns_wire.proofs.Lowered.{lowered_long}
 use Rattle.dns_record.specs.Fields.{fields_octets, canonical_octets, canonical_fields}
 use Rattle.dns_record.proofs.Sizes.{canonical_long}
 use Rattle.dns_rdata.specs.Data.{data_fields, type_number, written_fields}
-use Rattle.dns_rdata.specs.Written.{fields_written}
+use Rattle.dns_rdata.specs.CanonicalSizes.{fields_written}
 use Rattle.dns_rdata.specs.declared.record_data.RecordData.{RecordData}
-use Rattle.dns_message.specs.Canonical.{canon}
-use Rattle.dns_message.specs.Messages.{Rec}
+use Rattle.dns_message.specs.Canonical.{canonical_wire}
+use Rattle.dns_message.specs.Messages.{RecordValue}
 use Rattle.dns_message.specs.Seen.{data_seen}
 
 -- data are written as their fields are
@@ -22,8 +22,8 @@ pub as_canonical : (v : RecordData (List (List ℕ))) → length (canonical_octe
 as_canonical v = canonical_long (type_number v) (data_seen v)
 
 -- an owner, ten octets, and the data
-pub canon_long : (r : Rec) → length (canon r) ≡ length (wire r.owner) + (10 + length (fields_octets r.content))
-canon_long r =
+pub canonical_wire_long : (r : RecordValue) → length (canonical_wire r) ≡ length (wire r.owner) + (10 + length (fields_octets r.content))
+canonical_wire_long r =
     let small = fields_octets (canonical_fields r.rtype r.content) in
     omega (
       arith,

@@ -1,4 +1,4 @@
--- Numbers that are octets, in parts of lists and in small letters.
+-- Numbers that are octets, in parts of lists and in lowercase.
 use Rattle.std.proofs.Common.{ℕ, zero, suc, ◌+◌, ◌/◌, ◌%◌, ◌<◌, inl, inr, List, [], ◌∷◌, ◌++◌, take, drop, arith}
 use Rattle.std.specs.Int.{w16, w32, to_be_bytes}
 use Rattle.std.specs.Char.{to_ascii_lowercase}
@@ -7,7 +7,7 @@ use Rattle.std.proofs.lemmas.Bool.{cases_lt}
 use Rattle.std.proofs.lemmas.List.{get_or-drop}
 use Rattle.std.proofs.lemmas.Str.Ascii.{lowercase_is}
 use Rattle.dns_wire.specs.Reading.{AreOctets}
-use Rattle.dns_num.proofs.Counted.{octets_front}
+use Rattle.dns_num.proofs.CountedData.{octets_prefix}
 
 pub no_octets : AreOctets []
 no_octets i = omega arith
@@ -16,14 +16,14 @@ pub one_more : (b : ℕ) (bytes : List ℕ) → b < 256 → AreOctets bytes → 
 one_more b bytes fits are zero = fits
 one_more b bytes fits are (suc i) = are i
 
-pub octets_in_front : (xs ys : List ℕ) → AreOctets (xs ++ ys) → AreOctets xs
-octets_in_front [] ys all i = omega arith
-octets_in_front (x ∷ xs) ys all zero = all 0
-octets_in_front (x ∷ xs) ys all (suc i) = octets_in_front xs ys (λ k. all (suc k)) i
+pub octets_in_prefix : (xs ys : List ℕ) → AreOctets (xs ++ ys) → AreOctets xs
+octets_in_prefix [] ys all i = omega arith
+octets_in_prefix (x ∷ xs) ys all zero = all 0
+octets_in_prefix (x ∷ xs) ys all (suc i) = octets_in_prefix xs ys (λ k. all (suc k)) i
 
-pub octets_behind : (xs ys : List ℕ) → AreOctets (xs ++ ys) → AreOctets ys
-octets_behind [] ys all = all
-octets_behind (x ∷ xs) ys all = octets_behind xs ys (λ k. all (suc k))
+pub octets_after : (xs ys : List ℕ) → AreOctets (xs ++ ys) → AreOctets ys
+octets_after [] ys all = all
+octets_after (x ∷ xs) ys all = octets_after xs ys (λ k. all (suc k))
 
 pub octets_of_both : (xs ys : List ℕ) → AreOctets xs → AreOctets ys → AreOctets (xs ++ ys)
 octets_of_both [] ys p q k = q k
@@ -34,7 +34,7 @@ pub octets_from : (n : ℕ) (bytes : List ℕ) → AreOctets bytes → AreOctets
 octets_from n bytes are i = rw (get_or-drop n bytes i 0) (are (n + i))
 
 pub octets_up_to : (n : ℕ) (bytes : List ℕ) → AreOctets bytes → AreOctets (take n bytes)
-octets_up_to n bytes are = octets_front bytes n are
+octets_up_to n bytes are = octets_prefix bytes n are
 
 -- ---- numbers
 
@@ -47,7 +47,7 @@ number_octets_4 n =
     (one_more (n / 65536 % 256) (n / 256 % 256 ∷ n % 256 ∷ []) (omega arith)
     (one_more (n / 256 % 256) (n % 256 ∷ []) (omega arith) (one_more (n % 256) [] (omega arith) no_octets)))
 
--- ---- small letters
+-- ---- lowercase letters
 
 letter_fits : (b : ℕ) → b < 256 → to_ascii_lowercase b < 256
 letter_fits b fits = elim (cases_lt b 65) [

@@ -1,7 +1,7 @@
 -- A message has one reading.
 use Rattle.std.proofs.Common.{◌≡◌, ℕ, ◌<◌, ◌⊎◌, inl, inr, false, List, length, drop, refl, sym, ap, ◌∙◌, Option, Some, None, ltb, [], ◌∷◌}
 use Rattle.std.proofs.lemmas.Bool.{cases_lt, le-ltb}
-use Rattle.dns_message.specs.Messages.{Item as MessageItem, Rec, Reading, item_at, with_item, then_read, reading_from, slots_from, counts_of, message_reading, records_among, Valid, StopsAt, BadAt}
+use Rattle.dns_message.specs.Messages.{Item as MessageItem, RecordValue, Reading, item_at, with_item, then_read, reading_from, slots_from, counts_of, message_reading, records_among, Valid, StopsAt, BadAt}
 use Rattle.dns_message.specs.Messages.Reading.{Short, Stopped, Whole}
 use Rattle.dns_message.proofs.Phrased.{short_reading}
 
@@ -13,20 +13,20 @@ whole_same e = (cc, cc)
 stopped_same : {xs ys : List MessageItem} {s i p t j q : ℕ} → Stopped xs s i p ≡ Stopped ys t j q → (s ≡ t) × (i ≡ j) × (p ≡ q)
 stopped_same e = (cc, cc, cc)
 
-pub valid_one : (m : List ℕ) (rs ss : List Rec) → Valid m rs → Valid m ss → rs ≡ ss
+pub valid_one : (m : List ℕ) (rs ss : List RecordValue) → Valid m rs → Valid m ss → rs ≡ ss
 valid_one m rs ss (items, end, is, rs-is) (others, other, js, ss-is) =
     rs-is ∙ ap records_among (whole_same (sym is ∙ js)).0 ∙ sym ss-is
 
 pub stops_one : (m : List ℕ) (s i p t j q : ℕ) → StopsAt m s i p → StopsAt m t j q → (s ≡ t) × (i ≡ j) × (p ≡ q)
 stops_one m s i p t j q (items, is) (others, js) = stopped_same (sym is ∙ js)
 
-pub valid_not_short : (m : List ℕ) (rs : List Rec) → Valid m rs → length m < 12 → ⊥
+pub valid_not_short : (m : List ℕ) (rs : List RecordValue) → Valid m rs → length m < 12 → ⊥
 valid_not_short m rs (items, end, is, rs-is) short = let e = sym (short_reading m short) ∙ is in cc
 
 pub stops_not_short : (m : List ℕ) (s i p : ℕ) → StopsAt m s i p → length m < 12 → ⊥
 stops_not_short m s i p (items, is) short = let e = sym (short_reading m short) ∙ is in cc
 
-pub stops_not_valid : (m : List ℕ) (s i p : ℕ) (rs : List Rec) → StopsAt m s i p → Valid m rs → ⊥
+pub stops_not_valid : (m : List ℕ) (s i p : ℕ) (rs : List RecordValue) → StopsAt m s i p → Valid m rs → ⊥
 stops_not_valid m s i p rs (items, is) (others, end, js, rs-is) = let e = sym is ∙ js in cc
 
 -- ---- some reading
@@ -45,7 +45,7 @@ never_short c (slot ∷ slots) at e = by (item_at slot.0 c at) e (λ next h. nev
   by None e more = cc
   by (Some (item, next)) e more = more next (with_item_long item (reading_from c slots next) e)
 
-pub three_kinds : (m : List ℕ) → (length m < 12) ⊎ (((rs : List Rec) × Valid m rs) ⊎ ((s i : ℕ) × BadAt m s i))
+pub three_kinds : (m : List ℕ) → (length m < 12) ⊎ (((rs : List RecordValue) × Valid m rs) ⊎ ((s i : ℕ) × BadAt m s i))
 unfolding message_reading
 three_kinds m = elim (cases_lt (length m) 12) [
   | inl short ↦ inl short
@@ -55,7 +55,7 @@ three_kinds m = elim (cases_lt (length m) 12) [
       inr (by (reading_from (drop 12 m) (slots_from 0 (counts_of m)) 0) refl same)
 ] where
   by : (reading : Reading) → reading_from (drop 12 m) (slots_from 0 (counts_of m)) 0 ≡ reading → message_reading m ≡ reading_from (drop 12 m) (slots_from 0 (counts_of m)) 0
-      → ((rs : List Rec) × Valid m rs) ⊎ ((s i : ℕ) × BadAt m s i)
+      → ((rs : List RecordValue) × Valid m rs) ⊎ ((s i : ℕ) × BadAt m s i)
   by Short e is = absurd (never_short (drop 12 m) (slots_from 0 (counts_of m)) 0 e)
   by (Stopped items s i p) e is = inr (s, i, (p, (items, is ∙ e)))
   by (Whole items end) e is = inl (records_among items, (items, end, is ∙ e, refl))

@@ -12,15 +12,15 @@ use Rattle.std.proofs.lemmas.List.{reverse-reverse, length-append}
 use Rattle.std.proofs.lemmas.List.Sorted.{IsPermutation-refl, IsPermutation-cons, IsPermutation-middle, IsPermutation-trans}
 use Rattle.dns_wire.specs.Names.{lowered}
 use Rattle.dns_wire.proofs.Lowered.{wire_parts, name_lowered, lowered_long}
-use Rattle.dns_message.specs.Canonical.{canon, is_kept, octets_of_parts}
+use Rattle.dns_message.specs.Canonical.{canonical_wire, is_not_opt, octets_of_parts}
 use Rattle.dns_record.specs.Types.{is_lowercased}
-use Rattle.dns_record.specs.Fields.{Field, field_octets, fields_octets, folded_field, canonical_fields}
-use Rattle.dns_record.specs.Fields.FieldOf.{Named, Bare, Raw, Sized, Byte, Number}
-use Rattle.dns_message.specs.Messages.{Rec}
+use Rattle.dns_record.specs.Fields.{Field, field_octets, fields_octets, lowercased_field, canonical_fields}
+use Rattle.dns_record.specs.Fields.FieldOf.{Compressible, Uncompressed, Raw, Sized, Byte, Number}
+use Rattle.dns_message.specs.Messages.{RecordValue}
 use Rattle.dns_message.specs.Order.{SortKey, sort_key, sort_key_cmp, record_cmp, Before, precedes, inserted, in_order, octets_of_key}
 use Rattle.dns_message.specs.Sorted.{times, NoneBelow, Ascends}
 use Rattle.dns_message.specs.WellFormed.{WellFormed}
-use Rattle.dns_message.proofs.Sorting.{SameSums, sort_key_cmp_total, sort_key_cmp_same, sorted_unique, sums_permuted, in_order_sums, ascends_in_order}
+use Rattle.dns_message.proofs.SortedRecords.{SameSums, sort_key_cmp_total, sort_key_cmp_same, sorted_unique, sums_permuted, in_order_sums, ascends_in_order}
 
 -- ---- the order
 
@@ -44,34 +44,34 @@ four_octets n m x y p q e =
     let d : n % 256 ≡ m % 256 = cc in
     (omega arith, cc)
 
--- small letters change no length
-field_long : (field : Field) → length (field_octets (folded_field field)) ≡ length (field_octets field)
-field_long (Named labels) = lowered_long labels
-field_long (Bare labels) = lowered_long labels
+-- lowercase letters change no length
+field_long : (field : Field) → length (field_octets (lowercased_field field)) ≡ length (field_octets field)
+field_long (Compressible labels) = lowered_long labels
+field_long (Uncompressed labels) = lowered_long labels
 field_long (Raw octets) = refl
 field_long (Sized octets) = refl
 field_long (Byte b) = refl
 field_long (Number w n) = refl
 
-folded_long : (fields : List Field) → length (fields_octets (map folded_field fields)) ≡ length (fields_octets fields)
-folded_long [] = refl
-folded_long (field ∷ fields) =
-    length-append (field_octets (folded_field field)) (fields_octets (map folded_field fields))
-    ∙ omega (arith, field_long field, folded_long fields, length-append (field_octets field) (fields_octets fields))
+lowercased_long : (fields : List Field) → length (fields_octets (map lowercased_field fields)) ≡ length (fields_octets fields)
+lowercased_long [] = refl
+lowercased_long (field ∷ fields) =
+    length-append (field_octets (lowercased_field field)) (fields_octets (map lowercased_field fields))
+    ∙ omega (arith, field_long field, lowercased_long fields, length-append (field_octets field) (fields_octets fields))
 
-octets_long : (r : Rec) → WellFormed r → length (fields_octets (canonical_fields r.rtype r.content)) < 2 ^ 16
+octets_long : (r : RecordValue) → WellFormed r → length (fields_octets (canonical_fields r.rtype r.content)) < 2 ^ 16
 octets_long r is = by (is_lowercased r.rtype) where
-  by : (b : Bool) → length (fields_octets (cond b (map folded_field r.content) r.content)) < 2 ^ 16
-  by true = omega (arith, is.size, folded_long r.content)
+  by : (b : Bool) → length (fields_octets (cond b (map lowercased_field r.content) r.content)) < 2 ^ 16
+  by true = omega (arith, is.size, lowercased_long r.content)
   by false = is.size
 
 -- the canonical octets are those of what is compared
-pub key_canon : (r : Rec) → octets_of_key (sort_key r) ≡ canon r
-key_canon r = ap (λ (small : List (List ℕ)). octets_of_parts small r.rtype r.class r.ttl (fields_octets (canonical_fields r.rtype r.content))) (reverse-reverse (lowered r.owner))
+pub key_canonical_wire : (r : RecordValue) → octets_of_key (sort_key r) ≡ canonical_wire r
+key_canonical_wire r = ap (λ (small : List (List ℕ)). octets_of_parts small r.rtype r.class r.ttl (fields_octets (canonical_fields r.rtype r.content))) (reverse-reverse (lowered r.owner))
 
 -- equal canonical octets are of records that are compared as equal
-pub keys_from_canon : (r s : Rec) → WellFormed r → WellFormed s → canon r ≡ canon s → sort_key r ≡ sort_key s
-keys_from_canon r s is js e =
+pub keys_from_canonical_wire : (r s : RecordValue) → WellFormed r → WellFormed s → canonical_wire r ≡ canonical_wire s → sort_key r ≡ sort_key s
+keys_from_canonical_wire r s is js e =
     let owner = wire_parts (lowered r.owner) (lowered s.owner) _ _ (name_lowered r.owner is.owner) (name_lowered s.owner js.owner) e in
     let rtype = two_octets r.rtype s.rtype _ _ is.rtype js.rtype owner.1 in
     let class = two_octets r.class s.class _ _ is.class js.class rtype.1 in
@@ -79,25 +79,25 @@ keys_from_canon r s is js e =
     let size = two_octets _ _ _ _ (octets_long r is) (octets_long s js) ttl.1 in
     λ i. record { owner = reverse (owner.0 i); class = class.0 i; rtype = rtype.0 i; octets = size.1 i; ttl = ttl.0 i }
 
-canon_from_equal : (r s : Rec) → record_cmp r s ≡ Equal → canon r ≡ canon s
-canon_from_equal r s e = sym (key_canon r) ∙ ap octets_of_key (sort_key_cmp_same (sort_key r) (sort_key s) e) ∙ key_canon s
+canonical_wire_from_equal : (r s : RecordValue) → record_cmp r s ≡ Equal → canonical_wire r ≡ canonical_wire s
+canonical_wire_from_equal r s e = sym (key_canonical_wire r) ∙ ap octets_of_key (sort_key_cmp_same (sort_key r) (sort_key s) e) ∙ key_canonical_wire s
 
-pub ties : (r s : Rec) → WellFormed r → WellFormed s → (record_cmp r s ≡ Equal) ↔ (canon r ≡ canon s)
+pub ties : (r s : RecordValue) → WellFormed r → WellFormed s → (record_cmp r s ≡ Equal) ↔ (canonical_wire r ≡ canonical_wire s)
 ties r s is js = (
-  canon_from_equal r s,
-  λ e. ap (λ (k : SortKey). sort_key_cmp k (sort_key s)) (keys_from_canon r s is js e) ∙ tied_itself sort_key_cmp_total (sort_key s),
+  canonical_wire_from_equal r s,
+  λ e. ap (λ (k : SortKey). sort_key_cmp k (sort_key s)) (keys_from_canonical_wire r s is js e) ∙ tied_itself sort_key_cmp_total (sort_key s),
 )
 
-pub before : (r s : Rec) → WellFormed r → WellFormed s → (Before r s ⊎ Before s r) ⊎ (canon r ≡ canon s)
+pub before : (r s : RecordValue) → WellFormed r → WellFormed s → (Before r s ⊎ Before s r) ⊎ (canonical_wire r ≡ canonical_wire s)
 before r s is js = by (record_cmp r s) refl where
-  by : (o : Ordering) → record_cmp r s ≡ o → (Before r s ⊎ Before s r) ⊎ (canon r ≡ canon s)
+  by : (o : Ordering) → record_cmp r s ≡ o → (Before r s ⊎ Before s r) ⊎ (canonical_wire r ≡ canonical_wire s)
   by Less e = inl (inl e)
-  by Equal e = inr (canon_from_equal r s e)
+  by Equal e = inr (canonical_wire_from_equal r s e)
   by Greater e = inl (inr (records_total.antisymm s r ∙ ap ordering_reverse e))
 
 -- ---- the list
 
-inserted_moves : (r : Rec) (rs : List Rec) → IsPermutation (r ∷ rs) (inserted r rs)
+inserted_moves : (r : RecordValue) (rs : List RecordValue) → IsPermutation (r ∷ rs) (inserted r rs)
 unfolding inserted
 inserted_moves r [] = IsPermutation-refl (r ∷ [])
 inserted_moves r (s ∷ rs) =
@@ -106,33 +106,33 @@ inserted_moves r (s ∷ rs) =
       | false ↦ IsPermutation-trans (r ∷ s ∷ rs) (s ∷ r ∷ rs) (s ∷ inserted r rs) (IsPermutation-middle (r ∷ []) s rs) (IsPermutation-cons s (r ∷ rs) (inserted r rs) (inserted_moves r rs))
     ]
 
-pub in_order_moves : (rs : List Rec) → IsPermutation rs (in_order rs)
+pub in_order_moves : (rs : List RecordValue) → IsPermutation rs (in_order rs)
 unfolding in_order
 in_order_moves [] = IsPermutation-refl []
 in_order_moves (r ∷ rs) = IsPermutation-trans (r ∷ rs) (r ∷ in_order rs) (inserted r (in_order rs)) (IsPermutation-cons r rs (in_order rs) (in_order_moves rs)) (inserted_moves r (in_order rs))
 
-none_unmapped : (x : Rec) (zs : List Rec) → NoneBelow sort_key_cmp (sort_key x) (map sort_key zs) → NoneBelow record_cmp x zs
+none_unmapped : (x : RecordValue) (zs : List RecordValue) → NoneBelow sort_key_cmp (sort_key x) (map sort_key zs) → NoneBelow record_cmp x zs
 none_unmapped x [] h = tt
 none_unmapped x (z ∷ zs) h = (h.0, none_unmapped x zs h.1)
 
-pub ascends_unmapped : (rs : List Rec) → Ascends sort_key_cmp (map sort_key rs) → Ascends record_cmp rs
+pub ascends_unmapped : (rs : List RecordValue) → Ascends sort_key_cmp (map sort_key rs) → Ascends record_cmp rs
 ascends_unmapped [] h = tt
 ascends_unmapped (r ∷ rs) h = (none_unmapped r rs h.0, ascends_unmapped rs h.1)
 
 -- what is added up over the kept records is added up over all
-kept_sums : (f : SortKey → ℕ) (rs : List Rec) → times f (map sort_key (filter is_kept rs)) ≡ times (λ r. cond (is_kept r) (f (sort_key r)) 0) rs
-kept_sums f [] = refl
-kept_sums f (r ∷ rs) = by (is_kept r) (kept_sums f rs) where
-  by : (b : Bool) → times f (map sort_key (filter is_kept rs)) ≡ times (λ r. cond (is_kept r) (f (sort_key r)) 0) rs
-      → times f (map sort_key (cond b (r ∷ filter is_kept rs) (filter is_kept rs))) ≡ cond b (f (sort_key r)) 0 + times (λ r. cond (is_kept r) (f (sort_key r)) 0) rs
+not_opt_sums : (f : SortKey → ℕ) (rs : List RecordValue) → times f (map sort_key (filter is_not_opt rs)) ≡ times (λ r. cond (is_not_opt r) (f (sort_key r)) 0) rs
+not_opt_sums f [] = refl
+not_opt_sums f (r ∷ rs) = by (is_not_opt r) (not_opt_sums f rs) where
+  by : (b : Bool) → times f (map sort_key (filter is_not_opt rs)) ≡ times (λ r. cond (is_not_opt r) (f (sort_key r)) 0) rs
+      → times f (map sort_key (cond b (r ∷ filter is_not_opt rs) (filter is_not_opt rs))) ≡ cond b (f (sort_key r)) 0 + times (λ r. cond (is_not_opt r) (f (sort_key r)) 0) rs
   by true h = ap (λ (n : ℕ). f (sort_key r) + n) h
   by false h = h ∙ omega arith
 
 -- the order in which records come does not count
-pub keys_one : (rs ss : List Rec) → IsPermutation rs ss → map sort_key (in_order (filter is_kept rs)) ≡ map sort_key (in_order (filter is_kept ss))
+pub keys_one : (rs ss : List RecordValue) → IsPermutation rs ss → map sort_key (in_order (filter is_not_opt rs)) ≡ map sort_key (in_order (filter is_not_opt ss))
 keys_one rs ss moved =
-    let one = in_order (filter is_kept rs) in
-    let two = in_order (filter is_kept ss) in
+    let one = in_order (filter is_not_opt rs) in
+    let two = in_order (filter is_not_opt ss) in
     let sums : SameSums (map sort_key one) (map sort_key two) = λ f.
-    in_order_sums (filter is_kept rs) f ∙ kept_sums f rs ∙ sym (sums_permuted rs ss moved (λ r. cond (is_kept r) (f (sort_key r)) 0)) ∙ sym (kept_sums f ss) ∙ sym (in_order_sums (filter is_kept ss) f) in
-    sorted_unique sort_key_cmp sort_key_cmp_total sort_key_cmp_same (map sort_key one) (map sort_key two) (ascends_in_order (filter is_kept rs)) (ascends_in_order (filter is_kept ss)) sums
+    in_order_sums (filter is_not_opt rs) f ∙ not_opt_sums f rs ∙ sym (sums_permuted rs ss moved (λ r. cond (is_not_opt r) (f (sort_key r)) 0)) ∙ sym (not_opt_sums f ss) ∙ sym (in_order_sums (filter is_not_opt ss) f) in
+    sorted_unique sort_key_cmp sort_key_cmp_total sort_key_cmp_same (map sort_key one) (map sort_key two) (ascends_in_order (filter is_not_opt rs)) (ascends_in_order (filter is_not_opt ss)) sums

@@ -8,7 +8,7 @@ use Rattle.dns_message.specs.Seen.{item_seen}
 use Rattle.dns_message.specs.declared.parser.MessageParser.{MessageParser}
 use Rattle.dns_message.specs.declared.parser.Place.{Place}
 
--- an item, and those behind it
+-- an item, and those after it
 reads_on : (c : List ℕ) (slots later : List (ℕ × ℕ)) (slot : ℕ × ℕ) (at : ℕ) (read : Option (Item × ℕ)) → slots ≡ slot ∷ later → item_at slot.0 c at ≡ read
     → reading_from c slots at ≡ then_read slot at (reading_from c later) read
 unfolding reading_from
@@ -25,9 +25,9 @@ starts p long given start ended =
     rw (fits, given, start, ended) refl
 
 pub gives : (E : Type 0) (old new : MessageParser) (place : Place) (item : Parsed) → parsed_message new ≡ parsed_message old → GivesNext {E = E} old (Some (place, Ok item)) new → ahead old ≡ with_item (item_seen item) (ahead new)
-gives E old new place item kept g =
+gives E old new place item unchanged g =
     reads_on (drop 12 (parsed_message old)) (slots_ahead old) (slots_ahead new) (place.section, place.index) (next_start old) (Some (item_seen item, next_start new)) g.0 g.1
-    ∙ ap (λ (m : List ℕ). with_item (item_seen item) (reading_from (drop 12 m) (slots_ahead new) (next_start new))) (sym kept)
+    ∙ ap (λ (m : List ℕ). with_item (item_seen item) (reading_from (drop 12 m) (slots_ahead new) (next_start new))) (sym unchanged)
 
 pub refuses : {E : Type 0} (old new : MessageParser) (place : Place) (error : E) → GivesNext old (Some (place, Err error)) new → ahead old ≡ Stopped [] place.section place.index (next_start old)
 refuses old new place error g = reads_on (drop 12 (parsed_message old)) (slots_ahead old) g.0 (place.section, place.index) (next_start old) None g.1 g.2

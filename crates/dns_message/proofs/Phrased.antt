@@ -4,7 +4,7 @@ use Rattle.std.proofs.lemmas.Bool.{le-ltb, lt-ltb, ltb-false}
 use Rattle.dns_message.specs.Messages.{Item, Reading, item_at, with_item, then_read, reading_from, slots_from, counts_of, message_reading, StopsAt}
 use Rattle.dns_message.specs.Messages.Reading.{Short, Stopped, Whole}
 use Rattle.dns_message.specs.Worded.{ItemsAt, NoItemAt, FailsAt, ReadsWhole}
-use Rattle.dns_message.proofs.Standing.{item_is, item_found, none_is, none_found}
+use Rattle.dns_message.proofs.ItemLemmas.{item_is, item_found, none_is, none_found}
 
 -- ---- from words
 
@@ -49,7 +49,7 @@ record Fails (c : List ℕ) (slots : List (ℕ × ℕ)) (at section index place 
   read : ItemsAt c before at items place
   unread : NoItemAt section c place
 
--- a reading with an item in front that stops
+-- a reading with an item before that stops
 stopped_of : (item : Item) (reading : Reading) (items : List Item) (section index place : ℕ) → with_item item reading ≡ Stopped items section index place
     → (others : List Item) × (reading ≡ Stopped others section index place)
 stopped_of item Short items section index place e = absurd cc
@@ -85,7 +85,7 @@ stops_fails m section index place (items, e) = by (ltb (length m) 12) refl e whe
       let f = fails (drop 12 m) (slots_from 0 (counts_of m)) 0 items section index place e in
       record { header = ltb-false _ _ is; before = f.before; after = f.after; counted = f.counted; items = f.items; read = f.read; unread = f.unread }
 
--- a reading with an item in front that is whole
+-- a reading with an item before that is whole
 whole_of : (item : Item) (reading : Reading) (items : List Item) (end : ℕ) → with_item item reading ≡ Whole items end
     → (others : List Item) × (reading ≡ Whole others end) × (items ≡ item ∷ others)
 whole_of item Short items end e = absurd cc

@@ -5,19 +5,19 @@ use Rattle.std.specs.List.{list_any}
 use Rattle.std.specs.Int.{w16, to_be_bytes}
 use Rattle.std.proofs.lemmas.Bool.{ltb-false}
 use Rattle.std.proofs.lemmas.List.{append-nil, length-append, length-drop, drop_at, take-append-le, take-take}
-use Rattle.dns_wire.specs.Compression.{Pressing}
+use Rattle.dns_wire.specs.Compression.{CompressedWrite}
 use Rattle.dns_wire.specs.Reading.{AreOctets}
 use Rattle.dns_message.specs.Building.{Draft, drafted, count_in, has_later, with_count, pushed}
-use Rattle.dns_message.specs.Messages.{Item, Question, Rec, item_at, slots, slots_from, counts_of, counted_slots, reading_from, message_reading, records_among}
-use Rattle.dns_message.specs.Messages.Item.{Asked, Told}
+use Rattle.dns_message.specs.Messages.{Item, Question, RecordValue, item_at, slots, slots_from, counts_of, counted_slots, reading_from, message_reading, records_among}
+use Rattle.dns_message.specs.Messages.Item.{QuestionItem, RecordItem}
 use Rattle.dns_message.specs.Messages.Reading.{Whole}
 use Rattle.dns_message.specs.Worded.{ItemsAt}
-use Rattle.dns_message.proofs.Drafts.{counts_in_front}
+use Rattle.dns_message.proofs.Drafts.{counts_in_prefix}
 use Rattle.dns_message.proofs.Extended.{items_more}
 use Rattle.dns_message.proofs.Octets.{octets_of_both, octets_up_to, octets_from, number_octets_2}
 use Rattle.dns_message.proofs.Phrased.{whole_read, read_whole}
-use Rattle.dns_message.proofs.Slots.{slots_more, items_append, among_append}
-use Rattle.dns_message.proofs.Standing.{item_is}
+use Rattle.dns_message.proofs.SlotLemmas.{slots_more, items_append, among_append}
+use Rattle.dns_message.proofs.ItemLemmas.{item_is}
 
 -- ---- the counts of a header with another count
 
@@ -54,10 +54,10 @@ counts_with section n header below fits long =
 
 pub header_long : (section n : ℕ) (header : List ℕ) → section < 4 → length header ≡ 12 → length (with_count section n header) ≡ 12
 header_long section n header below twelve =
-    let front = take (4 + 2 * section) header in
+    let prefix = take (4 + 2 * section) header in
     let back = drop (6 + 2 * section) header in
-    let parts : length (with_count section n header) ≡ length (front ++ to_be_bytes w16 n) + length back = length-append (front ++ to_be_bytes w16 n) back in
-    let two : length (front ++ to_be_bytes w16 n) ≡ length front + 2 = length-append front (to_be_bytes w16 n) in
+    let parts : length (with_count section n header) ≡ length (prefix ++ to_be_bytes w16 n) + length back = length-append (prefix ++ to_be_bytes w16 n) back in
+    let two : length (prefix ++ to_be_bytes w16 n) ≡ length prefix + 2 = length-append prefix (to_be_bytes w16 n) in
     omega (arith, below, twelve, parts, two, length-take-le (4 + 2 * section) header (omega (arith, below, twelve)), length-drop (6 + 2 * section) header)
 
 pub header_octets : (section n : ℕ) (header : List ℕ) → AreOctets header → AreOctets (with_count section n header)
@@ -67,13 +67,13 @@ header_octets section n header are =
     (octets_from (6 + 2 * section) header are)
 
 -- id and flags stay
-pub header_front : (section n : ℕ) (header : List ℕ) → section < 4 → length header ≡ 12 → take 4 (with_count section n header) ≡ take 4 header
-header_front section n header below twelve =
-    let front = take (4 + 2 * section) header in
+pub header_prefix : (section n : ℕ) (header : List ℕ) → section < 4 → length header ≡ 12 → take 4 (with_count section n header) ≡ take 4 header
+header_prefix section n header below twelve =
+    let prefix = take (4 + 2 * section) header in
     let back = drop (6 + 2 * section) header in
-    let long : length front ≡ 4 + 2 * section = length-take-le (4 + 2 * section) header (omega (arith, below, twelve)) in
-    ap (take 4) (append_assoc front (to_be_bytes w16 n) back)
-    ∙ take-append-le 4 front (to_be_bytes w16 n ++ back) (omega (arith, long))
+    let long : length prefix ≡ 4 + 2 * section = length-take-le (4 + 2 * section) header (omega (arith, below, twelve)) in
+    ap (take 4) (append_assoc prefix (to_be_bytes w16 n) back)
+    ∙ take-append-le 4 prefix (to_be_bytes w16 n ++ back) (omega (arith, long))
     ∙ take-take 4 (4 + 2 * section) header (omega arith)
 
 -- ---- the counted items
@@ -88,7 +88,7 @@ none_counted first (count ∷ counts) none = by (nat_lt 0 count) refl none (none
       let zero_is : count ≡ 0 = omega (arith, ltb-false 0 count is) in
       rw zero_is (later e)
 
--- where no section behind has an item, one more stands behind all others
+-- where no section after has an item, one more stands after all others
 one_more_counted : (first : ℕ) (counts : List ℕ) (section : ℕ) → section < length counts → list_any (λ count. nat_lt 0 count) (drop (suc section) counts) ≡ false
     → slots_from first (set counts section (get_or counts section 0 + 1)) ≡ slots_from first counts ++ (first + section, get_or counts section 0) ∷ []
 unfolding slots_from
@@ -113,9 +113,9 @@ one_more_slot section header contents new below twelve last few =
     subst (λ (k : ℕ). list_any (λ (n : ℕ). nat_lt 0 n) (drop k (counts_of header)) ≡ false) (add-one section) last in
     let written = with_count section (count + 1) header in
     let counts : counts_of (written ++ new) ≡ set (counts_of header) section (count + 1) =
-    counts_in_front written new (omega (arith, header_long section (count + 1) header below twelve))
+    counts_in_prefix written new (omega (arith, header_long section (count + 1) header below twelve))
     ∙ counts_with section (count + 1) header below (omega (arith, few)) (omega (arith, twelve)) in
-    let before : counts_of header ≡ counts_of (header ++ contents) = sym (counts_in_front header contents (omega (arith, twelve))) in
+    let before : counts_of header ≡ counts_of (header ++ contents) = sym (counts_in_prefix header contents (omega (arith, twelve))) in
     ap (slots_from 0) counts
     ∙ one_more_counted 0 (counts_of header) section (omega (arith, below)) none
     ∙ ap (λ (s : ℕ). slots_from 0 (counts_of header) ++ (s, count) ∷ []) (zero-add section)
@@ -123,31 +123,31 @@ one_more_slot section header contents new below twelve last few =
 
 -- ---- the message
 
-pub pushed_whole : (section : ℕ) (presses : Pressing) (draft : Draft) (items : List Item) (item : Item) → section < 4 → length draft.header ≡ 12
+pub pushed_whole : (section : ℕ) (writes : CompressedWrite) (draft : Draft) (items : List Item) (item : Item) → section < 4 → length draft.header ≡ 12
     → has_later section draft.header ≡ false → count_in section draft.header < 65535 → message_reading (drafted draft) ≡ Whole items (length draft.contents)
-    → item_at section (pushed section presses draft).contents (length draft.contents) ≡ Some (item, length (pushed section presses draft).contents)
-    → message_reading (drafted (pushed section presses draft)) ≡ Whole (items ++ item ∷ []) (length (pushed section presses draft).contents)
-pushed_whole section presses draft items item below twelve last few whole e =
+    → item_at section (pushed section writes draft).contents (length draft.contents) ≡ Some (item, length (pushed section writes draft).contents)
+    → message_reading (drafted (pushed section writes draft)) ≡ Whole (items ++ item ∷ []) (length (pushed section writes draft).contents)
+pushed_whole section writes draft items item below twelve last few whole e =
     let contents = draft.contents in
-    let after = pushed section presses draft in
+    let after = pushed section writes draft in
     let slot : ℕ × ℕ = (section, count_in section draft.header) in
     let slots_before = counted_slots (drafted draft) in
     let long = header_long section (count_in section draft.header + 1) draft.header below twelve in
     let counted : counted_slots (drafted after) ≡ slots_before ++ slot ∷ [] = one_more_slot section draft.header contents after.contents below twelve last few in
     let read : ItemsAt contents slots_before 0 items (length contents) =
     subst (λ (l : List ℕ). ItemsAt l slots_before 0 items (length contents)) (drop_at draft.header contents 12 twelve) (read_whole (drafted draft) items (length contents) whole).read in
-    let before : ItemsAt after.contents slots_before 0 items (length contents) = items_more contents (presses contents draft.places).0 slots_before 0 items (length contents) read in
+    let before : ItemsAt after.contents slots_before 0 items (length contents) = items_more contents (writes contents draft.places).0 slots_before 0 items (length contents) read in
     let one : ItemsAt after.contents (slot ∷ []) (length contents) (item ∷ []) (length after.contents) =
     (item, length after.contents, [], item_is section after.contents (length contents) item (length after.contents) e, refl, (refl, refl)) in
     let all = items_append after.contents slots_before (slot ∷ []) 0 items (item ∷ []) (length contents) (length after.contents) before one in
     whole_read (drafted after) (items ++ item ∷ []) (length after.contents)
     (record { header = omega (arith, length-append after.header after.contents, long); read = rw (drop_at after.header after.contents 12 long, counted) all })
 
-pub records_asked : (items : List Item) (question : Question) → records_among (items ++ Asked question ∷ []) ≡ records_among items
-records_asked items question = among_append items (Asked question ∷ []) ∙ append-nil (records_among items)
+pub records_of_question : (items : List Item) (question : Question) → records_among (items ++ QuestionItem question ∷ []) ≡ records_among items
+records_of_question items question = among_append items (QuestionItem question ∷ []) ∙ append-nil (records_among items)
 
-pub records_told : (items : List Item) (found : Rec) → records_among (items ++ Told found ∷ []) ≡ records_among items ++ found ∷ []
-records_told items found = among_append items (Told found ∷ [])
+pub records_of_record : (items : List Item) (found : RecordValue) → records_among (items ++ RecordItem found ∷ []) ≡ records_among items ++ found ∷ []
+records_of_record items found = among_append items (RecordItem found ∷ [])
 
 -- ---- a message without items
 

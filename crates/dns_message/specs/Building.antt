@@ -1,9 +1,10 @@
 -- A message that is built item by item: what is seen of it, and what a push answers and leaves.
+use Rattle.dns_wire.specs.declared.sizes.TheConstants.{HEADER_SIZE}
 use Rattle.std.specs.Prelude.{◌≡◌, ℕ, ◌+◌, ◌*◌, ◌<◌, ◌≤◌, List, ◌++◌, length, take, drop, slice_index, Bool, nat_lt, ◌==◌, if◌then◌else◌, Result, Ok, Err, IsTrue, IsFalse}
 use Rattle.std.specs.List.{list_any}
 use Rattle.std.specs.Int.{w16, to_be_bytes}
-use Rattle.dns_wire.specs.Compression.{Pressing}
-use Rattle.dns_record.specs.InMessage.{question_presses, record_numbers, record_presses, record_fits}
+use Rattle.dns_wire.specs.Compression.{CompressedWrite}
+use Rattle.dns_record.specs.InMessage.{question_writes, record_numbers, record_writes, record_fits}
 use Rattle.dns_record.specs.declared.question.Question.{Question as QuestionOf}
 use Rattle.dns_record.specs.declared.record.Record.{Record as RecordOf}
 use Rattle.dns_message.specs.Messages.{counts_of}
@@ -39,7 +40,7 @@ count_in section header = slice_index (counts_of header) section
 abbrev pub has_items : List ℕ → Bool
 has_items counts = list_any (λ count. nat_lt 0 count) counts
 
--- a section behind this one has an item
+-- a section after this one has an item
 abbrev pub has_later : ℕ → List ℕ → Bool
 has_later section header = has_items (drop (section + 1) (counts_of header))
 
@@ -54,49 +55,49 @@ count_after section counts =
 abbrev pub next_count : ℕ → List ℕ → Result ℕ MessageBuildError
 next_count section header = count_after section (counts_of header)
 
--- the header with another count of a section, whose two octets stand behind id, flags and the counts of those before it
+-- the header with another count of a section, whose two octets stand after id, flags and the counts of those before it
 abbrev pub with_count : ℕ → ℕ → List ℕ → List ℕ
 with_count section count header = take (4 + 2 * section) header ++ to_be_bytes w16 count ++ drop (6 + 2 * section) header
 
 -- ---- what items write
 
 -- a question: its name, and type and class as they are
-abbrev pub question_pressed : {N : Type 0} → (N → Pressing) → QuestionOf N → Pressing
-question_pressed name q = question_presses (name q.qname) q.qtype.code.value q.qclass.code.value
+abbrev pub question_compressed : {N : Type 0} → (N → CompressedWrite) → QuestionOf N → CompressedWrite
+question_compressed name q = question_writes (name q.qname) q.qtype.code.value q.qclass.code.value
 
--- a record: its owner, ten octets and its data behind their size
-abbrev pub record_pressed : {N D : Type 0} → (N → Pressing) → (D → Pressing) → RecordOf N D → Pressing
-record_pressed owner content r =
-    record_presses (owner r.rname) (record_numbers r.rtype.code.value r.rclass.code.value r.ttl.value.value) (content r.rdata)
+-- a record: its owner, ten octets and its data after their size
+abbrev pub record_compressed : {N D : Type 0} → (N → CompressedWrite) → (D → CompressedWrite) → RecordOf N D → CompressedWrite
+record_compressed owner content r =
+    record_writes (owner r.rname) (record_numbers r.rtype.code.value r.rclass.code.value r.ttl.value.value) (content r.rdata)
 
 -- what is prefixed in it fits, and its data are no more octets than their size can say
-abbrev pub record_fits_in : {N D : Type 0} → (N → List ℕ → List ℕ → Type 0) → (N → Pressing) → (D → List ℕ → List ℕ → Type 0) → (D → Pressing) → RecordOf N D → List ℕ → List ℕ → Type 0
+abbrev pub record_fits_in : {N D : Type 0} → (N → List ℕ → List ℕ → Type 0) → (N → CompressedWrite) → (D → List ℕ → List ℕ → Type 0) → (D → CompressedWrite) → RecordOf N D → List ℕ → List ℕ → Type 0
 record_fits_in owner_fits owner content_fits content r =
     record_fits (owner_fits r.rname) (owner r.rname) (record_numbers r.rtype.code.value r.rclass.code.value r.ttl.value.value) (content_fits r.rdata) (content r.rdata)
 
 -- ---- what a push answers and leaves
 
--- what an accepted push leaves: one more item is counted, and its octets stand behind the contents
-abbrev pub pushed : ℕ → Pressing → Draft → Draft
-pushed section presses draft = record {
+-- what an accepted push leaves: one more item is counted, and its octets stand after the contents
+abbrev pub pushed : ℕ → CompressedWrite → Draft → Draft
+pushed section writes draft = record {
   header = with_count section (count_in section draft.header + 1) draft.header;
-  contents = draft.contents ++ (presses draft.contents draft.places).0;
+  contents = draft.contents ++ (writes draft.contents draft.places).0;
   size = draft.size;
-  places = (presses draft.contents draft.places).1;
+  places = (writes draft.contents draft.places).1;
 }
 
 -- the item's prefixed data fit their prefixes, and its octets the rest of the buffer
-abbrev pub HasRoom : (List ℕ → List ℕ → Type 0) → Pressing → Draft → Type 0
-HasRoom fits presses draft =
+abbrev pub HasRoom : (List ℕ → List ℕ → Type 0) → CompressedWrite → Draft → Type 0
+HasRoom fits writes draft =
     fits draft.contents draft.places
-    × (12 + length draft.contents + length (presses draft.contents draft.places).0 ≤ draft.size)
+    × (HEADER_SIZE + length draft.contents + length (writes draft.contents draft.places).0 ≤ draft.size)
 
 -- When a push gives each answer. The causes exclude one another, in the order of the refusals.
-abbrev pub PushAnswers : {A : Type 0} → ℕ → (List ℕ → List ℕ → Type 0) → Pressing → Draft → Result A MessageBuildError → Type 0
-PushAnswers section fits presses draft (Err Misplaced) = IsTrue (has_later section draft.header)
-PushAnswers section fits presses draft (Err TooMany) =
+abbrev pub PushAnswers : {A : Type 0} → ℕ → (List ℕ → List ℕ → Type 0) → CompressedWrite → Draft → Result A MessageBuildError → Type 0
+PushAnswers section fits writes draft (Err Misplaced) = IsTrue (has_later section draft.header)
+PushAnswers section fits writes draft (Err TooMany) =
     IsFalse (has_later section draft.header) × (count_in section draft.header ≡ 65535)
-PushAnswers section fits presses draft (Err Truncated) =
-    IsFalse (has_later section draft.header) × (count_in section draft.header < 65535) × ¬ (HasRoom fits presses draft)
-PushAnswers section fits presses draft (Ok done) =
-    IsFalse (has_later section draft.header) × (count_in section draft.header < 65535) × HasRoom fits presses draft
+PushAnswers section fits writes draft (Err Truncated) =
+    IsFalse (has_later section draft.header) × (count_in section draft.header < 65535) × ¬ (HasRoom fits writes draft)
+PushAnswers section fits writes draft (Ok done) =
+    IsFalse (has_later section draft.header) × (count_in section draft.header < 65535) × HasRoom fits writes draft

@@ -1,34 +1,34 @@
 -- Records as they are built in a message, where names are shared (RFC 1035 section 4.1.4).
 use Rattle.std.specs.Prelude.{◌≡◌, ℕ, List, Some, map}
-use Rattle.dns_wire.specs.Compression.{Pressing, name_presses}
+use Rattle.dns_wire.specs.Compression.{CompressedWrite, compressed_name_writes}
 use Rattle.dns_wire.specs.Names.{lowered}
-use Rattle.dns_wire.specs.Pieces.{Piece, laid}
-use Rattle.dns_wire.specs.Pieces.Piece.{Pressed, Whole}
+use Rattle.dns_wire.specs.Layout.{LayoutPart, laid}
+use Rattle.dns_wire.specs.Layout.LayoutPart.{NamePart, OctetsPart}
 use Rattle.dns_wire.specs.Pointers.{name_at}
 use Rattle.dns_record.specs.Data.{data_in}
 use Rattle.dns_record.specs.Fields.{Field}
-use Rattle.dns_record.specs.InMessage.{of_field, record_numbers, record_presses}
+use Rattle.dns_record.specs.InMessage.{of_field, record_numbers, record_writes}
 use Rattle.dns_record.specs.Questions.{question_in}
 use Rattle.dns_record.specs.Records.{record_in}
-use Rattle.dns_message.specs.Canonical.{fold}
-use Rattle.dns_message.specs.Messages.{Rec}
+use Rattle.dns_message.specs.Canonical.{lowercase_names}
+use Rattle.dns_message.specs.Messages.{RecordValue}
 
--- a name that pointers may lead through is pressed, and any other field is whole
-abbrev pub field_piece : Field → Piece
-field_piece = of_field Pressed Whole
+-- a name that pointers may lead through is compressed, and any other field is whole
+abbrev pub field_part : Field → LayoutPart
+field_part = of_field NamePart OctetsPart
 
--- the owner is pressed, and behind the numbers and the size stand the fields, piece by piece
-abbrev pub built : Rec → Pressing
-built r = record_presses (name_presses r.owner) (record_numbers r.rtype r.class r.ttl) (laid (map field_piece r.content))
+-- the owner is compressed, and after the numbers and the size stand the fields, part by part
+abbrev pub built : RecordValue → CompressedWrite
+built r = record_writes (compressed_name_writes r.owner) (record_numbers r.rtype r.class r.ttl) (laid (map field_part r.content))
 
 -- a record is read from a place up to an end which is this one, but for ASCII case where it does not count
-pub record ReadAgain (contents : List ℕ) (at : ℕ) (r : Rec) (end : ℕ) : Type 0 where
-  pub there : Rec
+pub record ReadAgain (contents : List ℕ) (at : ℕ) (r : RecordValue) (end : ℕ) : Type 0 where
+  pub there : RecordValue
   pub read : record_in name_at (data_in name_at) contents at ≡ Some (there, end)
-  pub alike : fold there ≡ fold r
+  pub alike : lowercase_names there ≡ lowercase_names r
 
 -- and such a question
-pub record AskedAgain (contents : List ℕ) (at : ℕ) (labels : List (List ℕ)) (qtype class end : ℕ) : Type 0 where
+pub record QuestionAgain (contents : List ℕ) (at : ℕ) (labels : List (List ℕ)) (qtype class end : ℕ) : Type 0 where
   pub there : List (List ℕ)
   pub read : question_in name_at contents at ≡ Some (record { name = there; qtype = qtype; class = class }, end)
   pub alike : lowered there ≡ lowered labels

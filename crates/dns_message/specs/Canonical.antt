@@ -1,15 +1,16 @@
 -- Canonical octets (RFC 4034 section 6.2, RFC 6840 section 5.1).
+use Rattle.dns_record.specs.Types.{opt_number}
 use Rattle.std.specs.Prelude.{ℕ, List, ◌++◌, length, Option, Bool, not, ◌==◌}
 use Rattle.std.specs.Int.{w16, w32, to_be_bytes}
 use Rattle.dns_wire.specs.Names.{wire, lowered, plain_name}
 use Rattle.dns_record.specs.Data.{data_as}
 use Rattle.dns_record.specs.Fields.{fields_octets, canonical_fields}
 use Rattle.dns_record.specs.Records.{record_at}
-use Rattle.dns_message.specs.Messages.{Rec}
+use Rattle.dns_message.specs.Messages.{RecordValue}
 
--- the record with its owner in small letters, and its names where its type is one of the nine
-abbrev pub fold : Rec → Rec
-fold r = record { owner = lowered r.owner; rtype = r.rtype; class = r.class; ttl = r.ttl; content = canonical_fields r.rtype r.content }
+-- the record with its owner in lowercase, and its names where its type is one of the nine
+abbrev pub lowercase_names : RecordValue → RecordValue
+lowercase_names r = record { owner = lowered r.owner; rtype = r.rtype; class = r.class; ttl = r.ttl; content = canonical_fields r.rtype r.content }
 
 -- owner, type, class, time to live, the number of the data's octets, and these octets
 abbrev pub octets_of_parts : List (List ℕ) → ℕ → ℕ → ℕ → List ℕ → List ℕ
@@ -17,17 +18,17 @@ octets_of_parts owner rtype class ttl octets =
     wire owner ++ (to_be_bytes w16 rtype ++ (to_be_bytes w16 class ++ (to_be_bytes w32 ttl ++ (to_be_bytes w16 (length octets) ++ octets))))
 
 -- a record's octets, names whole
-abbrev pub record_octets : Rec → List ℕ
+abbrev pub record_octets : RecordValue → List ℕ
 record_octets r = octets_of_parts r.owner r.rtype r.class r.ttl (fields_octets r.content)
 
--- the record at the front of octets, its names without pointers, and what follows it
-abbrev pub plain_record : List ℕ → Option (Rec × List ℕ)
+-- the record at the start of octets, its names without pointers, and what follows it
+abbrev pub plain_record : List ℕ → Option (RecordValue × List ℕ)
 plain_record = record_at plain_name (data_as plain_name)
 
--- the canonical octets: those of the folded record
-abbrev pub canon : Rec → List ℕ
-canon r = record_octets (fold r)
+-- the canonical octets: those of the lowercased record
+abbrev pub canonical_wire : RecordValue → List ℕ
+canonical_wire r = record_octets (lowercase_names r)
 
 -- a record of another type than OPT, which is a record in form alone (RFC 6891 section 6.1.1)
-abbrev pub is_kept : Rec → Bool
-is_kept r = not (r.rtype == 41)
+abbrev pub is_not_opt : RecordValue → Bool
+is_not_opt r = not (r.rtype == opt_number)

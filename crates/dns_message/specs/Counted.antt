@@ -4,7 +4,7 @@ use Rattle.std.specs.Int.{w16}
 use Rattle.dns_record.specs.InPlace.{NumberAt}
 
 -- There are four sections, and the index is below the section's count, which stands in the header as a number of 16 bits: the
--- first of the four behind four octets.
+-- first of the four after four octets.
 pub record IsCounted (m : List ℕ) (section index : ℕ) : Type 0 where
   pub four : section ≤ 3
   pub count : ℕ
@@ -17,4 +17,4 @@ IsEarlier x y = (x.0 < y.0) ⊎ ((x.0 ≡ y.0) × (x.1 < y.1))
 
 -- x stands in the list somewhere before y
 abbrev pub StandsBefore : {X : Type 0} → X → X → List X → Type 0
-StandsBefore {X} x y xs = (front middle back : List X) × (xs ≡ front ++ x ∷ (middle ++ y ∷ back))
+StandsBefore {X} x y xs = (prefix middle back : List X) × (xs ≡ prefix ++ x ∷ (middle ++ y ∷ back))

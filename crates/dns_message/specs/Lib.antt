@@ -8,7 +8,7 @@ pub mod MessageOctets
 pub mod Messages
 pub mod Order
 pub mod Parsing
-pub mod PiecesRead
+pub mod LayoutRead
 pub mod Pushes
 pub mod Same
 pub mod Seen

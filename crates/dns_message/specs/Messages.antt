@@ -1,4 +1,5 @@
 -- Messages: the counted items one after another, and the first that is not read (RFC 1035 section 4.1).
+use Rattle.dns_wire.specs.declared.sizes.TheConstants.{HEADER_SIZE}
 use Rattle.std.specs.Prelude.{◌≡◌, ℕ, zero, suc, ◌+◌, ◌*◌, List, [], ◌∷◌, ◌++◌, length, drop, Option, Some, None, nat_lt, slice_index, ◌==◌, if◌then◌else◌}
 use Rattle.dns_wire.specs.Pointers.{name_at}
 use Rattle.dns_record.specs.Data.{data_in}
@@ -12,18 +13,18 @@ abbrev pub Question : Type 0
 Question = QuestionOf (List (List ℕ))
 
 -- a record, with its owner's labels and its data's fields
-abbrev pub Rec : Type 0
-Rec = RecordOf (List (List ℕ)) (List Field)
+abbrev pub RecordValue : Type 0
+RecordValue = RecordOf (List (List ℕ)) (List Field)
 
 pub data Item : Type 0 where
-  Asked : Question → Item
-  Told : Rec → Item
+  QuestionItem : Question → Item
+  RecordItem : RecordValue → Item
 
 -- the item at a place in the contents; those of section 0 are questions, and all others are records
 unfoldable pub item_at : ℕ → List ℕ → ℕ → Option (Item × ℕ)
 item_at section contents at =
-    if section == 0 then first_to Asked (question_in name_at contents at)
-    else first_to Told (record_in name_at (data_in name_at) contents at)
+    if section == 0 then first_to QuestionItem (question_in name_at contents at)
+    else first_to RecordItem (record_in name_at (data_in name_at) contents at)
 
 -- ---- which items are counted
 
@@ -32,7 +33,7 @@ unfoldable pub slots : ℕ → ℕ → ℕ → List (ℕ × ℕ)
 slots section index zero = []
 slots section index (suc n) = (section, index) ∷ slots section (index + 1) n
 
--- those of a section and the sections behind it, by their counts
+-- those of a section and the sections after it, by their counts
 unfoldable pub slots_from : ℕ → List ℕ → List (ℕ × ℕ)
 slots_from section [] = []
 slots_from section (count ∷ counts) = slots section 0 count ++ slots_from (section + 1) counts
@@ -56,13 +57,13 @@ pub data Reading : Type 0 where
   Stopped : List Item → ℕ → ℕ → ℕ → Reading
   Whole : List Item → ℕ → Reading
 
--- a reading with an item in front
+-- a reading with an item before
 abbrev pub with_item : Item → Reading → Reading
 with_item item Short = Short
 with_item item (Stopped items section index place) = Stopped (item ∷ items) section index place
 with_item item (Whole items end) = Whole (item ∷ items) end
 
--- what stands at a place, and what is read behind it
+-- what stands at a place, and what is read after it
 abbrev pub then_read : ℕ × ℕ → ℕ → (ℕ → Reading) → Option (Item × ℕ) → Reading
 then_read slot at more None = Stopped [] slot.0 slot.1 at
 then_read slot at more (Some (item, end)) = with_item item (more end)
@@ -72,18 +73,18 @@ unfoldable pub reading_from : List ℕ → List (ℕ × ℕ) → ℕ → Reading
 reading_from contents [] at = Whole [] at
 reading_from contents (slot ∷ slots) at = then_read slot at (reading_from contents slots) (item_at slot.0 contents at)
 
--- what a message is read as; its contents begin behind its twelve header octets
+-- what a message is read as; its contents begin after its twelve header octets
 unfoldable pub message_reading : List ℕ → Reading
-message_reading m = if nat_lt (length m) 12 then Short else reading_from (drop 12 m) (counted_slots m) 0
+message_reading m = if nat_lt (length m) HEADER_SIZE then Short else reading_from (drop HEADER_SIZE m) (counted_slots m) 0
 
 -- the records among some items, in order
-abbrev pub records_among : List Item → List Rec
+abbrev pub records_among : List Item → List RecordValue
 records_among [] = []
-records_among (Asked q ∷ items) = records_among items
-records_among (Told r ∷ items) = r ∷ records_among items
+records_among (QuestionItem q ∷ items) = records_among items
+records_among (RecordItem r ∷ items) = r ∷ records_among items
 
 -- the message is read whole, and these are its records
-abbrev pub Valid : List ℕ → List Rec → Type 0
+abbrev pub Valid : List ℕ → List RecordValue → Type 0
 Valid m rs = (items : List Item) × (end : ℕ) × (message_reading m ≡ Whole items end) × (rs ≡ records_among items)
 
 -- this item of this section is the first that is not read, at this place

@@ -8,8 +8,8 @@ use Rattle.std.specs.Ordering.{nat_cmp, on, then_cmp, eq_by_cmp, is_gt}
 use Rattle.std.specs.Cmp.Lexicographic.{slice_cmp}
 use Rattle.dns_name.specs.Order.{key, key_cmp}
 use Rattle.dns_record.specs.Fields.{fields_octets, canonical_fields}
-use Rattle.dns_message.specs.Messages.{Rec}
-use Rattle.dns_message.specs.Canonical.{octets_of_parts, canon, is_kept}
+use Rattle.dns_message.specs.Messages.{RecordValue}
+use Rattle.dns_message.specs.Canonical.{octets_of_parts, canonical_wire, is_not_opt}
 
 -- what records are compared by, in this order: the owner's lowered labels from the root on, the class, the type, the
 -- canonical octets of the data, and the time to live
@@ -20,7 +20,7 @@ pub record SortKey : Type 0 where
   pub octets : List ℕ
   pub ttl : ℕ
 
-abbrev pub sort_key : Rec → SortKey
+abbrev pub sort_key : RecordValue → SortKey
 sort_key r = record {
   owner = key r.owner;
   class = r.class;
@@ -42,11 +42,11 @@ abbrev pub sort_key_cmp : SortKey → SortKey → Ordering
 sort_key_cmp = then_cmp alike_cmp ttl_cmp
 
 -- the order of two records
-abbrev pub record_cmp : Rec → Rec → Ordering
+abbrev pub record_cmp : RecordValue → RecordValue → Ordering
 record_cmp r s = sort_key_cmp (sort_key r) (sort_key s)
 
 -- the first record comes before the second
-abbrev pub Before : Rec → Rec → Type 0
+abbrev pub Before : RecordValue → RecordValue → Type 0
 Before r s = record_cmp r s ≡ Less
 
 -- the canonical octets are those of what records are compared by
@@ -56,27 +56,27 @@ octets_of_key k = octets_of_parts (reverse k.owner) k.rtype k.class k.ttl k.octe
 -- ---- the list
 
 -- the first record does not come after the second
-abbrev pub precedes : Rec → Rec → Bool
+abbrev pub precedes : RecordValue → RecordValue → Bool
 precedes r s = not (is_gt (record_cmp r s))
 
 -- puts a record before the first that it precedes
-unfoldable pub inserted : Rec → List Rec → List Rec
+unfoldable pub inserted : RecordValue → List RecordValue → List RecordValue
 inserted r [] = r ∷ []
 inserted r (s ∷ rest) = if precedes r s then r ∷ s ∷ rest else s ∷ inserted r rest
 
 -- the records in order
-unfoldable pub in_order : List Rec → List Rec
+unfoldable pub in_order : List RecordValue → List RecordValue
 in_order [] = []
 in_order (r ∷ rest) = inserted r (in_order rest)
 
 -- the records are the same but for the time to live and the case of letters where it does not count
-abbrev pub are_alike : Rec → Rec → Bool
+abbrev pub are_alike : RecordValue → RecordValue → Bool
 are_alike r s = eq_by_cmp alike_cmp (sort_key r) (sort_key s)
 
 -- the records in order, of those that are alike the first, which has the least time to live
-abbrev pub collapsed : List Rec → List Rec
+abbrev pub collapsed : List RecordValue → List RecordValue
 collapsed rs = dedup are_alike (in_order rs)
 
 -- the canonical list of some records: the canonical octets of those other than OPT, in order, alike ones once
-abbrev pub output : List Rec → List (List ℕ)
-output rs = map canon (collapsed (filter is_kept rs))
+abbrev pub canonical_list : List RecordValue → List (List ℕ)
+canonical_list rs = map canonical_wire (collapsed (filter is_not_opt rs))

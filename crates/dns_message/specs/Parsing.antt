@@ -1,5 +1,6 @@
 -- Going over a message item by item. What is seen of a parser is its message, how many items it gave, where in the contents the
 -- next one begins, and whether it has ended.
+use Rattle.dns_wire.specs.declared.sizes.TheConstants.{HEADER_SIZE}
 use Rattle.std.specs.Prelude.{◌≡◌, ℕ, suc, List, [], ◌∷◌, drop, Bool, true, Option, Some, None, Result, Ok, Err, IfOk, if◌then◌else◌}
 use Rattle.dns_edns.specs.declared.opt.Opt.{Opt}
 use Rattle.dns_rdata.specs.declared.record_data.RecordData.{RecordData}
@@ -31,7 +32,7 @@ slots_ahead p = if has_ended p then [] else drop (given_count p) (counted_slots 
 
 -- what is still read: the items to come, from where the next one begins
 abbrev pub ahead : MessageParser → Reading
-ahead p = reading_from (drop 12 (parsed_message p)) (slots_ahead p) (next_start p)
+ahead p = reading_from (drop HEADER_SIZE (parsed_message p)) (slots_ahead p) (next_start p)
 
 -- an item with names of its own
 abbrev pub Parsed : Type 0
@@ -44,11 +45,11 @@ abbrev pub GivesNext : {E : Type 0} → MessageParser → Option (Place × Resul
 GivesNext old None new = (slots_ahead old ≡ []) × (slots_ahead new ≡ []) × (next_start new ≡ next_start old) × (given_count new ≡ given_count old)
 GivesNext old (Some (place, Ok item)) new =
     (slots_ahead old ≡ (place.section, place.index) ∷ slots_ahead new)
-    × (item_at place.section (drop 12 (parsed_message old)) (next_start old) ≡ Some (item_seen item, next_start new))
+    × (item_at place.section (drop HEADER_SIZE (parsed_message old)) (next_start old) ≡ Some (item_seen item, next_start new))
     × (given_count new ≡ suc (given_count old))
 GivesNext old (Some (place, Err error)) new =
     (later : List (ℕ × ℕ)) × (slots_ahead old ≡ (place.section, place.index) ∷ later)
-    × (item_at place.section (drop 12 (parsed_message old)) (next_start old) ≡ None)
+    × (item_at place.section (drop HEADER_SIZE (parsed_message old)) (next_start old) ≡ None)
     × (slots_ahead new ≡ []) × (has_ended new ≡ true) × (next_start new ≡ next_start old) × (given_count new ≡ given_count old)
 
 -- The same without the place. The message stays, and an item that is read is one of its section (RFC 1035 section 4.1) with sound
@@ -57,4 +58,4 @@ abbrev pub GivesItem : {E : Type 0} → MessageParser → Option (Result Parsed 
 GivesItem {E = E} old None new = (parsed_message new ≡ parsed_message old) × GivesNext {E = E} old None new
 GivesItem old (Some item) new =
     (parsed_message new ≡ parsed_message old) × IfOk item HasSoundData
-    × ((place : Place) × GivesNext old (Some (place, item)) new × IfOk item (IsOfSection place.section (drop (next_start old) (drop 12 (parsed_message old)))))
+    × ((place : Place) × GivesNext old (Some (place, item)) new × IfOk item (IsOfSection place.section (drop (next_start old) (drop HEADER_SIZE (parsed_message old)))))

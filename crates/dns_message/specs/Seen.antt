@@ -1,16 +1,17 @@
 -- What is seen of the items that are read.
-use Rattle.std.specs.Prelude.{◌≡◌, ℕ, ◌<◌, ◌^◌, List, [], ◌∷◌, length, map, take}
+use Rattle.dns_record.specs.Types.{opt_number}
+use Rattle.std.specs.Prelude.{◌≢◌, ◌≡◌, ℕ, ◌<◌, ◌^◌, List, [], ◌∷◌, length, map, take}
 use Rattle.dns_record.specs.Fields.{Field, named_by, fields_octets}
 use Rattle.dns_record.specs.Fields.FieldOf.{Raw}
 use Rattle.dns_record.specs.Seen.{question_seen, record_seen}
 use Rattle.dns_record.specs.declared.record.Record.{Record}
 use Rattle.dns_edns.specs.declared.opt.Opt.{Opt}
 use Rattle.dns_rdata.specs.Data.{data_fields, IsDataOf}
-use Rattle.dns_rdata.specs.Edns.{EdnsOf, edns_seen, edns_head}
+use Rattle.dns_rdata.specs.Edns.{EdnsOf, edns_seen, edns_fixed_header}
 use Rattle.dns_rdata.specs.EdnsForms.{edns_ttl}
 use Rattle.dns_rdata.specs.declared.record_data.RecordData.{RecordData}
-use Rattle.dns_message.specs.Messages.{Item, Rec}
-use Rattle.dns_message.specs.Messages.Item.{Asked, Told}
+use Rattle.dns_message.specs.Messages.{Item, RecordValue}
+use Rattle.dns_message.specs.Messages.Item.{QuestionItem, RecordItem}
 use Rattle.dns_message.specs.declared.item.MessageItem.{MessageItem}
 use Rattle.dns_message.specs.declared.item.MessageItem.TheVariants.{Question, Answer, Authority, Additional, Edns}
 
@@ -19,24 +20,24 @@ abbrev pub data_seen : RecordData (List (List ℕ)) → List Field
 data_seen v = map (named_by (λ labels. labels)) (data_fields v)
 
 -- an owned record, whose names are seen as their labels
-abbrev pub record_told : Record (List (List ℕ)) (RecordData (List (List ℕ))) → Rec
-record_told = record_seen (λ labels. labels) data_seen
+abbrev pub record_value : Record (List (List ℕ)) (RecordData (List (List ℕ))) → RecordValue
+record_value = record_seen (λ labels. labels) data_seen
 
 -- an EDNS record as a record: its owner is the root, and its fields stand as class and as time to live (RFC 6891 section 6.1.2)
-abbrev pub edns_told : EdnsOf (List ℕ) → Rec
-edns_told e = record { owner = []; rtype = 41; class = e.payload; ttl = edns_ttl e.ext_rcode e.version e.flags; content = Raw e.content ∷ [] }
+abbrev pub edns_value : EdnsOf (List ℕ) → RecordValue
+edns_value e = record { owner = []; rtype = opt_number; class = e.payload; ttl = edns_ttl e.ext_rcode e.version e.flags; content = Raw e.content ∷ [] }
 
 -- a question, or a record of whatever section
 abbrev pub item_seen : MessageItem (List (List ℕ)) (RecordData (List (List ℕ))) Opt → Item
-item_seen (Question q) = Asked (question_seen (λ labels. labels) q)
-item_seen (Answer r) = Told (record_told r)
-item_seen (Authority r) = Told (record_told r)
-item_seen (Additional r) = Told (record_told r)
-item_seen (Edns e) = Told (edns_told (edns_seen (λ options. options.slice.now) e))
+item_seen (Question q) = QuestionItem (question_seen (λ labels. labels) q)
+item_seen (Answer r) = RecordItem (record_value r)
+item_seen (Authority r) = RecordItem (record_value r)
+item_seen (Additional r) = RecordItem (record_value r)
+item_seen (Edns e) = RecordItem (edns_value (edns_seen (λ options. options.slice.now) e))
 
 -- octets that begin with the root and the number of OPT
 abbrev pub BeginsEdns : List ℕ → Type 0
-BeginsEdns octets = take 3 octets ≡ edns_head
+BeginsEdns octets = take 3 octets ≡ edns_fixed_header
 
 -- Of which section an item is, where it begins with these octets: an additional item is an EDNS record exactly where it begins
 -- as one.
@@ -47,7 +48,7 @@ IsOfSection section octets (Authority r) = section ≡ 2
 IsOfSection section octets (Additional r) = (section ≡ 3) × ¬ BeginsEdns octets
 IsOfSection section octets (Edns e) = (section ≡ 3) × BeginsEdns octets
 
--- data are of the type of their record, and so many octets as its size can say
+-- data are of the type of their record, and that many octets as its size can say
 abbrev pub AreSound : Record (List (List ℕ)) (RecordData (List (List ℕ))) → Type 0
 AreSound r = IsDataOf r.rdata r.rtype.code.value × (length (fields_octets (data_seen r.rdata)) < 2 ^ 16)
 
@@ -58,3 +59,11 @@ HasSoundData (Answer r) = AreSound r
 HasSoundData (Authority r) = AreSound r
 HasSoundData (Additional r) = AreSound r
 HasSoundData (Edns e) = Unit {0}
+
+-- the same of a record of another type than OPT
+abbrev pub HasSoundDataUnlessOpt : {E : Type 0} → MessageItem (List (List ℕ)) (RecordData (List (List ℕ))) E → Type 0
+HasSoundDataUnlessOpt (Question q) = Unit {0}
+HasSoundDataUnlessOpt (Answer r) = r.rtype.code.value ≢ opt_number → AreSound r
+HasSoundDataUnlessOpt (Authority r) = r.rtype.code.value ≢ opt_number → AreSound r
+HasSoundDataUnlessOpt (Additional r) = r.rtype.code.value ≢ opt_number → AreSound r
+HasSoundDataUnlessOpt (Edns e) = Unit {0}

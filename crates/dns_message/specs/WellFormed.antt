@@ -4,12 +4,12 @@ use Rattle.dns_wire.specs.Names.{IsName, plain_name}
 use Rattle.dns_wire.specs.Reading.{AreOctets}
 use Rattle.dns_record.specs.Data.{data_as}
 use Rattle.dns_record.specs.Fields.{fields_octets}
-use Rattle.dns_message.specs.Messages.{Rec}
+use Rattle.dns_message.specs.Messages.{RecordValue}
 use Rattle.dns_message.specs.Canonical.{record_octets}
 
--- The owner is a name, numbers and data fit their octets, what the data are written as is read back as these data, by the row
+-- The owner is a name, numbers and data fit their octets, what the data are written as is read back as these data, by the RDATA format
 -- of the type, and all that is written is octets.
-pub record WellFormed (r : Rec) : Type 0 where
+pub record WellFormed (r : RecordValue) : Type 0 where
   pub owner : IsName r.owner
   pub rtype : r.rtype < 2 ^ 16
   pub class : r.class < 2 ^ 16

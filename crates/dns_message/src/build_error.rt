@@ -8,7 +8,7 @@ use thiserror::Error;
 /// An item was not added to a message, which is as it was.
 #[derive(Clone, Copy, Debug, PartialEq, Eq, Error)]
 pub enum MessageBuildError {
-    /// A section behind the item's has an item (RFC 1035 section 4.1 has the sections in order).
+    /// A section after the item's has an item (RFC 1035 section 4.1 has the sections in order).
     #[error("a later section has an item")]
     Misplaced,
     /// The section has 65,535 items, the most that its count can say (RFC 1035 section 4.1.1).

@@ -4,11 +4,11 @@ ghost use Rattle.std.specs.Prelude.{◌≡◌, ◌≤◌, ◌<◌, ◌+◌, ◌*
 ghost use Rattle.std.specs.Int.{w16, to_be_bytes};
 ghost use Rattle.dns_wire.specs.Compression.{FitsIn};
 ghost use Rattle.dns_wire.specs.InMessage.{BuildsIn};
-ghost use Rattle.dns_wire.specs.Pieces.{whole_presses};
+ghost use Rattle.dns_wire.specs.Layout.{octets_writes};
 ghost use Rattle.dns_rdata.specs.Edns.{edns_octets};
 ghost use Rattle.dns_message.specs.Headers.{header_bits};
 ghost use Rattle.dns_message.specs.Messages.{counts_of};
-ghost use Rattle.dns_message.specs.Building.{Draft, drafted, section_number, question_pressed, record_pressed, record_fits_in, count_in, has_items, has_later, count_after, next_count, with_count, pushed, PushAnswers};
+ghost use Rattle.dns_message.specs.Building.{Draft, drafted, section_number, question_compressed, record_compressed, record_fits_in, count_in, has_items, has_later, count_after, next_count, with_count, pushed, PushAnswers};
 
 use crate::build_error::MessageBuildError;
 use crate::header::HeaderFlags;
@@ -45,10 +45,20 @@ impl Section {
 
 /// A message that is built in a buffer, section by section, with names that are written once (RFC 1035 sections 4.1 and
 /// 4.1.4).
+///
+/// ```
+/// let mut buffer = [0; 512];
+/// let mut names = NameCompressor::new();
+/// let flags = HeaderFlags::from_bits(0x8580); // QR, AA, RD, RA
+/// let mut builder = MessageBuilder::new(&mut buffer, &mut names, U16::new(0x1234), flags);
+/// builder.push_question(&Question::new(&name, QType::A, QClass::IN))?;
+/// builder.push_answer(&Record::new(&name, RType::A, RClass::IN, TTL::from(300), address))?;
+/// let octets = builder.message().as_bytes();
+/// ```
 #[derive(Drop)]
 pub struct MessageBuilder<'b> {
     buffer: &'b mut [u8],
-    /// How many octets of contents there are behind the header.
+    /// How many octets of contents there are after the header.
     size: usize,
     compressor: &'b mut NameCompressor,
 }
@@ -113,9 +123,9 @@ impl<'b> MessageBuilder<'b> {
         &mut self,
         item: &Question<N>,
     ) -> Result<(), MessageBuildError>
-        ensures answered { PushAnswers 0 (N.fits_in item.now.qname) (question_pressed N.presses item.now) self.old result }
-        ensures pushed { OnOk result (self.new ≡ pushed 0 (question_pressed N.presses item.now) self.old) }
-        ensures kept { OnErr result (self.new ≡ self.old) }
+        ensures answered { PushAnswers 0 (N.fits_in item.now.qname) (question_compressed N.writes item.now) self.old result }
+        ensures pushed { OnOk result (self.new ≡ pushed 0 (question_compressed N.writes item.now) self.old) }
+        ensures unchanged { OnErr result (self.new ≡ self.old) }
     {
         self.push(Section::Question, item)
     }
@@ -127,9 +137,9 @@ impl<'b> MessageBuilder<'b> {
         &mut self,
         item: &Record<N, D>,
     ) -> Result<(), MessageBuildError>
-        ensures answered { PushAnswers 1 (record_fits_in N.fits_in N.presses D.fits_in D.presses item.now) (record_pressed N.presses D.presses item.now) self.old result }
-        ensures pushed { OnOk result (self.new ≡ pushed 1 (record_pressed N.presses D.presses item.now) self.old) }
-        ensures kept { OnErr result (self.new ≡ self.old) }
+        ensures answered { PushAnswers 1 (record_fits_in N.fits_in N.writes D.fits_in D.writes item.now) (record_compressed N.writes D.writes item.now) self.old result }
+        ensures pushed { OnOk result (self.new ≡ pushed 1 (record_compressed N.writes D.writes item.now) self.old) }
+        ensures unchanged { OnErr result (self.new ≡ self.old) }
     {
         self.push(Section::Answer, item)
     }
@@ -139,9 +149,9 @@ impl<'b> MessageBuilder<'b> {
         &mut self,
         item: &Record<N, D>,
     ) -> Result<(), MessageBuildError>
-        ensures answered { PushAnswers 2 (record_fits_in N.fits_in N.presses D.fits_in D.presses item.now) (record_pressed N.presses D.presses item.now) self.old result }
-        ensures pushed { OnOk result (self.new ≡ pushed 2 (record_pressed N.presses D.presses item.now) self.old) }
-        ensures kept { OnErr result (self.new ≡ self.old) }
+        ensures answered { PushAnswers 2 (record_fits_in N.fits_in N.writes D.fits_in D.writes item.now) (record_compressed N.writes D.writes item.now) self.old result }
+        ensures pushed { OnOk result (self.new ≡ pushed 2 (record_compressed N.writes D.writes item.now) self.old) }
+        ensures unchanged { OnErr result (self.new ≡ self.old) }
     {
         self.push(Section::Authority, item)
     }
@@ -151,9 +161,9 @@ impl<'b> MessageBuilder<'b> {
         &mut self,
         item: &Record<N, D>,
     ) -> Result<(), MessageBuildError>
-        ensures answered { PushAnswers 3 (record_fits_in N.fits_in N.presses D.fits_in D.presses item.now) (record_pressed N.presses D.presses item.now) self.old result }
-        ensures pushed { OnOk result (self.new ≡ pushed 3 (record_pressed N.presses D.presses item.now) self.old) }
-        ensures kept { OnErr result (self.new ≡ self.old) }
+        ensures answered { PushAnswers 3 (record_fits_in N.fits_in N.writes D.fits_in D.writes item.now) (record_compressed N.writes D.writes item.now) self.old result }
+        ensures pushed { OnOk result (self.new ≡ pushed 3 (record_compressed N.writes D.writes item.now) self.old) }
+        ensures unchanged { OnErr result (self.new ≡ self.old) }
     {
         self.push(Section::Additional, item)
     }
@@ -163,9 +173,9 @@ impl<'b> MessageBuilder<'b> {
         &mut self,
         item: &EdnsRecord<D>,
     ) -> Result<(), MessageBuildError>
-        ensures answered { PushAnswers 3 (λ _ _. (length (D.octets item.now.content) < 2 ^ 16) × D.fits item.now.content) (whole_presses (edns_octets item.now (D.octets item.now.content))) self.old result }
-        ensures pushed { OnOk result (self.new ≡ pushed 3 (whole_presses (edns_octets item.now (D.octets item.now.content))) self.old) }
-        ensures kept { OnErr result (self.new ≡ self.old) }
+        ensures answered { PushAnswers 3 (λ _ _. (length (D.octets item.now.content) < 2 ^ 16) × D.fits item.now.content) (octets_writes (edns_octets item.now (D.octets item.now.content))) self.old result }
+        ensures pushed { OnOk result (self.new ≡ pushed 3 (octets_writes (edns_octets item.now (D.octets item.now.content))) self.old) }
+        ensures unchanged { OnErr result (self.new ≡ self.old) }
     {
         self.push(Section::Additional, item)
     }
@@ -176,9 +186,9 @@ impl<'b> MessageBuilder<'b> {
         section: Section,
         item: &T,
     ) -> Result<(), MessageBuildError>
-        ensures answered { PushAnswers (section_number section) (T.fits_in item.now) (T.presses item.now) self.old result }
-        ensures pushed { OnOk result (self.new ≡ pushed (section_number section) (T.presses item.now) self.old) }
-        ensures kept { OnErr result (self.new ≡ self.old) }
+        ensures answered { PushAnswers (section_number section) (T.fits_in item.now) (T.writes item.now) self.old result }
+        ensures pushed { OnOk result (self.new ≡ pushed (section_number section) (T.writes item.now) self.old) }
+        ensures unchanged { OnErr result (self.new ≡ self.old) }
     {
         let section = section.number();
         let count = self.next_count(section)?;
@@ -239,7 +249,7 @@ fn has_items(counts: &[u16]) -> bool
     counts.iter().any(|count| *count > 0)
 }
 
-/// Puts a header without items in front.
+/// Puts a header without items before.
 fn put_header(buffer: &mut [u8], id: U16, flags: HeaderFlags)
     requires { 12 ≤ length buffer.old }
     ensures { buffer.new ≡ to_be_bytes w16 id.value ++ to_be_bytes w16 (header_bits flags) ++ replicate 8 0 ++ drop 12 buffer.old }
@@ -249,7 +259,7 @@ fn put_header(buffer: &mut [u8], id: U16, flags: HeaderFlags)
     buffer[4..HEADER_SIZE].fill(0);
 }
 
-/// Puts an item behind so many octets of contents, and gives the place where it ends.
+/// Puts an item after that many octets of contents, and gives the place where it ends.
 fn put_item<T: BuildInMessage>(
     item: &T,
     buffer: &mut [u8],
@@ -259,7 +269,7 @@ fn put_item<T: BuildInMessage>(
     requires room { 12 + size ≤ length buffer.old }
     requires known { FitsIn compressor.old (take size (drop 12 buffer.old)) }
     ensures contents { BuildsIn (T.fits_in item.now (take size (drop 12 buffer.old)) compressor.old)
-        (T.presses item.now (take size (drop 12 buffer.old)) compressor.old)
+        (T.writes item.now (take size (drop 12 buffer.old)) compressor.old)
         (drop 12 buffer.old) size compressor.old (drop 12 buffer.new) compressor.new result }
     ensures header { take 12 buffer.new ≡ take 12 buffer.old }
     ensures size { length buffer.new ≡ length buffer.old }

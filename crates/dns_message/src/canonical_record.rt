@@ -1,6 +1,6 @@
 //! Records as they are compared and written in canonical form.
 
-ghost use Rattle.std.specs.Prelude.{◌≡◌, ◌↔◌, ◌≤◌, true, IsTrue, ◌<◌, ◌^◌, [], ◌∷◌, length, drop, filter, MatchOption, IfOk, OnOk, OnErr, ⊤};
+ghost use Rattle.std.specs.Prelude.{◌≡◌, ◌≢◌, ◌↔◌, ◌≤◌, true, IsTrue, ◌<◌, ◌^◌, [], ◌∷◌, length, drop, filter, MatchOption, IfOk, OnOk, OnErr, ⊤};
 ghost use Rattle.std.proofs.Common.{rules};
 ghost use Rattle.std.specs.Borrow.{sem};
 ghost use Rattle.std.specs.Cmp.{partial_order_from_own_ties};
@@ -9,11 +9,12 @@ ghost use Rattle.std.specs.Ordering.{on, as_partial_cmp, eq_by_cmp};
 ghost use Rattle.dns_wire.specs.Building.{Builds, LendsRest};
 ghost use Rattle.dns_record.specs.Fields.{canonical_octets, fields_octets};
 ghost use Rattle.dns_rdata.specs.Data.{type_number};
-ghost use Rattle.dns_message.specs.Canonical.{canon, is_kept};
-ghost use Rattle.dns_message.specs.Messages.{Rec, records_among};
+ghost use Rattle.dns_record.specs.Types.{opt_number};
+ghost use Rattle.dns_message.specs.Canonical.{canonical_wire, is_not_opt};
+ghost use Rattle.dns_message.specs.Messages.{RecordValue, records_among};
 ghost use Rattle.dns_message.specs.Order.{record_cmp, sort_key, sort_key_cmp, alike_cmp, are_alike};
 ghost use Rattle.dns_message.specs.Same.{Alike};
-ghost use Rattle.dns_message.specs.Seen.{AreSound, HasSoundData, data_seen, item_seen, record_told};
+ghost use Rattle.dns_message.specs.Seen.{AreSound, HasSoundDataUnlessOpt, data_seen, item_seen, record_value};
 
 use crate::item::{MessageItem, ParsedMessageItem};
 use dns_name::{CanonicalName, Lowercased, NameBuf, RevNameBuf};
@@ -24,7 +25,7 @@ use dns_wire::{BuildBytes, TruncationError};
 use std::cmp::Ordering;
 use std::marker::Model;
 
-/// A record of another type than OPT, to be compared and written in canonical form (RFC 4034 section 6). Its data are lent by
+/// A record of another type than OPT, to be compared and written in canonical form (RFC 4034 section 6). Its data are borrowed by
 /// the message, and its owner is kept from the root on, as owners are compared.
 #[derive(Debug, Drop)]
 pub struct CanonicalRecord<'a> {
@@ -32,19 +33,23 @@ pub struct CanonicalRecord<'a> {
 }
 
 impl<'a> Model for CanonicalRecord<'a> {
-    ghost Value = { Rec };
+    ghost Value = { RecordValue };
 
-    ghost view = { λ r. record_told r.found };
+    ghost view = { λ r. record_value r.found };
 
     ghost invariant = { λ r. AreSound r.found };
 }
 
 impl<'a> CanonicalRecord<'a> {
+    /// The most canonical octets: 255 of an owner, ten of type, class, TTL and the data's size, and 65,535 of data (RFC 1035
+    /// sections 2.3.4 and 3.2.1).
+    pub const MAX_SIZE: usize = 65_800;
+
     /// The record that the item is; none exactly for a question and for a record of type OPT, which is a record in form alone
-    /// (RFC 6891 section 6.1.1).
+    /// (RFC 6891 section 6.1.1). A record of another type has data of its type, as each has that was read.
     pub fn of(item: ParsedMessageItem<'a>) -> Option<CanonicalRecord<'a>>
-        requires { HasSoundData item }
-        ensures { MatchOption result (filter is_kept (records_among (item_seen item.entry ∷ [])) ≡ []) (λ r. filter is_kept (records_among (item_seen item.entry ∷ [])) ≡ r ∷ []) }
+        requires { HasSoundDataUnlessOpt item }
+        ensures { MatchOption result (filter is_not_opt (records_among (item_seen item.entry ∷ [])) ≡ []) (λ r. filter is_not_opt (records_among (item_seen item.entry ∷ [])) ≡ r ∷ []) }
     {
         match item {
             MessageItem::Answer(found)
@@ -56,8 +61,8 @@ impl<'a> CanonicalRecord<'a> {
 
     /// The record; none for one of type OPT.
     fn of_record(found: Record<RevNameBuf, RecordData<'a, NameBuf>>) -> Option<CanonicalRecord<'a>>
-        requires { AreSound found }
-        ensures { MatchOption result (filter is_kept (record_told found.entry ∷ []) ≡ []) (λ r. filter is_kept (record_told found.entry ∷ []) ≡ r ∷ []) }
+        requires { found.rtype.code.value ≢ opt_number → AreSound found }
+        ensures { MatchOption result (filter is_not_opt (record_value found.entry ∷ []) ≡ []) (λ r. filter is_not_opt (record_value found.entry ∷ []) ≡ r ∷ []) }
     {
         if found.rtype == RType::OPT {
             None
@@ -94,19 +99,19 @@ impl<'a> CanonicalRecord<'a> {
 
     /// The number of canonical octets, at most 65,800.
     pub fn size(&self) -> usize
-        ensures size { result ≡ length (canon self.now) }
-        ensures short { result ≤ 65800 }
+        ensures size { result ≡ length (canonical_wire self.now) }
+        ensures short { result ≤ CanonicalRecord.MAX_SIZE }
     {
         self.built_bytes_size()
     }
 
-    /// Writes the canonical octets to the beginning of the buffer. What is behind them is lent back as it was.
+    /// Writes the canonical octets to the beginning of the buffer. What is after them is borrowed back as it was.
     /// `TruncationError` comes exactly where they are more than the buffer's; what the buffer holds then is open.
     pub fn write<'b>(&self, bytes: &'b mut [u8]) -> Result<&'b mut [u8], TruncationError>
-        ensures* written { sem 𝓛 (LendsRest bytes.entry result (canon self.now)) }
-        ensures rest { IfOk result (λ rest. rest.now ≡ drop (length (canon self.now)) bytes.old) }
-        ensures accepted { OnOk result (length (canon self.now) ≤ length bytes.old) }
-        ensures refused { OnErr result (length bytes.old < length (canon self.now)) }
+        ensures* written { sem 𝓛 (LendsRest bytes.entry result (canonical_wire self.now)) }
+        ensures rest { IfOk result (λ rest. rest.now ≡ drop (length (canonical_wire self.now)) bytes.old) }
+        ensures accepted { OnOk result (length (canonical_wire self.now) ≤ length bytes.old) }
+        ensures refused { OnErr result (length bytes.old < length (canonical_wire self.now)) }
     {
         match self.put(bytes) {
             Ok(end) => Ok(&mut bytes[end..]),
@@ -116,7 +121,7 @@ impl<'a> CanonicalRecord<'a> {
 
     /// Writes the canonical octets to the beginning of the buffer, and gives the place where they end.
     fn put(&self, bytes: &mut [u8]) -> Result<usize, TruncationError>
-        ensures { Builds ⊤ (canon self.now) bytes.old 0 bytes.new result }
+        ensures { Builds ⊤ (canonical_wire self.now) bytes.old 0 bytes.new result }
     {
         self.build_at(bytes, 0)
     }
@@ -142,10 +147,10 @@ impl BuildBytes for CanonicalData<'_, '_> {
     }
 }
 
-/// The canonical octets: the owner in small letters, type, class, TTL, the number of the data's octets, and these (RFC 4034
+/// The canonical octets: the owner in lowercase, type, class, TTL, the number of the data's octets, and these (RFC 4034
 /// section 6.2).
 impl BuildBytes for CanonicalRecord<'_> {
-    ghost octets = { canon };
+    ghost octets = { canonical_wire };
 
     fn build_at(&self, bytes: &mut [u8], start: usize) -> Result<usize, TruncationError> {
         let owner = Lowercased {
@@ -163,8 +168,8 @@ impl BuildBytes for CanonicalRecord<'_> {
 
     /// The number of octets, at most 65,800.
     fn built_bytes_size(&self) -> usize
-        ensures size { result ≡ length (canon self.now) }
-        ensures short { result ≤ 65800 }
+        ensures size { result ≡ length (canonical_wire self.now) }
+        ensures short { result ≤ CanonicalRecord.MAX_SIZE }
     {
         self.found.rname.composed_size() + (10 + self.found.rdata.built_bytes_size())
     }

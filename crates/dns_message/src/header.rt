@@ -8,7 +8,7 @@ use dns_num::U16;
 /// The header of a message, its first twelve octets (RFC 1035 section 4.1.1).
 #[derive(Clone, Copy, Debug)]
 pub struct Header {
-    /// The number by which an answer is told to belong to its query.
+    /// The number by which an answer is known to belong to its query.
     pub id: U16,
     /// The flags, and with them the kind of query and the response code.
     pub flags: HeaderFlags,

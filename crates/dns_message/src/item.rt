@@ -6,7 +6,7 @@ ghost use Rattle.dns_wire.specs.Pointers.{name_at};
 ghost use Rattle.dns_record.specs.Data.{data_in};
 ghost use Rattle.dns_record.specs.Records.{record_in};
 ghost use Rattle.dns_message.specs.Messages.{item_at};
-ghost use Rattle.dns_message.specs.Seen.{AreSound, BeginsEdns, item_seen, record_told, HasSoundData, IsOfSection};
+ghost use Rattle.dns_message.specs.Seen.{AreSound, BeginsEdns, item_seen, record_value, HasSoundData, IsOfSection};
 
 use dns_edns::Opt;
 use dns_name::{NameBuf, RevNameBuf};
@@ -33,7 +33,7 @@ pub enum MessageItem<N, D, E> {
 /// A record that was read, as the items below have it.
 type ParsedRecord<'a> = Record<RevNameBuf, RecordData<'a, NameBuf>>;
 
-/// An item that was read, with names of its own: its data are lent by the message, and its owner is kept from the root on, as
+/// An item that was read, with names of its own: its data are borrowed by the message, and its owner is kept from the root on, as
 /// owners are compared.
 pub type ParsedMessageItem<'a> = MessageItem<RevNameBuf, RecordData<'a, NameBuf>, Opt<'a>>;
 
@@ -47,7 +47,7 @@ fn begins_edns(octets: &[u8]) -> bool
 /// Reads the record at a place, and gives the place where it ends.
 #[tactic(auto, using(crate::proofs::Sound::short_data))]
 fn read_record(contents: &[u8], start: usize) -> Result<(ParsedRecord<'_>, usize), ParseError>
-    ensures exact { Gives (λ x. (record_told x.0, x.1)) result (record_in name_at (data_in name_at) contents.now start) }
+    ensures exact { Gives (λ x. (record_value x.0, x.1)) result (record_in name_at (data_in name_at) contents.now start) }
     ensures within { IfOk result (λ x. (start ≤ x.1) × (x.1 ≤ length contents.now)) }
     ensures sound { IfOk result (λ x. AreSound x.0) }
 {

@@ -8,13 +8,13 @@ ghost use Rattle.std.specs.declared.cmp.Ordering.TheVariants.{Equal};
 ghost use Rattle.dns_wire.specs.Hexadecimal.{lines};
 ghost use Rattle.dns_wire.specs.Reading.{AreOctets};
 ghost use Rattle.dns_record.specs.InPlace.{QuestionAt, RecordAt};
-ghost use Rattle.dns_message.specs.Canonical.{canon, fold, plain_record};
+ghost use Rattle.dns_message.specs.Canonical.{canonical_wire, lowercase_names, plain_record};
 ghost use Rattle.dns_message.specs.Counted.{IsCounted, IsEarlier, StandsBefore};
 ghost use Rattle.dns_message.specs.Headers.{header_bits};
-ghost use Rattle.dns_message.specs.Messages.{Item, Question, Rec, item_at, counted_slots, with_item, message_reading, Valid, StopsAt, BadAt};
-ghost use Rattle.dns_message.specs.Messages.Item.{Asked, Told};
+ghost use Rattle.dns_message.specs.Messages.{Item, Question, RecordValue, item_at, counted_slots, with_item, message_reading, Valid, StopsAt, BadAt};
+ghost use Rattle.dns_message.specs.Messages.Item.{QuestionItem, RecordItem};
 ghost use Rattle.dns_message.specs.Messages.Reading.{Stopped, Whole};
-ghost use Rattle.dns_message.specs.Order.{record_cmp, Before, alike_cmp, sort_key, are_alike, output};
+ghost use Rattle.dns_message.specs.Order.{record_cmp, Before, alike_cmp, sort_key, are_alike, canonical_list};
 ghost use Rattle.dns_message.specs.Parsing.{parsed_message, given_count, next_start, has_ended, ahead, Parsed, GivesNext};
 ghost use Rattle.dns_message.specs.Seen.{item_seen};
 ghost use Rattle.dns_message.specs.declared.parser.MessageParser.{MessageParser};
@@ -34,12 +34,12 @@ use dns_wire::ParseBytes;
 /// Each message is one of three things: shorter than its header; valid, with one list of records; or bad at
 /// one item, the first that is not read.
 pub fn three_kinds_of_messages()
-    ensures some { (m : List ℕ) → (length m < 12) ⊎ (((rs : List Rec) × Valid m rs) ⊎ ((s i : ℕ) × BadAt m s i)) }
-    ensures one_list { (m : List ℕ) (rs ss : List Rec) → Valid m rs → Valid m ss → rs ≡ ss }
+    ensures some { (m : List ℕ) → (length m < 12) ⊎ (((rs : List RecordValue) × Valid m rs) ⊎ ((s i : ℕ) × BadAt m s i)) }
+    ensures one_list { (m : List ℕ) (rs ss : List RecordValue) → Valid m rs → Valid m ss → rs ≡ ss }
     ensures one_stop { (m : List ℕ) (s i p t j q : ℕ) → StopsAt m s i p → StopsAt m t j q → (s ≡ t) × (i ≡ j) × (p ≡ q) }
-    ensures not_short { (m : List ℕ) (rs : List Rec) → Valid m rs → 12 ≤ length m }
+    ensures not_short { (m : List ℕ) (rs : List RecordValue) → Valid m rs → 12 ≤ length m }
     ensures stops_not_short { (m : List ℕ) (s i p : ℕ) → StopsAt m s i p → 12 ≤ length m }
-    ensures stops_not_valid { (m : List ℕ) (s i p : ℕ) (rs : List Rec) → StopsAt m s i p → Valid m rs → ⊥ }
+    ensures stops_not_valid { (m : List ℕ) (s i p : ℕ) (rs : List RecordValue) → StopsAt m s i p → Valid m rs → ⊥ }
 {}
 
 /// The reading of a message in words: it stops at an item exactly where all items that are counted before
@@ -52,10 +52,10 @@ pub fn readings_in_words()
     ensures whole { (m : List ℕ) (items : List Item) (end : ℕ) → (message_reading m ≡ Whole items end) ↔ ReadsWhole m items end }
     ensures one { (section : ℕ) (contents : List ℕ) (at : ℕ) (item other : Item) (end last : ℕ) →
         item_at section contents at ≡ Some (item, end) → item_at section contents at ≡ Some (other, last) → (item ≡ other) × (end ≡ last) }
-    ensures asked { (contents : List ℕ) (at : ℕ) (question : Question) (end : ℕ) →
-        (item_at 0 contents at ≡ Some (Asked question, end)) ↔ QuestionAt contents at question end }
-    ensures told { (section : ℕ) (contents : List ℕ) (at : ℕ) (found : Rec) (end : ℕ) → 0 < section →
-        (item_at section contents at ≡ Some (Told found, end)) ↔ RecordAt contents at found end }
+    ensures question_item { (contents : List ℕ) (at : ℕ) (question : Question) (end : ℕ) →
+        (item_at 0 contents at ≡ Some (QuestionItem question, end)) ↔ QuestionAt contents at question end }
+    ensures record_item { (section : ℕ) (contents : List ℕ) (at : ℕ) (found : RecordValue) (end : ℕ) → 0 < section →
+        (item_at section contents at ≡ Some (RecordItem found, end)) ↔ RecordAt contents at found end }
 {}
 
 /// An item is read at a place exactly where it stands there: in section 0 a question, and in the others a record (RFC 1035
@@ -80,76 +80,76 @@ pub fn counted_items()
 
 /// A record that is read in a message is well formed, and so is each record of a valid message (RFC 1035 section 3.2.1).
 pub fn records_that_are_read_are_well_formed()
-    ensures told { (section : ℕ) (contents : List ℕ) (at : ℕ) (found : Rec) (end : ℕ) → AreOctets contents →
-        item_at section contents at ≡ Some (Told found, end) → WellFormed found }
-    ensures valid { (m : List ℕ) (rs : List Rec) → AreOctets m → Valid m rs → All WellFormed rs }
+    ensures record_item { (section : ℕ) (contents : List ℕ) (at : ℕ) (found : RecordValue) (end : ℕ) → AreOctets contents →
+        item_at section contents at ≡ Some (RecordItem found, end) → WellFormed found }
+    ensures valid { (m : List ℕ) (rs : List RecordValue) → AreOctets m → Valid m rs → All WellFormed rs }
 {}
 
-/// Well formed records have equal canonical octets exactly where they are equal when folded (RFC 4034 section 6.2).
+/// Well formed records have equal canonical octets exactly where they are equal when lowercased (RFC 4034 section 6.2).
 pub fn equal_canonical_octets()
-    ensures { (r s : Rec) → WellFormed r → WellFormed s → (canon r ≡ canon s) ↔ (fold r ≡ fold s) }
+    ensures { (r s : RecordValue) → WellFormed r → WellFormed s → (canonical_wire r ≡ canonical_wire s) ↔ (lowercase_names r ≡ lowercase_names s) }
 {}
 
-/// The canonical octets of a well formed record are read back as the folded record, and nothing is left over (RFC 4034
+/// The canonical octets of a well formed record are read back as the lowercased record, and nothing is left over (RFC 4034
 /// section 6.2). To fold it again changes nothing.
 pub fn canonical_octets_are_read_back()
-    ensures back { (r : Rec) → WellFormed r → plain_record (canon r) ≡ Some (fold r, []) }
-    ensures well_formed { (r : Rec) → WellFormed r → WellFormed (fold r) }
-    ensures octets { (r : Rec) → WellFormed r → AreOctets (canon r) }
-    ensures again { (r : Rec) → canon (fold r) ≡ canon r }
-    ensures twice { (r : Rec) → fold (fold r) ≡ fold r }
+    ensures back { (r : RecordValue) → WellFormed r → plain_record (canonical_wire r) ≡ Some (lowercase_names r, []) }
+    ensures well_formed { (r : RecordValue) → WellFormed r → WellFormed (lowercase_names r) }
+    ensures octets { (r : RecordValue) → WellFormed r → AreOctets (canonical_wire r) }
+    ensures again { (r : RecordValue) → canonical_wire (lowercase_names r) ≡ canonical_wire r }
+    ensures twice { (r : RecordValue) → lowercase_names (lowercase_names r) ≡ lowercase_names r }
 {}
 
-/// So `Record::split_bytes`, for names and data without pointers, gives the folded record of the canonical octets of a well formed
+/// So `Record::split_bytes`, for names and data without pointers, gives the lowercased record of the canonical octets of a well formed
 /// one, and nothing is left over.
 pub fn canonical_records_are_split_back()
-    ensures { (r : Rec) → WellFormed r →
-        ⟦<Record<Name<'static>, RecordData<'static, Name<'static>>> as ParseBytes<'static>>⟧.reads (canon r) ≡ Some (fold r, []) }
+    ensures { (r : RecordValue) → WellFormed r →
+        ⟦<Record<Name<'static>, RecordData<'static, Name<'static>>> as ParseBytes<'static>>⟧.reads (canonical_wire r) ≡ Some (lowercase_names r, []) }
 {}
 
 /// The order of records is total, and neither of two well formed records is before the other exactly where
 /// their canonical octets are equal.
 pub fn order_of_records()
     ensures total { IsTotalOrder record_cmp }
-    ensures ties { (r s : Rec) → WellFormed r → WellFormed s → (record_cmp r s ≡ Equal) ↔ (canon r ≡ canon s) }
-    ensures before { (r s : Rec) → WellFormed r → WellFormed s → (Before r s ⊎ Before s r) ⊎ (canon r ≡ canon s) }
+    ensures ties { (r s : RecordValue) → WellFormed r → WellFormed s → (record_cmp r s ≡ Equal) ↔ (canonical_wire r ≡ canonical_wire s) }
+    ensures before { (r s : RecordValue) → WellFormed r → WellFormed s → (Before r s ⊎ Before s r) ⊎ (canonical_wire r ≡ canonical_wire s) }
 {}
 
 /// Records are tested as alike exactly where they are: the same owner in lowercase, class, type and canonical data (RFC 2181 section
 /// 5.2). Of well formed records those with equal canonical octets are alike.
 pub fn alike_records()
-    ensures tested { (r s : Rec) → IsTrue (are_alike r s) ↔ Alike r s }
-    ensures octets { (r s : Rec) → WellFormed r → WellFormed s → canon r ≡ canon s → Alike r s }
+    ensures tested { (r s : RecordValue) → IsTrue (are_alike r s) ↔ Alike r s }
+    ensures octets { (r s : RecordValue) → WellFormed r → WellFormed s → canonical_wire r ≡ canonical_wire s → Alike r s }
 {}
 
-/// The canonical list has the canonical octets of exactly those records, other than OPT and folded, to which no alike record has a
+/// The canonical list has the canonical octets of exactly those records, other than OPT and lowercased, to which no alike record has a
 /// smaller TTL, each once, in order by owner, class, type and data (RFC 4034 section 6, RFC 2181 section 5.2). It is one,
 /// whatever order the records come in.
 pub fn canonical_lists()
-    ensures octets { (rs : List Rec) → output rs ≡ map canon (least rs) }
-    ensures least { (rs : List Rec) → All WellFormed rs → (x : Rec) → Contains (least rs) x ↔ IsLeast rs x }
-    ensures climbs { (rs : List Rec) → Climbs alike_cmp (map sort_key (least rs)) }
-    ensures one { (rs ss : List Rec) → IsPermutation rs ss → output rs ≡ output ss }
+    ensures octets { (rs : List RecordValue) → canonical_list rs ≡ map canonical_wire (least rs) }
+    ensures least { (rs : List RecordValue) → All WellFormed rs → (x : RecordValue) → Contains (least rs) x ↔ IsLeast rs x }
+    ensures climbs { (rs : List RecordValue) → Climbs alike_cmp (map sort_key (least rs)) }
+    ensures one { (rs ss : List RecordValue) → IsPermutation rs ss → canonical_list rs ≡ canonical_list ss }
 {}
 
 /// Lists of records are the same exactly where the records with the least TTLs, in order, are one list.
 pub fn same_records()
-    ensures { (rs ss : List Rec) → All WellFormed rs → All WellFormed ss → Same rs ss ↔ (least rs ≡ least ss) }
+    ensures { (rs ss : List RecordValue) → All WellFormed rs → All WellFormed ss → Same rs ss ↔ (least rs ≡ least ss) }
 {}
 
 /// Canonical lists are equal exactly where the records are the same (RFC 4034 section 6); so are those of two valid messages.
 pub fn equal_outputs()
-    ensures records { (rs ss : List Rec) → All WellFormed rs → All WellFormed ss → (output rs ≡ output ss) ↔ Same rs ss }
-    ensures messages { (m n : List ℕ) (rs ss : List Rec) → AreOctets m → AreOctets n → Valid m rs → Valid n ss →
-        (output rs ≡ output ss) ↔ Same rs ss }
+    ensures records { (rs ss : List RecordValue) → All WellFormed rs → All WellFormed ss → (canonical_list rs ≡ canonical_list ss) ↔ Same rs ss }
+    ensures messages { (m n : List ℕ) (rs ss : List RecordValue) → AreOctets m → AreOctets n → Valid m rs → Valid n ss →
+        (canonical_list rs ≡ canonical_list ss) ↔ Same rs ss }
 {}
 
 /// Canonical lists have one text only where they are one (RFC 4648 section 8). So the texts of two valid messages are equal
 /// exactly where their records are the same.
 pub fn canonical_texts()
-    ensures one { (rs ss : List Rec) → All WellFormed rs → All WellFormed ss → (lines (output rs) ≡ lines (output ss)) ↔ (output rs ≡ output ss) }
-    ensures messages { (m n : List ℕ) (rs ss : List Rec) → AreOctets m → AreOctets n → Valid m rs → Valid n ss →
-        (lines (output rs) ≡ lines (output ss)) ↔ Same rs ss }
+    ensures one { (rs ss : List RecordValue) → All WellFormed rs → All WellFormed ss → (lines (canonical_list rs) ≡ lines (canonical_list ss)) ↔ (canonical_list rs ≡ canonical_list ss) }
+    ensures messages { (m n : List ℕ) (rs ss : List RecordValue) → AreOctets m → AreOctets n → Valid m rs → Valid n ss →
+        (lines (canonical_list rs) ≡ lines (canonical_list ss)) ↔ Same rs ss }
 {}
 
 /// The items that a parser gives are those of its message, in order: one that was just made has the whole message ahead; an item

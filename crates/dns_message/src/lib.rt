@@ -16,7 +16,7 @@ mod read_again;
 
 pub use build_error::MessageBuildError;
 pub use build_laws::{
-    new_messages_are_empty, octets_behind_items, pushed_edns_are_read, pushed_questions_are_read,
+    new_messages_are_empty, octets_after_items, pushed_edns_are_read, pushed_questions_are_read,
     pushed_records_are_read, pushes_add_an_item, pushes_count_one_more,
 };
 pub use builder::MessageBuilder;
@@ -36,6 +36,6 @@ pub use parser::{MessageParser, Place};
 pub use push_laws::{answers_of_pushes, lists_of_pushes_are_read};
 pub use read_again::{
     built_questions_are_read, built_records_are_no_longer, built_records_are_read,
-    edns_records_are_built, prefixed_pieces_are_read, records_are_built,
-    records_of_pieces_are_built, told_pieces_are_read,
+    edns_records_are_built, layouts_are_read, prefixed_layouts_are_read, records_are_built,
+    records_with_layouts_are_built,
 };

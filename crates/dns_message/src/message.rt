@@ -1,7 +1,7 @@
 //! Messages.
 
 ghost use Rattle.std.specs.Prelude.{◌≡◌, ◌+◌, ◌*◌, ◌≤◌, ℕ, List, length, drop, slice_index};
-ghost use Rattle.dns_wire.specs.Left.{plain_ends};
+ghost use Rattle.dns_wire.specs.ReadingLemmas.{plain_ends};
 ghost use Rattle.dns_wire.specs.Reading.{plain_at};
 ghost use Rattle.dns_message.specs.MessageOctets.{whole_message, whole_message_leaves};
 
@@ -12,7 +12,7 @@ use dns_wire::{ParseBytes, ParseError};
 /// How many octets a header has (RFC 1035 section 4.1.1).
 pub(crate) const HEADER_SIZE: usize = 12;
 
-/// A message: its header, and the contents behind it (RFC 1035 section 4.1). Whether its items can be read is not yet known.
+/// A message: its header, and the contents after it (RFC 1035 section 4.1). Whether its items can be read is not yet known.
 #[derive(Clone, Copy, Debug)]
 pub struct Message<'a> {
     /// The octets, at least twelve.
@@ -39,7 +39,7 @@ impl<'a> Message<'a> {
         }
     }
 
-    /// The octets behind the header. Places in a message are counted from here, but in pointers.
+    /// The octets after the header. Places in a message are counted from here, but in pointers.
     pub fn contents(&self) -> &'a [u8]
         ensures { result.now ≡ drop 12 self.now.slice.now }
     {

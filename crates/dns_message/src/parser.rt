@@ -20,6 +20,14 @@ pub struct Place {
 
 /// The counted items of a message one after another, in the order of their sections (RFC 1035 section 4.1). An item that is
 /// not read is refused once, and ends them for good.
+///
+/// ```
+/// for item in MessageParser::new(octets)? {
+///     if let MessageItem::Answer(record) = item? {
+///         println!(rt; "{} {}", record.rname, record.rtype)?;
+///     }
+/// }
+/// ```
 #[derive(Drop)]
 pub struct MessageParser<'a> {
     message: Message<'a>,
@@ -71,14 +79,14 @@ impl<'a> MessageParser<'a> {
         self.message.header()
     }
 
-    /// Where in the contents, which are the octets behind the header, the next item begins.
+    /// Where in the contents, which are the octets after the header, the next item begins.
     pub fn offset(&self) -> usize
         ensures { result ≡ next_start self.now }
     {
         self.offset
     }
 
-    /// Where the item stands that comes after so many.
+    /// Where the item stands that comes after that many.
     fn place(&self) -> Option<Place>
         ensures none { MatchOption result (drop self.now.given (counted_slots self.now.message.slice.now) ≡ [])
             (λ p. drop self.now.given (counted_slots self.now.message.slice.now) ≡ (p.section, p.index) ∷ drop (self.now.given + 1) (counted_slots self.now.message.slice.now)) }
@@ -102,7 +110,7 @@ impl<'a> MessageParser<'a> {
     /// good, and `offset` stays.
     pub fn next_item(&mut self) -> Option<(Place, Result<ParsedMessageItem<'a>, ParseError>)>
         ensures gives { GivesNext self.old result self.new }
-        ensures kept { parsed_message self.new ≡ parsed_message self.old }
+        ensures unchanged { parsed_message self.new ≡ parsed_message self.old }
         ensures sound { IfSome result (λ r. IfOk r.1 HasSoundData) }
         ensures kind { IfSome result (λ r. IfOk r.1 (IsOfSection r.0.section (drop (next_start self.old) (drop 12 (parsed_message self.old))))) }
     {

@@ -76,6 +76,8 @@ fn are_equal(alloc: Global, number: u16, octets: &[u8], other: u16, others: &[u8
 #[test]
 fn octets_are_boxed_under_a_type(rt: HostRuntime) {
     holds(&rt, is_copied(rt.alloc(), 1, ADDRESS), "a copy");
+    let most = is_copied(rt.alloc(), 65_280, &[7; 65_535]);
+    holds(&rt, most, "the most octets");
     let twice = order(rt.alloc(), 1, ADDRESS, 1, ADDRESS);
     holds(&rt, twice == Some(Ordering::Equal), "an address twice");
 }

@@ -112,7 +112,7 @@ fn records_are_alike_whatever_their_ttl(rt: HostRuntime) {
     }
 }
 
-/// The first so many of the addresses.
+/// The first that many of the addresses.
 fn first_addresses(
     alloc: Global,
     count: usize,
@@ -136,14 +136,14 @@ fn has_octets(found: &CanonicalRecord<'_>, wanted: &[u8]) -> bool {
     is_full && buffer.as_slice() == wanted
 }
 
-/// How many records are left of the first so many, and whether the first of them has these canonical octets.
+/// How many records are left of the first that many, and whether the first of them has these canonical octets.
 fn collapses(alloc: Global, count: usize, wanted: &[u8]) -> Option<(usize, bool)> {
     let Ok(records) = first_addresses(alloc, count) else {
         return None;
     };
     match collapse(alloc, records) {
-        Ok(kept) => match kept.first() {
-            Some(found) => Some((kept.len(), has_octets(found, wanted))),
+        Ok(unchanged) => match unchanged.first() {
+            Some(found) => Some((unchanged.len(), has_octets(found, wanted))),
             None => None,
         },
         Err(_) => None,
@@ -152,9 +152,9 @@ fn collapses(alloc: Global, count: usize, wanted: &[u8]) -> Option<(usize, bool)
 
 #[test]
 fn alike_records_collapse_to_the_least_ttl(rt: HostRuntime) {
-    for (count, kept) in [(2, 1), (3, 1), (4, 2)] {
+    for (count, unchanged) in [(2, 1), (3, 1), (4, 2)] {
         assert!(rt;
-            collapses(rt.alloc(), count, LEAST) == Some((kept, true)),
+            collapses(rt.alloc(), count, LEAST) == Some((unchanged, true)),
             "{count}"
         );
     }

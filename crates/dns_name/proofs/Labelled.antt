@@ -3,23 +3,23 @@ use Rattle.std.proofs.Common.{◌≡◌, ℕ, suc, ◌+◌, ◌*◌, ◌<◌, �
 use Rattle.std.specs.Prelude.{reverse}
 use Rattle.std.specs.List.{AllByRecursion}
 use Rattle.std.proofs.lemmas.List.{length-append}
-use Rattle.dns_wire.specs.Names.{IsLabel, heads, plain_name, name_labels}
+use Rattle.dns_wire.specs.Names.{IsLabel, labels_wire, plain_name, name_labels}
 use Rattle.dns_wire.specs.Reading.{all_of}
 use Rattle.dns_wire.specs.Reversed.{reversed_name, reversed_name_labels}
 use Rattle.dns_wire.proofs.Backward.{name_reversed, reversed_is}
 use Rattle.dns_wire.proofs.Spelled.{name_octets}
-use Rattle.dns_wire.proofs.Walk.{heads-append, wire_long}
+use Rattle.dns_wire.proofs.Walk.{labels_wire-append, wire_long}
 use Rattle.dns_label.specs.Labels.{IsShort, AreLabels, sequence_labels}
-use Rattle.dns_label.proofs.Filled.{are_labels, labels_in_heads}
+use Rattle.dns_label.proofs.FilledLabels.{are_labels, labels_in_wire}
 
 sizes_short : (labels : List (List ℕ)) → AllByRecursion IsLabel labels → AllByRecursion IsShort (labels ++ [] ∷ [])
 sizes_short [] sizes = (omega arith, tt)
 sizes_short (label ∷ labels) sizes = (sizes.0.1, sizes_short labels sizes.1)
 
 -- each label has an octet at least, and its length
-twice : (labels : List (List ℕ)) → AllByRecursion IsLabel labels → 2 * length labels ≤ length (heads labels)
+twice : (labels : List (List ℕ)) → AllByRecursion IsLabel labels → 2 * length labels ≤ length (labels_wire labels)
 twice [] sizes = omega arith
-twice (label ∷ labels) sizes = omega (arith, twice labels sizes.1, sizes.0.0, length-append label (heads labels))
+twice (label ∷ labels) sizes = omega (arith, twice labels sizes.1, sizes.0.0, length-append label (labels_wire labels))
 
 -- a name's octets are its labels, and then the root's
 pub record NameFilled (bytes : List ℕ) : Type 0 where
@@ -30,11 +30,11 @@ pub record NameFilled (bytes : List ℕ) : Type 0 where
 pub name_filled : (bytes : List ℕ) → all_of (plain_name bytes) ≡ Some (name_labels bytes) → NameFilled bytes
 name_filled bytes is =
     let t = name_octets bytes (name_labels bytes) is in
-    let parts : bytes ≡ heads (name_labels bytes ++ [] ∷ []) = t.1 ∙ sym (heads-append (name_labels bytes) ([] ∷ [])) in
+    let parts : bytes ≡ labels_wire (name_labels bytes ++ [] ∷ []) = t.1 ∙ sym (labels_wire-append (name_labels bytes) ([] ∷ [])) in
     let sizes = sizes_short (name_labels bytes) t.0.sizes in
     record {
       are = are_labels bytes (name_labels bytes ++ [] ∷ []) sizes parts;
-      labels = (labels_in_heads bytes (name_labels bytes ++ [] ∷ []) sizes parts).1;
+      labels = (labels_in_wire bytes (name_labels bytes ++ [] ∷ []) sizes parts).1;
       few = omega (arith, twice (name_labels bytes) t.0.sizes, wire_long (name_labels bytes), t.0.size);
     }
 
@@ -57,12 +57,12 @@ reversed_name_filled bytes is =
     let sizes : AllByRecursion IsShort ([] ∷ reverse (reversed_name_labels bytes)) = (omega arith, all_short (reverse (reversed_name_labels bytes)) turned.sizes) in
     record {
       are = are_labels bytes ([] ∷ reverse (reversed_name_labels bytes)) sizes t.1;
-      labels = (labels_in_heads bytes ([] ∷ reverse (reversed_name_labels bytes)) sizes t.1).1;
+      labels = (labels_in_wire bytes ([] ∷ reverse (reversed_name_labels bytes)) sizes t.1).1;
       few = omega (arith, twice (reverse (reversed_name_labels bytes)) turned.sizes, wire_long (reverse (reversed_name_labels bytes)), turned.size);
     }
 
--- ---- the octets at the front
+-- ---- the octets at the start
 
-pub front_octets : (bytes : List ℕ) → 0 < length bytes → (size : ℕ) → take (1 + size) bytes ≡ get_or bytes 0 0 ∷ take size (drop 1 bytes)
-front_octets [] some size = absurd (omega arith)
-front_octets (x ∷ rest) some size = let after : 1 + size ≡ suc size = omega arith in ap (λ (n : ℕ). take n (x ∷ rest)) after
+pub prefix_octets : (bytes : List ℕ) → 0 < length bytes → (size : ℕ) → take (1 + size) bytes ≡ get_or bytes 0 0 ∷ take size (drop 1 bytes)
+prefix_octets [] some size = absurd (omega arith)
+prefix_octets (x ∷ rest) some size = let after : 1 + size ≡ suc size = omega arith in ap (λ (n : ℕ). take n (x ∷ rest)) after

@@ -13,6 +13,6 @@ octets_cmp = slice_cmp nat_cmp
 abbrev pub composed_cmp : List (List ℕ) → List (List ℕ) → Ordering
 composed_cmp a b = octets_cmp (wire a) (wire b)
 
--- names by their octets in small letters
+-- names by their octets in lowercase
 abbrev pub lowercase_composed_cmp : List (List ℕ) → List (List ℕ) → Ordering
 lowercase_composed_cmp a b = octets_cmp (wire (lowered a)) (wire (lowered b))

@@ -1,4 +1,4 @@
--- What a name feeds a hasher. Names that are the same, ASCII case aside, feed it the same octets.
+-- What a name feeds a hasher. Names that are the same, ignoring ASCII case, feed it the same octets.
 use Rattle.std.specs.Prelude.{◌≡◌, ℕ, List, [], ◌∷◌, true, reverse}
 use Rattle.std.specs.Ordering.{is_eq}
 use Rattle.std.specs.declared.cmp.Ordering.TheVariants.{Equal}
@@ -10,11 +10,11 @@ use Rattle.dns_wire.specs.Names.{wire, lowered}
 use Rattle.dns_wire.specs.Reversed.{reversed_wire}
 use Rattle.dns_name.specs.Order.{key, key_cmp}
 
--- one write: the octets of the name in small letters
+-- one write: the octets of the name in lowercase
 abbrev pub name_writes : List (List ℕ) → List (List ℕ)
 name_writes labels = wire (lowered labels) ∷ []
 
--- one write: the octets of the name in small letters, from the root on
+-- one write: the octets of the name in lowercase, from the root on
 abbrev pub reversed_writes : List (List ℕ) → List (List ℕ)
 reversed_writes labels = reversed_wire (lowered labels) ∷ []
 

@@ -2,8 +2,8 @@
 pub mod Composed
 pub mod Hashing
 pub mod Json
-pub mod Left
+pub mod UnparsedLemmas
 pub mod Order
-pub mod RowOrder
+pub mod RelativeOrder
 pub mod Text
 pub mod Unparsed

@@ -2,31 +2,31 @@
 use Rattle.std.specs.Prelude.{◌≡◌, ℕ, zero, suc, ◌+◌, ◌-◌, ◌<◌, ◌≤◌, List, [], ◌∷◌, ◌++◌, length, take, drop, Bool, true, Option, Some, None, option_map, unwrap_or, IfSome, nat_lt, nat_le, ◌==◌, ◌||◌, ◌&&◌, if◌then◌else◌}
 use Rattle.std.specs.List.{AllByRecursion}
 use Rattle.dns_wire.specs.declared.sizes.TheConstants.{HEADER_SIZE, POINTER_TAG}
-use Rattle.dns_wire.specs.Names.{IsLabel, heads, wire}
+use Rattle.dns_wire.specs.Names.{IsLabel, labels_wire, wire}
 use Rattle.dns_wire.specs.Pointers.{offset_of, name_at}
 use Rattle.dns_wire.specs.Reading.{all_of, plain_at}
 
--- labels, and the two octets of the pointer behind them; where the root is behind them, there is none
+-- labels, and the two octets of the pointer after them; where the root is after them, there is none
 abbrev pub Unparsed : Type 0
 Unparsed = List (List ℕ) × Option (ℕ × ℕ)
 
--- what stands behind the labels: the root's length 0, or a pointer
+-- what stands after the labels: the root's length 0, or a pointer
 abbrev pub last_octets : Option (ℕ × ℕ) → List ℕ
 last_octets None = 0 ∷ []
 last_octets (Some (high, low)) = high ∷ low ∷ []
 
--- the octets: the labels, each behind its length, and the root or a pointer
+-- the octets: the labels, each after its length, and the root or a pointer
 abbrev pub unparsed_wire : Unparsed → List ℕ
-unparsed_wire name = heads name.0 ++ last_octets name.1
+unparsed_wire name = labels_wire name.0 ++ last_octets name.1
 
 -- Labels and a pointer are an unparsed name where the octets of the labels are at most 254, so that the root or the pointer
 -- begins at octet 254, counted from 0, at the latest. A pointer's first octet has its two high bits set.
 pub record IsUnparsed (name : Unparsed) : Type 0 where
   pub sizes : AllByRecursion IsLabel name.0
-  pub size : length (heads name.0) ≤ 254
+  pub size : length (labels_wire name.0) ≤ 254
   pub pointer : IfSome name.1 (λ octets. POINTER_TAG ≤ octets.0)
 
--- where a pointer of these two octets leads, counted from the front of the message
+-- where a pointer of these two octets leads, counted from the start of the message
 abbrev pub pointed_offset : ℕ × ℕ → ℕ
 pointed_offset (first, second) = offset_of first second
 
@@ -41,17 +41,17 @@ alone_offset (label ∷ labels, end) = None
 
 -- ---- reading
 
--- what is read behind these labels, with them in front
-abbrev pub behind_labels : List (List ℕ) → Option (Unparsed × List ℕ) → Option (Unparsed × List ℕ)
-behind_labels labels None = None
-behind_labels labels (Some (name, rest)) = Some ((labels ++ name.0, name.1), rest)
+-- what is read after these labels, with them before
+abbrev pub following_labels : List (List ℕ) → Option (Unparsed × List ℕ) → Option (Unparsed × List ℕ)
+following_labels labels None = None
+following_labels labels (Some (name, rest)) = Some ((labels ++ name.0, name.1), rest)
 
 -- a pointer with this first octet
 abbrev pub pointer_from : ℕ → List ℕ → Option (Unparsed × List ℕ)
 pointer_from high [] = None
 pointer_from high (low ∷ rest) = Some (([], Some (high, low)), rest)
 
--- the labels up to the root or a pointer, and what follows, where no more than steps heads are read
+-- the labels up to the root or a pointer, and what follows, where no more than steps label types are read
 unfoldable pub unparsed_within : ℕ → List ℕ → Option (Unparsed × List ℕ)
 unparsed_within zero bytes = None
 unparsed_within (suc steps) [] = None
@@ -59,15 +59,15 @@ unparsed_within (suc steps) (head ∷ rest) =
     if head == 0 then Some (([], None), rest)
     else if nat_le POINTER_TAG head then pointer_from head rest
     else if nat_lt 63 head || nat_lt (length rest) head then None
-    else behind_labels (take head rest ∷ []) (unparsed_within steps (drop head rest))
+    else following_labels (take head rest ∷ []) (unparsed_within steps (drop head rest))
 
 -- a reading of labels whose octets are at most 254
 abbrev pub up_to_254 : Option (Unparsed × List ℕ) → Option (Unparsed × List ℕ)
 up_to_254 None = None
-up_to_254 (Some (name, rest)) = if nat_lt 254 (length (heads name.0)) then None else Some (name, rest)
+up_to_254 (Some (name, rest)) = if nat_lt 254 (length (labels_wire name.0)) then None else Some (name, rest)
 
--- The unparsed name at the front, and what follows it. `unparsed_names` says it in other words: a name is read exactly where
--- its octets stand at the front.
+-- The unparsed name at the start, and what follows it. `unparsed_names` says it in other words: a name is read exactly where
+-- its octets stand at the start.
 unfoldable pub unparsed_name : List ℕ → Option (Unparsed × List ℕ)
 unparsed_name bytes = up_to_254 (unparsed_within (length bytes) bytes)
 
@@ -77,7 +77,7 @@ unparsed_of bytes = unwrap_or (all_of (unparsed_name bytes)) ([], None)
 
 -- ---- in a message
 
--- A pointer leads to a place behind the header and before the name that begins at start: it counts the header's 12 octets,
+-- A pointer leads to a place after the header and before the name that begins at start: it counts the header's 12 octets,
 -- and places do not.
 abbrev pub leads_back : ℕ → Option ℕ → Bool
 leads_back start None = true
@@ -96,20 +96,20 @@ if_it_leads_back start (Some (name, end)) = if leads_back start (end_offset name
 abbrev pub unparsed_at : List ℕ → ℕ → Option (Unparsed × ℕ)
 unparsed_at contents start = if_it_leads_back start (plain_at unparsed_name contents start)
 
--- ---- as the front of a name
+-- ---- as the prefix of a name
 
--- the labels behind those of an unparsed name, whose pointer leads to this offset, if it has one: none behind the root, and
--- behind a pointer those of the name that is read at its target
+-- the labels after those of an unparsed name, whose pointer leads to this offset, if it has one: none after the root, and
+-- after a pointer those of the name that is read at its target
 abbrev pub GoesOn : List ℕ → Option ℕ → List (List ℕ) → Type 0
 GoesOn contents None others = others ≡ []
 GoesOn contents (Some offset) others = (end : ℕ) × (name_at contents (offset - HEADER_SIZE) ≡ Some (others, end))
 
--- An unparsed name stands at the place and ends at end. Its labels and those behind them are these labels, whose octets are
+-- An unparsed name stands at the place and ends at end. Its labels and those after them are these labels, whose octets are
 -- at most 255 in all.
 pub record Continued (contents : List ℕ) (start : ℕ) (labels : List (List ℕ)) (end : ℕ) : Type 0 where
-  pub front : Unparsed
-  pub stands : unparsed_at contents start ≡ Some (front, end)
+  pub prefix : Unparsed
+  pub stands : unparsed_at contents start ≡ Some (prefix, end)
   pub others : List (List ℕ)
-  pub goes_on : GoesOn contents (end_offset front) others
-  pub labels_are : labels ≡ front.0 ++ others
+  pub goes_on : GoesOn contents (end_offset prefix) others
+  pub labels_are : labels ≡ prefix.0 ++ others
   pub short : length (wire labels) ≤ 255

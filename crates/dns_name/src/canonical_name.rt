@@ -1,4 +1,4 @@
-//! Names as DNSSEC sees them (RFC 4034 section 6): in small letters, and in the orders of their octets.
+//! Names as DNSSEC sees them (RFC 4034 section 6): in lowercase, and in the orders of their octets.
 
 ghost use Rattle.std.specs.Prelude.{◌≡◌, ◌≤◌, ◌<◌, ℕ, List, length, drop, IfOk, OnOk, OnErr, ⊤};
 ghost use Rattle.std.specs.Borrow.{sem};
@@ -19,13 +19,13 @@ pub trait CanonicalName: BuildBytes + Ord {
     /// The labels, without the root.
     ghost name: { Self → List (List ℕ) };
 
-    /// The number of octets, from 1 to 255. That the labels are a name is told by it, with no other name to
+    /// The number of octets, from 1 to 255. That the labels are a name is shown by it, with no other name to
     /// compare with.
     fn composed_size(&self) -> usize
         ensures size { result ≡ length (wire (name self.now)) }
         ensures name { IsName (name self.now) };
 
-    /// Writes the octets in small letters at a place of the buffer, and gives the place where they end.
+    /// Writes the octets in lowercase at a place of the buffer, and gives the place where they end.
     /// It is accepted exactly where they are at most the octets from `start` on. After `TruncationError`
     /// the octets before `start` are as before.
     fn build_lowercased_at(&self, bytes: &mut [u8], start: usize) -> Result<usize, TruncationError>
@@ -37,12 +37,12 @@ pub trait CanonicalName: BuildBytes + Ord {
         ensures order { result ≡ composed_cmp (name self.now) (name other.now) }
         ensures names { IsName (name self.now) × IsName (name other.now) };
 
-    /// The order of the octets in small letters (RFC 4034 sections 6.2 and 6.3).
+    /// The order of the octets in lowercase (RFC 4034 sections 6.2 and 6.3).
     fn cmp_lowercase_composed(&self, other: &Self) -> Ordering
         ensures order { result ≡ lowercase_composed_cmp (name self.now) (name other.now) }
         ensures names { IsName (name self.now) × IsName (name other.now) };
 
-    /// Writes the octets in small letters to the beginning of the buffer. What is behind them is lent back
+    /// Writes the octets in lowercase to the beginning of the buffer. What is after them is borrowed back
     /// as it was. `TruncationError` comes exactly where they are more than the buffer's; what the buffer
     /// holds then is open.
     final fn build_lowercased_bytes<'b>(

@@ -4,9 +4,9 @@ ghost use Rattle.std.specs.Prelude.{◌≡◌};
 ghost use Rattle.dns_wire.specs.Names.{name_labels};
 ghost use Rattle.dns_wire.specs.Reversed.{reversed_name_labels};
 
-use crate::label_row::copy_before;
 use crate::name::Name;
 use crate::name_buf::NameBuf;
+use crate::relative_name::copy_before;
 use crate::rev_name::RevName;
 use crate::rev_name_buf::RevNameBuf;
 
@@ -15,7 +15,7 @@ impl<'a> Name<'a> {
     pub fn to_revname(&self) -> RevNameBuf
         ensures { result ≡ name_labels self.now.slice.now }
     {
-        let labels = self.row();
+        let labels = self.relative();
         let mut buffer = [0; RevName::MAX_SIZE];
         labels.put_reversed(&mut buffer, RevName::MAX_SIZE);
         let offset = RevName::MAX_SIZE - labels.slice.len();
@@ -25,7 +25,7 @@ impl<'a> Name<'a> {
 }
 
 impl<'a> RevName<'a> {
-    /// The name with its first label in front.
+    /// The name with its first label before.
     pub fn to_name(&self) -> NameBuf
         ensures { result ≡ reversed_name_labels self.now.slice.now }
     {

@@ -12,7 +12,7 @@ use crate::rev_name::RevName;
 use crate::rev_name_buf::RevNameBuf;
 use std::hash::{Hash, Hasher};
 
-/// Feeds the octets in small letters, in one write.
+/// Feeds the octets in lowercase, in one write.
 fn feed_lowercase<H: Hasher>(octets: &[u8], state: &mut H)
     requires { length octets.now ≤ 255 }
     ensures { state.new ≡ H.write state.old (str_to_ascii_lowercase octets.now) }
@@ -29,7 +29,7 @@ impl Hash for Name<'_> {
 
     ghost respects_eq = { λ a b same. same_names_alike (name_labels a.slice.now) (name_labels b.slice.now) same };
 
-    /// Feeds the octets in small letters, in one write.
+    /// Feeds the octets in lowercase, in one write.
     fn hash<H: Hasher>(&self, state: &mut H) {
         feed_lowercase(self.as_bytes(), state);
     }
@@ -51,7 +51,7 @@ impl Hash for RevName<'_> {
 
     ghost respects_eq = { λ a b same. same_reversed_alike (reversed_name_labels a.slice.now) (reversed_name_labels b.slice.now) same };
 
-    /// Feeds the octets in small letters, in one write.
+    /// Feeds the octets in lowercase, in one write.
     fn hash<H: Hasher>(&self, state: &mut H) {
         feed_lowercase(self.as_bytes(), state);
     }

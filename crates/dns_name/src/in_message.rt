@@ -1,11 +1,11 @@
 //! Names in a message: the longest suffix that stands there already is a pointer.
 
 ghost use Rattle.std.specs.Prelude.{[], ◌∷◌, Some, ⊤};
-ghost use Rattle.dns_wire.specs.Compression.{name_presses};
+ghost use Rattle.dns_wire.specs.Compression.{compressed_name_writes};
 ghost use Rattle.dns_wire.specs.Names.{name_labels};
-ghost use Rattle.dns_wire.specs.Pieces.Piece.{Pressed};
+ghost use Rattle.dns_wire.specs.Layout.LayoutPart.{NamePart};
 ghost use Rattle.dns_wire.specs.Reversed.{reversed_name_labels};
-ghost use Rattle.dns_wire.specs.Told.{told_piece};
+ghost use Rattle.dns_wire.specs.LayoutLemmas.{part_matches};
 
 use crate::name::Name;
 use crate::name_buf::NameBuf;
@@ -14,11 +14,11 @@ use crate::rev_name_buf::RevNameBuf;
 use dns_wire::{BuildInMessage, NameCompressor, TruncationError, put_name};
 
 impl BuildInMessage for Name<'_> {
-    ghost presses = { λ v. name_presses (name_labels v.slice.now) };
+    ghost writes = { λ v. compressed_name_writes (name_labels v.slice.now) };
 
-    ghost pieces = { λ v. Some (Pressed (name_labels v.slice.now) ∷ []) };
+    ghost layout = { λ v. Some (NamePart (name_labels v.slice.now) ∷ []) };
 
-    ghost told = { λ v. told_piece (Pressed (name_labels v.slice.now)) };
+    ghost layout_matches = { λ v. part_matches (NamePart (name_labels v.slice.now)) };
 
     fn build_in_message(
         &self,
@@ -31,11 +31,11 @@ impl BuildInMessage for Name<'_> {
 }
 
 impl BuildInMessage for NameBuf {
-    ghost presses = { name_presses };
+    ghost writes = { compressed_name_writes };
 
-    ghost pieces = { λ v. Some (Pressed v ∷ []) };
+    ghost layout = { λ v. Some (NamePart v ∷ []) };
 
-    ghost told = { λ v. told_piece (Pressed v) };
+    ghost layout_matches = { λ v. part_matches (NamePart v) };
 
     fn build_in_message(
         &self,
@@ -47,13 +47,13 @@ impl BuildInMessage for NameBuf {
     }
 }
 
-/// The octets of the name with its first label in front, and the places of its labels.
+/// The octets of the name with its first label before, and the places of its labels.
 impl BuildInMessage for RevName<'_> {
-    ghost presses = { λ v. name_presses (reversed_name_labels v.slice.now) };
+    ghost writes = { λ v. compressed_name_writes (reversed_name_labels v.slice.now) };
 
-    ghost pieces = { λ v. Some (Pressed (reversed_name_labels v.slice.now) ∷ []) };
+    ghost layout = { λ v. Some (NamePart (reversed_name_labels v.slice.now) ∷ []) };
 
-    ghost told = { λ v. told_piece (Pressed (reversed_name_labels v.slice.now)) };
+    ghost layout_matches = { λ v. part_matches (NamePart (reversed_name_labels v.slice.now)) };
 
     fn build_in_message(
         &self,
@@ -65,13 +65,13 @@ impl BuildInMessage for RevName<'_> {
     }
 }
 
-/// The octets of the name with its first label in front, and the places of its labels.
+/// The octets of the name with its first label before, and the places of its labels.
 impl BuildInMessage for RevNameBuf {
-    ghost presses = { name_presses };
+    ghost writes = { compressed_name_writes };
 
-    ghost pieces = { λ v. Some (Pressed v ∷ []) };
+    ghost layout = { λ v. Some (NamePart v ∷ []) };
 
-    ghost told = { λ v. told_piece (Pressed v) };
+    ghost layout_matches = { λ v. part_matches (NamePart v) };
 
     fn build_in_message(
         &self,

@@ -1,15 +1,16 @@
-//! Labels in front of a root that is not read yet, with their octets.
+//! Labels before a root that is not read yet, with their octets.
 
 ghost use Rattle.std.specs.Prelude.{◌≡◌, ◌+◌, ◌<◌, [], ◌∷◌, ◌++◌, length, IsTrue};
-ghost use Rattle.dns_wire.specs.Names.{heads};
+ghost use Rattle.dns_wire.specs.Names.{labels_wire};
 ghost use Rattle.dns_name.specs.Text.{fits};
 
 use crate::name::Name;
-use crate::name_buf::{NameBuf, copy_at};
+use crate::name_buf::NameBuf;
 use dns_label::LabelBuf;
+use dns_wire::copy_at;
 use std::marker::Model;
 
-/// Labels of 1 to 63 octets, each behind its length, at most 255 octets in all. It is seen as these labels,
+/// Labels of 1 to 63 octets, each after its length, at most 255 octets in all. It is seen as these labels,
 /// and takes no memory.
 #[derive(Drop)]
 pub(crate) struct LabelsBuf {
@@ -20,14 +21,14 @@ pub(crate) struct LabelsBuf {
 impl Model for LabelsBuf {
     ghost use Rattle.std.specs.Prelude.{◌≡◌, ◌≤◌, ℕ, List, length, take};
     ghost use Rattle.std.specs.List.{AllByRecursion};
-    ghost use Rattle.dns_wire.specs.Names.{IsLabel, heads};
+    ghost use Rattle.dns_wire.specs.Names.{IsLabel, labels_wire};
     ghost use Rattle.dns_label.specs.Labels.{sequence_labels};
 
     ghost Value = { List (List ℕ) };
 
     ghost view = { λ b. sequence_labels (take b.size b.buffer) };
 
-    ghost invariant = { λ b. (b.size ≤ 255) × (length b.buffer ≡ 255) × AllByRecursion IsLabel (sequence_labels (take b.size b.buffer)) × (take b.size b.buffer ≡ heads (sequence_labels (take b.size b.buffer))) };
+    ghost invariant = { λ b. (b.size ≤ 255) × (length b.buffer ≡ 255) × AllByRecursion IsLabel (sequence_labels (take b.size b.buffer)) × (take b.size b.buffer ≡ labels_wire (sequence_labels (take b.size b.buffer))) };
 }
 
 impl LabelsBuf {
@@ -48,7 +49,7 @@ impl LabelsBuf {
         self.size + label.as_label().as_wire().len() <= Name::MAX_SIZE
     }
 
-    /// Puts the label behind these.
+    /// Puts the label after these.
     pub fn push(&mut self, label: &LabelBuf)
         requires fits { IsTrue (fits self.old label.now) }
         requires some { 0 < length label.now }

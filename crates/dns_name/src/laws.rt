@@ -15,11 +15,20 @@ use crate::name::Name;
 use crate::name_buf::NameBuf;
 use crate::rev_name::RevName;
 use crate::rev_name_buf::RevNameBuf;
+use crate::unparsed_name::UnparsedName;
+
+/// A name has at most 255 octets, whichever way they go (RFC 1035 section 2.3.4), and an unparsed one at most 256, since a
+/// pointer has one octet more than the root.
+pub fn name_sizes()
+    ensures name { Name.MAX_SIZE ≡ 255 }
+    ensures reversed { RevName.MAX_SIZE ≡ 255 }
+    ensures unparsed { UnparsedName.MAX_SIZE ≡ 256 }
+{}
 
 /// Octets come before others exactly where they have the smaller octet at the first place at which the two
 /// differ, or end there (RFC 4034 section 6.3). In the orders by octets two names tie exactly where they are
-/// one name, and where they are one in small letters. A name's octets in small letters are those of the
-/// name in small letters (RFC 4034 section 6.2).
+/// one name, and where they are one in lowercase. A name's octets in lowercase are those of the
+/// name in lowercase (RFC 4034 section 6.2).
 pub fn orders_by_octets()
     ensures less { (octets others : List ℕ) →
         (octets_cmp octets others ≡ Less) ↔ Precedes ◌<◌ octets others }
@@ -32,9 +41,9 @@ pub fn orders_by_octets()
 {}
 
 /// A name comes before another exactly where, from the root on, it has the smaller label at the first place
-/// at which the two differ, or ends there; of two labels in small letters the smaller is the one that
+/// at which the two differ, or ends there; of two labels in lowercase the smaller is the one that
 /// `dns_label::order_of_labels` puts first (RFC 4034 section 6.1). Two names tie exactly where they are one in
-/// small letters.
+/// lowercase letters.
 pub fn label_order()
     ensures less { (a b : List (List ℕ)) →
         (key_cmp (key a) (key b) ≡ Less) ↔ Precedes (Precedes ◌<◌) (key a) (key b) }
@@ -65,8 +74,8 @@ pub fn reversed_names()
         length (reversed_wire labels) ≡ length (wire labels) }
 {}
 
-/// An unparsed name is read exactly where its octets stand at the front. In a message it is read exactly
-/// where they stand at the place, and its pointer, if it has one, leads behind the header and before that
+/// An unparsed name is read exactly where its octets stand at the start. In a message it is read exactly
+/// where they stand at the place, and its pointer, if it has one, leads after the header and before that
 /// place.
 pub fn unparsed_names()
     ensures spelled { (bytes : List ℕ) (name : Unparsed) (rest : List ℕ) →

@@ -6,7 +6,6 @@ mod conversion;
 mod hash;
 mod in_message;
 mod json;
-mod label_row;
 mod labels_buf;
 mod laws;
 mod lowercased;
@@ -14,11 +13,12 @@ mod name;
 mod name_buf;
 mod order;
 mod read_name;
+mod relative_name;
+mod relative_order;
 mod rev_canonical;
 mod rev_name;
 mod rev_name_buf;
 mod rev_order;
-mod row_order;
 mod steps;
 mod text;
 mod text_error;
@@ -28,7 +28,7 @@ mod unparsed_name;
 pub use canonical_name::CanonicalName;
 pub use json::{JsonLabelError, JsonNameError, label_from_json, label_to_json};
 pub use laws::{
-    label_order, one_order, orders_by_octets, reversed_names, unparsed_names,
+    label_order, name_sizes, one_order, orders_by_octets, reversed_names, unparsed_names,
     unparsed_names_continue,
 };
 pub use lowercased::Lowercased;
@@ -39,5 +39,8 @@ pub use rev_name::RevName;
 pub use rev_name_buf::RevNameBuf;
 pub use steps::Steps;
 pub use text_error::{NameParseError, NameSplitError};
-pub use text_laws::{name_texts, plain_names_are_printed, printed_names_are_read};
+pub use text_laws::{
+    name_start_errors, name_text_errors, name_texts, plain_names_are_printed,
+    printed_names_are_read,
+};
 pub use unparsed_name::UnparsedName;

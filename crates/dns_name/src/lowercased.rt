@@ -1,4 +1,4 @@
-//! Names to be written in small letters.
+//! Names to be written in lowercase.
 
 ghost use Rattle.std.specs.Prelude.{◌≡◌, ◌≤◌, ◌<◌, ◌^◌, length, ⊤};
 ghost use Rattle.dns_wire.specs.Building.{Builds};
@@ -7,7 +7,7 @@ ghost use Rattle.dns_wire.specs.Names.{wire, lowered};
 use crate::canonical_name::CanonicalName;
 use dns_wire::{BuildBytes, TruncationError};
 
-/// A name that is written in small letters, among other parts (RFC 4034 section 6.2).
+/// A name that is written in lowercase, among other parts (RFC 4034 section 6.2).
 #[derive(Clone, Copy, Debug)]
 pub struct Lowercased<'a, N> {
     /// The name, in whatever case.

@@ -3,19 +3,19 @@
 ghost use Rattle.std.specs.Prelude.{◌≡◌, ◌+◌, ◌≤◌, ◌↔◌, ℕ, List, [], ◌∷◌, ◌++◌, length, Option, Some, IfOk, IsTrue};
 ghost use Rattle.std.proofs.Props.{props};
 ghost use Rattle.dns_wire.specs.Reading.{Gives, all_of, plain_at};
-ghost use Rattle.dns_wire.specs.Left.{plain_ends};
-ghost use Rattle.dns_wire.proofs.NamesLeft.{plain_name_leaves, plain_name_names};
+ghost use Rattle.dns_wire.specs.ReadingLemmas.{plain_ends};
+ghost use Rattle.dns_wire.proofs.NamesLemmas.{plain_name_leaves, plain_name_names};
 ghost use Rattle.dns_wire.specs.Names.{plain_name, name_labels, wire};
-ghost use Rattle.dns_wire.specs.Reversed.{row_labels};
+ghost use Rattle.dns_wire.specs.Reversed.{relative_labels};
 
-use crate::label_row::LabelRow;
+use crate::relative_name::RelativeName;
 use dns_label::LabelIter;
 use dns_wire::{
     AsBytes, BuildBytes, MAX_LABEL_SIZE, ParseBytes, ParseError, ParseName, SplitBytes,
     TruncationError, put, whole,
 };
 
-/// A name without pointers: labels of 1 to 63 octets, each behind its length, and the root's length 0,
+/// A name without pointers: labels of 1 to 63 octets, each after its length, and the root's length 0,
 /// at most 255 octets in all (RFC 1035 section 3.1).
 #[derive(Clone, Copy, Debug)]
 pub struct Name<'a> {
@@ -51,7 +51,7 @@ impl<'a> Name<'a> {
         self.len() == 1
     }
 
-    /// The octets: the labels, each behind its length, and the root's 0.
+    /// The octets: the labels, each after its length, and the root's 0.
     pub fn as_bytes(&self) -> &'a [u8]
         ensures octets { result.now ≡ self.now.slice.now }
         ensures name { all_of (plain_name result.now) ≡ Some (name_labels self.now.slice.now) }
@@ -70,14 +70,14 @@ impl<'a> Name<'a> {
     }
 
     /// The labels, from the first to the last.
-    pub(crate) fn row(&self) -> LabelRow<'a>
-        ensures labels { row_labels result.slice.now ≡ name_labels self.now.slice.now }
+    pub(crate) fn relative(&self) -> RelativeName<'a>
+        ensures labels { relative_labels result.slice.now ≡ name_labels self.now.slice.now }
         ensures octets { length self.now.slice.now ≡ length result.slice.now + 1 }
         ensures short { length result.slice.now ≤ 254 }
     {
         let octets = self.as_bytes();
         let (labels, _root) = octets.split_at(octets.len() - 1);
-        LabelRow { slice: labels }
+        RelativeName { slice: labels }
     }
 }
 
@@ -111,8 +111,8 @@ impl<'a> SplitBytes<'a> for Name<'a> {
         while end < bytes.len() && end < Name::MAX_SIZE {
             let size = bytes[end] as usize;
             if size == 0 {
-                let (front, rest) = bytes.split_at(end + 1);
-                return Ok((Name { slice: front }, rest));
+                let (prefix, rest) = bytes.split_at(end + 1);
+                return Ok((Name { slice: prefix }, rest));
             }
             if size > MAX_LABEL_SIZE || bytes.len() - end <= size {
                 return Err(ParseError);

@@ -2,21 +2,27 @@
 
 ghost use Rattle.std.specs.Prelude.{◌≡◌, ◌+◌, ◌<◌, ◌≤◌, ℕ, List, ◌++◌, length, take, Some, IfOk, OnErr, ⊤};
 ghost use Rattle.dns_wire.specs.Reading.{Gives, all_of, all_at};
-ghost use Rattle.dns_wire.proofs.NamesLeft.{plain_name_leaves, name_ends, plain_name_names, name_at_names};
+ghost use Rattle.dns_wire.proofs.NamesLemmas.{plain_name_leaves, name_ends, plain_name_names, name_at_names};
 ghost use Rattle.dns_wire.specs.Names.{plain_name, name_labels};
-ghost use Rattle.dns_wire.specs.Pointers.{NameAt, name_at, head_count};
+ghost use Rattle.dns_wire.specs.Pointers.{NameAt, name_at, label_type_count};
 
 use crate::name::Name;
 use crate::steps::Steps;
 use dns_wire::{
-    BuildBytes, Head, NameCursor, ParseBytes, ParseError, ParseMessageBytes, SplitBytes,
-    SplitMessageBytes, TruncationError, whole_message,
+    BuildBytes, LabelType, NameCursor, ParseBytes, ParseError, ParseMessageBytes, SplitBytes,
+    SplitMessageBytes, TruncationError, copy_at, whole_message,
 };
 use std::alloc::AllocError;
 use std::marker::{Brand, Model};
 use std::sync::ledger::{Blank, Ledger};
 
 /// A name that owns its octets, and is seen as its labels. It takes no memory.
+///
+/// ```
+/// let name = NameBuf::from_str("WWW.example.org.")?;
+/// println!(rt; "{name}")?; // WWW.example.org.
+/// println!(rt; "{}", name == NameBuf::from_str("www.EXAMPLE.org.")?)?; // true
+/// ```
 #[derive(Debug, Drop)]
 pub struct NameBuf {
     size: u8,
@@ -26,7 +32,7 @@ pub struct NameBuf {
 impl Model for NameBuf {
     ghost use Rattle.std.specs.Prelude.{◌≡◌, ◌≤◌, ℕ, List, take, Some};
     ghost use Rattle.dns_wire.specs.Reading.{all_of};
-    ghost use Rattle.dns_wire.proofs.NamesLeft.{plain_name_leaves, name_ends, plain_name_names, name_at_names};
+    ghost use Rattle.dns_wire.proofs.NamesLemmas.{plain_name_leaves, name_ends, plain_name_names, name_at_names};
     ghost use Rattle.dns_wire.specs.Names.{plain_name, name_labels};
 
     ghost Value = { List (List ℕ) };
@@ -47,7 +53,7 @@ impl NameBuf {
         NameBuf::from_buffer(buffer, octets.len())
     }
 
-    /// The name whose octets are so many at the front of the buffer.
+    /// The name whose octets are that many at the start of the buffer.
     pub(crate) fn from_buffer(buffer: [u8; Name::MAX_SIZE], size: usize) -> NameBuf
         requires short { size ≤ 255 }
         requires name { all_of (plain_name (take size buffer)) ≡ Some (name_labels (take size buffer)) }
@@ -69,16 +75,9 @@ impl NameBuf {
     }
 }
 
-/// Copies the octets to a place of the buffer.
-pub(crate) fn copy_at(octets: &[u8], buffer: &mut [u8], at: usize)
-    requires { at + length octets.now ≤ length buffer.old }
-    ensures { take (at + length octets.now) buffer.new ≡ take at buffer.old ++ octets.now }
-{
-    buffer[at..at + octets.len()].copy_from_slice(octets);
-}
-
 /// Reads the name at the place, its pointers followed, and gives the place where it ends. Each label is
-/// copied once, and the first that leaves no room for the root ends the reading. Each head is a step.
+/// copied once, and the first that leaves no room for the root ends the reading. Each length octet and each
+/// pointer is a step.
 fn read_name<L: Ledger>(
     contents: &[u8],
     start: usize,
@@ -86,8 +85,9 @@ fn read_name<L: Ledger>(
 ) -> Result<(NameBuf, usize), ParseError>
     ensures exact { Gives (λ x. (x.0, x.1)) result (name_at contents.now start) }
     ensures within { IfOk result (λ x. (start ≤ x.1) × (x.1 ≤ length contents.now)) }
-    ensures heads { IfOk result (λ x. (found : NameAt contents.now start x.0 x.1) → steps.new ≡ steps.old + head_count found.reads) }
+    ensures counts { IfOk result (λ x. (found : NameAt contents.now start x.0 x.1) → steps.new ≡ steps.old + label_type_count found.reads) }
     ensures bound { steps.new ≤ steps.old + (129 + start) }
+    ensures no_fewer { steps.old ≤ steps.new }
 {
     let mut buffer = [0; Name::MAX_SIZE];
     let mut size = 0;
@@ -95,20 +95,20 @@ fn read_name<L: Ledger>(
     loop {
         let at = cursor.at;
         steps.add(1);
-        match cursor.next_head(contents)? {
-            Head::Root => {
+        match cursor.next_label_type(contents)? {
+            LabelType::Root => {
                 copy_at(&[0], &mut buffer, size);
                 let name = NameBuf::from_buffer(buffer, size + 1);
                 return Ok((name, cursor.end.unwrap_or(at + 1)));
             }
-            Head::Label(label) => {
+            LabelType::Label(label) => {
                 if size + 1 + label >= Name::MAX_SIZE {
                     return Err(ParseError);
                 }
                 copy_at(&contents[at..at + 1 + label], &mut buffer, size);
                 size += 1 + label;
             }
-            Head::Pointer(_) => {}
+            LabelType::Pointer(_) => {}
         }
     }
 }
@@ -130,9 +130,9 @@ fn read_uncounted<L: Ledger>(
 }
 
 impl NameBuf {
-    /// Reads the name at the place as `split_message_bytes` does, and counts: each label's head, each pointer
-    /// and the root's head is a step. Whatever the pointers, there are at most 129 and one for each octet
-    /// before the place.
+    /// Reads the name at the place as `split_message_bytes` does, and counts: the length octet of each label and of
+    /// the root is a step, and so is each pointer. Whatever the pointers, there are at most 129 and one for
+    /// each octet before the place.
     pub fn split_counted<L: Ledger>(
         contents: &[u8],
         start: usize,
@@ -142,8 +142,9 @@ impl NameBuf {
         ensures within { IfOk result (λ x. (start ≤ x.1) × (x.1 ≤ length contents.now)) }
         ensures follows { IfOk result (λ x. NameAt contents.now start x.0 x.1) }
         ensures refused { OnErr result ((labels : List (List ℕ)) (end : ℕ) → ¬ NameAt contents.now start labels end) }
-        ensures heads { IfOk result (λ x. (found : NameAt contents.now start x.0 x.1) → steps.new ≡ steps.old + head_count found.reads) }
+        ensures counts { IfOk result (λ x. (found : NameAt contents.now start x.0 x.1) → steps.new ≡ steps.old + label_type_count found.reads) }
         ensures bound { steps.new ≤ steps.old + (129 + start) }
+        ensures no_fewer { steps.old ≤ steps.new }
     {
         read_name(contents, start, steps)
     }
@@ -221,7 +222,7 @@ impl<'a> SplitMessageBytes<'a> for NameBuf {
 impl BuildBytes for NameBuf {
     ghost use Rattle.std.specs.Prelude.{⊤};
     ghost use Rattle.dns_wire.specs.Building.{Builds};
-    ghost use Rattle.dns_wire.proofs.NamesLeft.{plain_name_leaves, name_ends, plain_name_names, name_at_names};
+    ghost use Rattle.dns_wire.proofs.NamesLemmas.{plain_name_leaves, name_ends, plain_name_names, name_at_names};
     ghost use Rattle.dns_wire.specs.Names.{wire};
 
     ghost octets = { λ v. wire v };

@@ -9,14 +9,14 @@ ghost use Rattle.std.specs.Ordering.{on, as_partial_cmp, eq_by_cmp};
 ghost use Rattle.std.specs.Prelude.{ℕ, IfSome, MatchOption, option_map};
 ghost use Rattle.std.specs.Option.{option_cmp};
 ghost use Rattle.dns_wire.specs.Names.{wire};
-ghost use Rattle.dns_wire.specs.Reversed.{row_labels};
+ghost use Rattle.dns_wire.specs.Reversed.{relative_labels};
 ghost use Rattle.dns_wire.specs.Agreement.{agreeing_end};
 ghost use Rattle.dns_label.specs.Order.{label_cmp};
 ghost use Rattle.dns_name.specs.Order.{key, key_of, key_cmp};
 
-use crate::label_row::LabelRow;
 use crate::name::Name;
 use crate::name_buf::NameBuf;
+use crate::relative_name::RelativeName;
 use crate::steps::Steps;
 use dns_wire::{agreement_from_end, compare_lowercase};
 use std::cmp::Ordering;
@@ -27,13 +27,13 @@ use std::sync::ledger::{Blank, Ledger};
 /// `agreed` octets agree from the ends of both names on, their roots included. Each head that is read is a
 /// step.
 fn labels_before<'a, 'b, L: Ledger>(
-    a: LabelRow<'a>,
-    b: LabelRow<'b>,
+    a: RelativeName<'a>,
+    b: RelativeName<'b>,
     agreed: usize,
     steps: &mut Steps<L>,
 ) -> (Option<&'a [u8]>, Option<&'b [u8]>)
-    requires { agreed ≡ agreeing_end (wire (row_labels a.slice.now)) (wire (row_labels b.slice.now)) }
-    ensures order { key_cmp (key (row_labels a.entry.slice.now)) (key (row_labels b.entry.slice.now))
+    requires { agreed ≡ agreeing_end (wire (relative_labels a.slice.now)) (wire (relative_labels b.slice.now)) }
+    ensures order { key_cmp (key (relative_labels a.entry.slice.now)) (key (relative_labels b.entry.slice.now))
         ≡ option_cmp label_cmp (option_map (λ l. l.now) result.0) (option_map (λ l. l.now) result.1) }
     ensures least { steps.old ≤ steps.new }
     ensures most { steps.new ≤ steps.old + length a.entry.slice.now + length b.entry.slice.now }
@@ -96,7 +96,7 @@ fn compare_uncounted<L: Ledger>(name: &Name<'_>, other: &Name<'_>, blank: Blank)
 
 impl Name<'_> {
     /// The order of the names, as `cmp` has it. A step is a pair of octets compared or a label's head read:
-    /// they are at least as many as the octets that both names' ends have in common in small letters, and at
+    /// they are at least as many as the octets that both names' ends have in common in lowercase, and at
     /// most three for each octet of both.
     pub fn cmp_counted<L: Ledger>(&self, that: &Name<'_>, steps: &mut Steps<L>) -> Ordering
         ensures order { result ≡ key_cmp (key_of self.now.slice.now) (key_of that.now.slice.now) }
@@ -105,7 +105,7 @@ impl Name<'_> {
     {
         let agreed = agreement_from_end(self.as_bytes(), that.as_bytes());
         steps.add(agreed + 1);
-        let (label, other) = labels_before(self.row(), that.row(), agreed, steps);
+        let (label, other) = labels_before(self.relative(), that.relative(), agreed, steps);
         compare_labels(label, other, steps)
     }
 }
@@ -115,7 +115,7 @@ impl PartialEq for Name<'_> {
 
     ghost laws = { Prim.search (comparing, rules) depth 9 };
 
-    /// Whether the labels are the same, ASCII case aside.
+    /// Whether the labels are the same, ignoring ASCII case.
     fn eq(&self, other: &Self) -> bool {
         let octets = self.as_bytes();
         let others = other.as_bytes();
@@ -158,7 +158,7 @@ impl PartialEq for NameBuf {
 
     ghost laws = { Prim.search (comparing, rules) depth 9 };
 
-    /// Whether the labels are the same, ASCII case aside.
+    /// Whether the labels are the same, ignoring ASCII case.
     fn eq(&self, other: &Self) -> bool {
         self.as_name() == other.as_name()
     }

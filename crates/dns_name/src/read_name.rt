@@ -2,10 +2,10 @@
 
 ghost use Rattle.std.specs.Prelude.{◌≡◌, ◌≤◌, ℕ, List, length, Some};
 ghost use Rattle.std.proofs.Common.{refl};
-ghost use Rattle.dns_wire.proofs.NamesLeft.{plain_name_names, name_at_names, placed_names};
+ghost use Rattle.dns_wire.proofs.NamesLemmas.{plain_name_names, name_at_names, placed_names};
 ghost use Rattle.dns_wire.specs.Names.{IsName, plain_name, name_labels};
 ghost use Rattle.dns_wire.specs.Pointers.{name_at};
-ghost use Rattle.dns_name.specs.Left.{unparsed_names, unparsed_names_at};
+ghost use Rattle.dns_name.specs.UnparsedLemmas.{unparsed_names, unparsed_names_at};
 ghost use Rattle.dns_name.specs.Unparsed.{unparsed_of};
 
 use crate::canonical_name::CanonicalName;
@@ -18,16 +18,16 @@ use dns_wire::{ParseName, SplitMessageBytes};
 /// A name that is read whole: the labels that stand where it was read are those that it writes and compares
 /// (RFC 1035 section 3.1, RFC 4034 section 6).
 pub trait ReadName<'a>: ParseName<'a> + CanonicalName {
-    /// What is read is the name at the front of the octets.
+    /// What is read is the name at the start of the octets.
     ghost read: { (value : Self) (bytes rest : List ℕ) →
         Self.reads bytes ≡ Some (Self.seen value, rest) → plain_name bytes ≡ Some (Self.name value, rest) };
 
-    /// Each name at the front of octets is read.
+    /// Each name at the start of octets is read.
     ghost read_each: { (bytes : List ℕ) (labels : List (List ℕ)) (rest : List ℕ) →
         plain_name bytes ≡ Some (labels, rest) → (seen : Self.Seen) × (Self.reads bytes ≡ Some (seen, rest)) };
 
     /// The labels that it tells are those that it writes.
-    ghost told: { (value : Self) → Self.labels value ≡ Self.name value };
+    ghost layout_matches: { (value : Self) → Self.labels value ≡ Self.name value };
 }
 
 /// The same in a message, where pointers are followed (RFC 1035 section 4.1.4).
@@ -52,7 +52,7 @@ impl<'a> ParseName<'a> for Name<'a> {
         ensures count { result ≡ length (name_labels self.now.slice.now) }
         ensures few { result ≤ 127 }
     {
-        self.row().count()
+        self.relative().count()
     }
 }
 
@@ -61,7 +61,7 @@ impl<'a> ReadName<'a> for Name<'a> {
 
     ghost read_each = { λ bytes labels rest e. (labels, e) };
 
-    ghost told = { λ v. refl };
+    ghost layout_matches = { λ v. refl };
 }
 
 impl<'a> ParseName<'a> for NameBuf {
@@ -81,7 +81,7 @@ impl<'a> ReadName<'a> for NameBuf {
 
     ghost read_each = { λ bytes labels rest e. (labels, e) };
 
-    ghost told = { λ v. refl };
+    ghost layout_matches = { λ v. refl };
 }
 
 impl<'a> ReadMessageName<'a> for NameBuf {
@@ -98,7 +98,7 @@ impl<'a> ParseName<'a> for RevNameBuf {
     ghost names_at = { name_at_names };
 
     fn label_count(&self) -> usize {
-        self.as_revname().row().count()
+        self.as_revname().relative().count()
     }
 }
 
@@ -107,7 +107,7 @@ impl<'a> ReadName<'a> for RevNameBuf {
 
     ghost read_each = { λ bytes labels rest e. (labels, e) };
 
-    ghost told = { λ v. refl };
+    ghost layout_matches = { λ v. refl };
 }
 
 impl<'a> ReadMessageName<'a> for RevNameBuf {

@@ -9,9 +9,9 @@ ghost use Rattle.dns_wire.specs.Reversed.{reversed_name_labels};
 ghost use Rattle.dns_name.specs.Composed.{composed_cmp, lowercase_composed_cmp};
 
 use crate::canonical_name::CanonicalName;
+use crate::relative_order::{LabelOrder, compare_from_last};
 use crate::rev_name::RevName;
 use crate::rev_name_buf::RevNameBuf;
-use crate::row_order::{LabelOrder, compare_from_last};
 use dns_wire::{BuildBytes, TruncationError, build_lowercase};
 use std::cmp::Ordering;
 
@@ -37,11 +37,15 @@ impl CanonicalName for RevName<'_> {
     }
 
     fn cmp_composed(&self, other: &Self) -> Ordering {
-        compare_from_last(self.row(), other.row(), LabelOrder::Composed)
+        compare_from_last(self.relative(), other.relative(), LabelOrder::Composed)
     }
 
     fn cmp_lowercase_composed(&self, other: &Self) -> Ordering {
-        compare_from_last(self.row(), other.row(), LabelOrder::LowercaseComposed)
+        compare_from_last(
+            self.relative(),
+            other.relative(),
+            LabelOrder::LowercaseComposed,
+        )
     }
 }
 

@@ -4,14 +4,14 @@ ghost use Rattle.std.specs.Prelude.{◌≡◌, ◌+◌, ◌≤◌, ◌<◌, ◌^
 ghost use Rattle.std.proofs.Props.{props};
 ghost use Rattle.dns_wire.specs.Building.{Builds, Stands};
 ghost use Rattle.dns_wire.specs.Names.{wire};
-ghost use Rattle.dns_wire.specs.Reversed.{row_labels, reversed_wire, reversed_name, reversed_name_labels};
+ghost use Rattle.dns_wire.specs.Reversed.{relative_labels, reversed_wire, reversed_name, reversed_name_labels};
 
-use crate::label_row::{LabelRow, copy_before};
+use crate::relative_name::{RelativeName, copy_before};
 use dns_label::LabelIter;
 use dns_wire::{BuildBytes, TruncationError};
 
 /// A name without pointers in reverse: the root's length 0, and then labels of 1 to 63 octets from the last
-/// to the first, each behind its length, at most 255 octets in all. Names that end in the same labels begin
+/// to the first, each after its length, at most 255 octets in all. Names that end in the same labels begin
 /// with the same octets so. It is written as other names are, the root last.
 #[derive(Clone, Copy, Debug)]
 pub struct RevName<'a> {
@@ -47,7 +47,7 @@ impl<'a> RevName<'a> {
         self.len() == 1
     }
 
-    /// The octets: the root's 0, and the labels from the last to the first, each behind its length.
+    /// The octets: the root's 0, and the labels from the last to the first, each after its length.
     pub fn as_bytes(&self) -> &'a [u8]
         ensures octets { result.now ≡ self.now.slice.now }
         ensures name { reversed_name result.now ≡ Some (reversed_name_labels self.now.slice.now) }
@@ -66,12 +66,12 @@ impl<'a> RevName<'a> {
     }
 
     /// The labels, from the last to the first.
-    pub(crate) fn row(&self) -> LabelRow<'a>
-        ensures labels { row_labels result.slice.now ≡ reverse (reversed_name_labels self.now.slice.now) }
+    pub(crate) fn relative(&self) -> RelativeName<'a>
+        ensures labels { relative_labels result.slice.now ≡ reverse (reversed_name_labels self.now.slice.now) }
         ensures octets { length self.now.slice.now ≡ length result.slice.now + 1 }
     {
         let (_root, labels) = self.slice.split_at(1);
-        LabelRow { slice: labels }
+        RelativeName { slice: labels }
     }
 
     /// Copies the labels to a place of the buffer, the first label first, and gives the place where they end.
@@ -81,12 +81,12 @@ impl<'a> RevName<'a> {
     {
         let end = start + self.slice.len();
         copy_before(&[0], bytes, end);
-        self.row().put_reversed(bytes, end - 1);
+        self.relative().put_reversed(bytes, end - 1);
         end
     }
 }
 
-/// The octets with the first label in front and the root last.
+/// The octets with the first label before and the root last.
 impl BuildBytes for RevName<'_> {
     ghost octets = { λ v. wire (reversed_name_labels v.slice.now) };
 

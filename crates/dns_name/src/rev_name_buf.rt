@@ -2,16 +2,16 @@
 
 ghost use Rattle.std.specs.Prelude.{◌≡◌, ◌≤◌, ◌<◌, ℕ, List, length, drop, Some, IfOk, OnErr, ⊤};
 ghost use Rattle.dns_wire.specs.Reading.{Gives, all_of, all_at};
-ghost use Rattle.dns_wire.proofs.NamesLeft.{plain_name_leaves, name_ends, plain_name_names, name_at_names};
+ghost use Rattle.dns_wire.proofs.NamesLemmas.{plain_name_leaves, name_ends, plain_name_names, name_at_names};
 ghost use Rattle.dns_wire.specs.Names.{plain_name, wire};
 ghost use Rattle.dns_wire.specs.Pointers.{NameAt, name_at};
 ghost use Rattle.dns_wire.specs.Reversed.{reversed_name, reversed_name_labels};
 
-use crate::label_row::copy_before;
 use crate::name::Name;
+use crate::relative_name::copy_before;
 use crate::rev_name::RevName;
 use dns_wire::{
-    BuildBytes, Head, NameCursor, ParseBytes, ParseError, ParseMessageBytes, SplitBytes,
+    BuildBytes, LabelType, NameCursor, ParseBytes, ParseError, ParseMessageBytes, SplitBytes,
     SplitMessageBytes, TruncationError, whole_message,
 };
 use std::alloc::AllocError;
@@ -96,25 +96,25 @@ fn read_reversed(contents: &[u8], start: usize) -> Result<(RevNameBuf, usize), P
     let mut cursor = NameCursor::new(start);
     loop {
         let at = cursor.at;
-        match cursor.next_head(contents)? {
-            Head::Root => {
+        match cursor.next_label_type(contents)? {
+            LabelType::Root => {
                 copy_before(&[0], &mut buffer, offset);
                 let name = RevNameBuf::from_buffer(buffer, offset - 1);
                 return Ok((name, cursor.end.unwrap_or(at + 1)));
             }
-            Head::Label(label) => {
+            LabelType::Label(label) => {
                 if offset <= 1 + label {
                     return Err(ParseError);
                 }
                 copy_before(&contents[at..at + 1 + label], &mut buffer, offset);
                 offset -= 1 + label;
             }
-            Head::Pointer(_) => {}
+            LabelType::Pointer(_) => {}
         }
     }
 }
 
-/// The octets of a name without pointers, its first label in front.
+/// The octets of a name without pointers, its first label before.
 impl<'a> ParseBytes<'a> for RevNameBuf {
     ghost Seen = { List (List ℕ) };
 
@@ -170,7 +170,7 @@ impl<'a> SplitMessageBytes<'a> for RevNameBuf {
     }
 }
 
-/// The octets with the first label in front and the root last.
+/// The octets with the first label before and the root last.
 impl BuildBytes for RevNameBuf {
     ghost use Rattle.dns_wire.specs.Building.{Builds};
 

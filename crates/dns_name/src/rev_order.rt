@@ -1,5 +1,5 @@
 //! The order of names from the root on, which is that of names in the other layout: by labels from the root
-//! on, each in small letters (RFC 4034 section 6.1).
+//! on, each in lowercase (RFC 4034 section 6.1).
 
 ghost use Rattle.std.specs.Prelude.{◌≡◌};
 ghost use Rattle.std.proofs.Common.{rules};
@@ -7,21 +7,21 @@ ghost use Rattle.std.specs.Cmp.{partial_order_from_own_ties};
 ghost use Rattle.std.specs.Cmp.Rules.{comparing};
 ghost use Rattle.std.specs.Ordering.{on, as_partial_cmp, eq_by_cmp};
 ghost use Rattle.dns_wire.specs.Names.{lowered};
-ghost use Rattle.dns_wire.specs.Reversed.{row_labels, reversed_name_labels};
+ghost use Rattle.dns_wire.specs.Reversed.{relative_labels, reversed_name_labels};
 ghost use Rattle.dns_name.specs.Order.{key, key_cmp};
 
-use crate::label_row::LabelRow;
+use crate::relative_name::RelativeName;
 use crate::rev_name::RevName;
 use crate::rev_name_buf::RevNameBuf;
-use dns_wire::{agreement_from_front, compare_lowercase};
+use dns_wire::{agreement_from_start, compare_lowercase};
 use std::cmp::Ordering;
 
-/// The order of labels one after another, each in small letters. The first that differ decide, and fewer
+/// The order of labels one after another, each in lowercase. The first that differ decide, and fewer
 /// labels come first. Labels that lie whole within the octets that agree are passed over.
-fn compare_rows(a: LabelRow<'_>, b: LabelRow<'_>) -> Ordering
-    ensures { result ≡ key_cmp (lowered (row_labels a.entry.slice.now)) (lowered (row_labels b.entry.slice.now)) }
+fn compare_relative(a: RelativeName<'_>, b: RelativeName<'_>) -> Ordering
+    ensures { result ≡ key_cmp (lowered (relative_labels a.entry.slice.now)) (lowered (relative_labels b.entry.slice.now)) }
 {
-    let mut agreed = agreement_from_front(a.slice, b.slice);
+    let mut agreed = agreement_from_start(a.slice, b.slice);
     let mut left = a;
     let mut right = b;
     while let Some((label, next)) = left.split_first() {
@@ -47,11 +47,11 @@ impl PartialEq for RevName<'_> {
 
     ghost laws = { Prim.search (comparing, rules) depth 9 };
 
-    /// Whether the labels are the same, ASCII case aside.
+    /// Whether the labels are the same, ignoring ASCII case.
     fn eq(&self, other: &Self) -> bool {
         let octets = self.as_bytes();
         let others = other.as_bytes();
-        octets.len() == others.len() && agreement_from_front(octets, others) == octets.len()
+        octets.len() == others.len() && agreement_from_start(octets, others) == octets.len()
     }
 }
 
@@ -71,7 +71,7 @@ impl Ord for RevName<'_> {
     /// Label order: labels are compared from the root on, each by lowered octets, and a proper prefix
     /// comes first.
     fn cmp(&self, other: &Self) -> Ordering {
-        compare_rows(self.row(), other.row())
+        compare_relative(self.relative(), other.relative())
     }
 }
 
@@ -90,7 +90,7 @@ impl PartialEq for RevNameBuf {
 
     ghost laws = { Prim.search (comparing, rules) depth 9 };
 
-    /// Whether the labels are the same, ASCII case aside.
+    /// Whether the labels are the same, ignoring ASCII case.
     fn eq(&self, other: &Self) -> bool {
         self.as_revname() == other.as_revname()
     }

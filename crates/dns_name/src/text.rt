@@ -3,7 +3,7 @@
 ghost use Rattle.std.specs.Prelude.{◌≡◌, ◌∷◌, Some, MatchOption};
 ghost use Rattle.dns_wire.specs.Names.{name_labels};
 ghost use Rattle.dns_label.specs.Text.{Answers};
-ghost use Rattle.dns_name.specs.Text.{NoDot, label_front, of_front, parsed_name, name_scan, shown_name, split_name};
+ghost use Rattle.dns_name.specs.Text.{NoDot, label_prefix, of_prefix, parsed_name, name_scan, shown_name, split_name};
 
 use crate::labels_buf::LabelsBuf;
 use crate::name::Name;
@@ -20,38 +20,38 @@ impl NameBuf {
     pub fn parse_str(s: &[u8]) -> Result<NameBuf, NameParseError>
         ensures { result ≡ parsed_name s.now }
     {
-        let front = scan(s)?;
-        if !front.labels.fit(&front.last) {
+        let prefix = scan(s)?;
+        if !prefix.labels.fit(&prefix.last) {
             return Err(NameParseError::Overlong);
         }
-        if !front.rest.is_empty() {
+        if !prefix.rest.is_empty() {
             return Err(NameParseError::InvalidChar);
         }
-        if !front.last.as_label().is_root() {
+        if !prefix.last.as_label().is_root() {
             return Err(NameParseError::Relative);
         }
-        Ok(front.labels.into_name())
+        Ok(prefix.labels.into_name())
     }
 
-    /// Reads the name at the front of the text, and gives the text behind it, which begins with an octet
+    /// Reads the name at the start of the text, and gives the text after it, which begins with an octet
     /// that no text of a name has. Each error comes exactly where its fault is the first one from the left.
     pub fn split_str(s: &[u8]) -> Result<(NameBuf, &[u8]), NameSplitError>
         ensures { Answers (λ x. (x.0, x.1.now)) result (split_name s.now) }
     {
-        let front = match scan(s) {
-            Ok(front) => front,
-            Err(error) => return Err(of_front(error)),
+        let prefix = match scan(s) {
+            Ok(prefix) => prefix,
+            Err(error) => return Err(of_prefix(error)),
         };
-        if front.rest.is_empty() {
+        if prefix.rest.is_empty() {
             return Err(NameSplitError::ShortInput);
         }
-        if !front.labels.fit(&front.last) {
+        if !prefix.labels.fit(&prefix.last) {
             return Err(NameSplitError::Overlong);
         }
-        if !front.last.as_label().is_root() {
+        if !prefix.last.as_label().is_root() {
             return Err(NameSplitError::Relative);
         }
-        Ok((front.labels.into_name(), front.rest))
+        Ok((prefix.labels.into_name(), prefix.rest))
     }
 }
 
@@ -64,7 +64,7 @@ impl RevNameBuf {
         Ok(RevNameBuf::from(name))
     }
 
-    /// Reads the name at the front of the text, and gives the text behind it, as `NameBuf::split_str` does.
+    /// Reads the name at the start of the text, and gives the text after it, as `NameBuf::split_str` does.
     pub fn split_str(s: &[u8]) -> Result<(RevNameBuf, &[u8]), NameSplitError>
         ensures { Answers (λ x. (x.0, x.1.now)) result (split_name s.now) }
     {
@@ -95,27 +95,27 @@ impl FromStr for RevNameBuf {
     }
 }
 
-/// What is read of a text: labels that a dot follows each, the label behind them, and the text behind that.
+/// What is read of a text: labels that a dot follows each, the label after them, and the text after that.
 #[derive(Drop)]
-struct Front<'a> {
+struct Prefix<'a> {
     labels: LabelsBuf,
     last: LabelBuf,
     rest: &'a [u8],
 }
 
 /// Scans a name from the left, up to the end of the text or to an octet that no text of a name has.
-fn scan(text: &[u8]) -> Result<Front<'_>, NameParseError>
+fn scan(text: &[u8]) -> Result<Prefix<'_>, NameParseError>
     ensures { Answers (λ x. (x.labels, (x.last, x.rest.now))) result (name_scan text.now) }
 {
     let mut labels = LabelsBuf::new();
     let mut rest = text;
     loop {
-        let (last, behind) = label_at(rest)?;
-        let Some(next) = behind_dot(behind) else {
-            return Ok(Front {
+        let (last, trailing) = label_at(rest)?;
+        let Some(next) = following_dot(trailing) else {
+            return Ok(Prefix {
                 labels,
                 last,
-                rest: behind,
+                rest: trailing,
             });
         };
         if !labels.fit(&last) {
@@ -129,19 +129,19 @@ fn scan(text: &[u8]) -> Result<Front<'_>, NameParseError>
     }
 }
 
-/// Reads the label at the front of the text, which the end of the text ends too, and gives the text behind
+/// Reads the label at the start of the text, which the end of the text ends too, and gives the text after
 /// it.
 fn label_at(text: &[u8]) -> Result<(LabelBuf, &[u8]), NameParseError>
-    ensures { Answers (λ x. (x.0, x.1.now)) result (label_front text.now) }
+    ensures { Answers (λ x. (x.0, x.1.now)) result (label_prefix text.now) }
 {
     match LabelBuf::split_str(text) {
-        Ok(front) => Ok(front),
+        Ok(prefix) => Ok(prefix),
         Err(_) => Ok((LabelBuf::parse_str(text)?, &[])),
     }
 }
 
-/// The text behind the dot that stands in front of it; none where none does.
-fn behind_dot(text: &[u8]) -> Option<&[u8]>
+/// The text after the dot that stands before it; none where none does.
+fn following_dot(text: &[u8]) -> Option<&[u8]>
     ensures { MatchOption result (NoDot text.now) (λ rest. text.now ≡ 46 ∷ rest.now) }
 {
     match text.split_first() {
@@ -150,9 +150,9 @@ fn behind_dot(text: &[u8]) -> Option<&[u8]>
     }
 }
 
-/// The error of a front of a text, where the whole text has this one.
-fn of_front(error: NameParseError) -> NameSplitError
-    ensures { result ≡ of_front error }
+/// The error of a prefix of a text, where the whole text has this one.
+fn of_prefix(error: NameParseError) -> NameSplitError
+    ensures { result ≡ of_prefix error }
 {
     match error {
         NameParseError::Overlong => NameSplitError::Overlong,
@@ -168,9 +168,9 @@ fn of_front(error: NameParseError) -> NameSplitError
 impl fmt::Display for Name<'_> {
     ghost output = { λ v. Some (shown_name (name_labels v.slice.now)) };
 
-    /// Prints each label and a dot behind it; nothing for the root.
+    /// Prints each label and a dot after it; nothing for the root.
     fn fmt<W: fmt::Write>(&self, f: &mut fmt::Formatter<W>) -> fmt::Result {
-        for label in LabelIter::new(self.row().slice) {
+        for label in LabelIter::new(self.relative().slice) {
             write!(f, "{label}.")?;
         }
         Ok(())

@@ -13,7 +13,7 @@ pub enum NameParseError {
     /// 2.3.4).
     #[error("the domain name was too long")]
     Overlong,
-    /// The text ends behind a label that no dot follows.
+    /// The text ends after a label that no dot follows.
     #[error("the domain name did not end with `.`")]
     Relative,
     /// A dot stands where a label should begin.
@@ -25,7 +25,7 @@ pub enum NameParseError {
     /// An octet stands in the text that no text of a name has, as a space.
     #[error("the domain name contained an invalid character")]
     InvalidChar,
-    /// The text ends within an escape: behind a backslash, or before the third of three digits.
+    /// The text ends within an escape: after a backslash, or before the third of three digits.
     #[error("the domain name contained an incomplete escape")]
     PartialEscape,
     /// A backslash stands before what is no escape: a number that is not of three decimal digits or is
@@ -34,7 +34,7 @@ pub enum NameParseError {
     InvalidEscape,
 }
 
-/// No name that ends with the root is at the front of a text.
+/// No name that ends with the root is at the start of a text.
 #[derive(Clone, Copy, Debug, PartialEq, Eq, Error)]
 pub enum NameSplitError {
     /// The name would have more than 255 octets, its length octets and the root counted (RFC 1035 section
@@ -62,7 +62,7 @@ pub enum NameSplitError {
     ShortInput,
 }
 
-/// The variant keeps its name, but a label that is too long is told from such a name.
+/// The variant keeps its name, but a label that is too long is distinguished from such a name.
 impl From<LabelParseError> for NameParseError {
     ghost from_gives = { λ error e. e ≡ of_label error };
 
@@ -76,7 +76,7 @@ impl From<LabelParseError> for NameParseError {
     }
 }
 
-/// The variant keeps its name, but a label that is too long is told from such a name.
+/// The variant keeps its name, but a label that is too long is distinguished from such a name.
 impl From<LabelSplitError> for NameSplitError {
     ghost from_gives = { λ error e. e ≡ of_label_split error };
 

@@ -4,7 +4,7 @@ ghost use Rattle.std.specs.Prelude.{◌≡◌, ◌≤◌, ◌<◌, ◌^◌, ◌�
 ghost use Rattle.std.proofs.Props.{props};
 ghost use Rattle.dns_wire.specs.Reading.{Gives, all_of, all_at, plain_at};
 ghost use Rattle.dns_label.specs.Labels.{contents_of};
-ghost use Rattle.dns_name.specs.Left.{unparsed_leaves, unparsed_ends, unparsed_names, unparsed_names_at};
+ghost use Rattle.dns_name.specs.UnparsedLemmas.{unparsed_leaves, unparsed_ends, unparsed_names, unparsed_names_at};
 ghost use Rattle.dns_name.specs.Unparsed.{Unparsed, unparsed_wire, end_offset, alone_offset, unparsed_name, unparsed_of, unparsed_at};
 
 use dns_label::Label;
@@ -14,7 +14,7 @@ use dns_wire::{
     whole_message,
 };
 
-/// Labels of 1 to 63 octets, each behind its length, and then the root's length 0 or a pointer, which begin
+/// Labels of 1 to 63 octets, each after its length, and then the root's length 0 or a pointer, which begin
 /// at octet 254 at the latest, counted from 0. What a pointer leads to is not looked at.
 #[derive(Clone, Copy, Debug)]
 pub struct UnparsedName<'a> {
@@ -51,7 +51,7 @@ impl<'a> UnparsedName<'a> {
         self.len() == 1
     }
 
-    /// The octets: the labels, each behind its length, and the root's 0 or a pointer's two octets.
+    /// The octets: the labels, each after its length, and the root's 0 or a pointer's two octets.
     pub fn as_bytes(&self) -> &'a [u8]
         ensures octets { result.now ≡ self.now.slice.now }
         ensures name { all_of (unparsed_name result.now) ≡ Some (unparsed_of self.now.slice.now) }
@@ -61,7 +61,7 @@ impl<'a> UnparsedName<'a> {
         self.slice
     }
 
-    /// Where the pointer leads, counted from the front of the message, if one pointer is all that stands
+    /// Where the pointer leads, counted from the start of the message, if one pointer is all that stands
     /// here. The offset has 14 bits.
     pub fn pointer_value(&self) -> Option<u16>
         ensures { result ≡ alone_offset (unparsed_of self.now.slice.now) }
@@ -73,7 +73,7 @@ impl<'a> UnparsedName<'a> {
         Some(pointer_offset(high, self.slice[1]) as u16)
     }
 
-    /// The first label, and the name behind it; none where the root or one pointer is all that stands here.
+    /// The first label, and the name after it; none where the root or one pointer is all that stands here.
     pub fn split_first(&self) -> Option<(Label<'a>, UnparsedName<'a>)>
         ensures { MatchOption result ((unparsed_of self.now.slice.now).0 ≡ [])
             (λ x. unparsed_of self.now.slice.now ≡ (contents_of x.0.slice.now ∷ (unparsed_of x.1.slice.now).0, (unparsed_of x.1.slice.now).1)) }
@@ -93,7 +93,7 @@ impl AsBytes for UnparsedName<'_> {
     }
 }
 
-/// Goes over the labels of the unparsed name at the front, and gives the place where it ends and where its
+/// Goes over the labels of the unparsed name at the start, and gives the place where it ends and where its
 /// pointer leads.
 fn read_unparsed(bytes: &[u8]) -> Result<(usize, Option<usize>), ParseError>
     ensures read { IfOk result (λ x. unparsed_name bytes.now ≡ Some (unparsed_of (take x.0 bytes.now), drop x.0 bytes.now)) }
@@ -152,7 +152,7 @@ impl<'a> SplitBytes<'a> for UnparsedName<'a> {
     }
 }
 
-/// A name whose pointer leads to a place before it, behind the message's header.
+/// A name whose pointer leads to a place before it, after the message's header.
 impl<'a> ParseMessageBytes<'a> for UnparsedName<'a> {
     fn parse_message_bytes(
         contents: &'a [u8],

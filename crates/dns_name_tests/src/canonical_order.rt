@@ -61,7 +61,7 @@ fn have_orders(one: &[u8], other: &[u8], wanted: [Ordering; 3]) -> bool {
 
 #[test]
 fn compares_octets(rt: HostRuntime) {
-    let rows: [(&str, &[u8], &[u8], [Ordering; 3]); 2] = [
+    let cases: [(&str, &[u8], &[u8], [Ordering; 3]); 2] = [
         (
             "the length first",
             b"\x01b\0",
@@ -75,7 +75,7 @@ fn compares_octets(rt: HostRuntime) {
             [Equal, Greater, Equal],
         ),
     ];
-    for (what, one, other, wanted) in rows {
+    for (what, one, other, wanted) in cases {
         assert!(rt; have_orders(one, other, wanted), "{what}");
     }
 }

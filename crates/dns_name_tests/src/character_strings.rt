@@ -112,7 +112,7 @@ fn equal_strings_hash_alike(rt: HostRuntime) {
 
 #[test]
 fn prints_errors_of_strings(rt: HostRuntime) {
-    let rows = [
+    let cases = [
         (
             CharStrParseError::Overlong,
             "the character string was too long",
@@ -122,7 +122,7 @@ fn prints_errors_of_strings(rt: HostRuntime) {
             "the character string contained an invalid character",
         ),
     ];
-    for (error, text) in rows {
+    for (error, text) in cases {
         assert!(rt; prints(rt.alloc(), &error, text), "{text}");
     }
 }

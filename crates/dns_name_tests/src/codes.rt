@@ -21,7 +21,7 @@ fn codes_are_numbers(rt: HostRuntime) {
 /// The names that IANA lists, those of RFC 1035 and RFC 1183.
 #[test]
 fn prints_types(rt: HostRuntime) {
-    let rows = [
+    let cases = [
         (1, "A"),
         (2, "NS"),
         (5, "CNAME"),
@@ -32,7 +32,7 @@ fn prints_types(rt: HostRuntime) {
         (16, "TXT"),
         (17, "RP"),
     ];
-    for (number, text) in rows {
+    for (number, text) in cases {
         assert!(rt; prints(rt.alloc(), &RType::from(number), text), "{text}");
     }
 }
@@ -40,7 +40,7 @@ fn prints_types(rt: HostRuntime) {
 /// Those of later RFCs, and numbers without a name as RFC 3597 section 5 writes them.
 #[test]
 fn prints_types_of_later_standards(rt: HostRuntime) {
-    let rows = [
+    let cases = [
         (28, "AAAA"),
         (33, "SRV"),
         (39, "DNAME"),
@@ -59,21 +59,21 @@ fn prints_types_of_later_standards(rt: HostRuntime) {
         (265, "TYPE265"),
         (65535, "TYPE65535"),
     ];
-    for (number, text) in rows {
+    for (number, text) in cases {
         assert!(rt; prints(rt.alloc(), &RType::from(number), text), "{text}");
     }
 }
 
 #[test]
 fn prints_classes(rt: HostRuntime) {
-    let rows = [
+    let cases = [
         (1, "IN"),
         (3, "CH"),
         (2, "CLASS2"),
         (42, "CLASS42"),
         (65535, "CLASS65535"),
     ];
-    for (number, text) in rows {
+    for (number, text) in cases {
         assert!(rt; prints(rt.alloc(), &RClass::from(number), text), "{text}");
     }
 }

@@ -112,13 +112,13 @@ fn compresses_the_names_of_the_standard(rt: HostRuntime) {
 
 #[test]
 fn reads_the_names_of_the_standard(rt: HostRuntime) {
-    let rows: [(&str, usize, &[u8], usize); 4] = [
+    let cases: [(&str, usize, &[u8], usize); 4] = [
         ("F.ISI.ARPA", 8, b"\x01F\x03ISI\x04ARPA\0", 20),
         ("FOO.F.ISI.ARPA", 28, b"\x03FOO\x01F\x03ISI\x04ARPA\0", 34),
         ("ARPA", 52, b"\x04ARPA\0", 54),
         ("the root", 80, b"\0", 81),
     ];
-    for (what, offset, octets, end) in rows {
+    for (what, offset, octets, end) in cases {
         let found = end_of_name::<NameBuf>(&STANDARD, offset, octets);
         assert!(rt; found == Some(end), "{what}");
     }

@@ -7,7 +7,7 @@ use crate::assertion::holds;
 use crate::names::name;
 use crate::pointers::CHAIN;
 use dns_name::{Name, NameBuf, Steps};
-use dns_wire::{Head, NameCursor, ParseError, SplitMessageBytes};
+use dns_wire::{LabelType, NameCursor, ParseError, SplitMessageBytes};
 use std::cmp::Ordering;
 use std::marker::Brand;
 use std::sync::ledger::{Blank, Ledger};
@@ -29,7 +29,7 @@ fn order(one: &[u8], other: &[u8]) -> Ordering {
 
 #[test]
 fn a_counted_comparison_gives_the_same_order(rt: HostRuntime) {
-    let rows: [(&str, &[u8], &[u8], Ordering); 3] = [
+    let cases: [(&str, &[u8], &[u8], Ordering); 3] = [
         (
             "a label inside the other",
             b"\x01a\0",
@@ -44,7 +44,7 @@ fn a_counted_comparison_gives_the_same_order(rt: HostRuntime) {
             Ordering::Equal,
         ),
     ];
-    for (what, one, other, wanted) in rows {
+    for (what, one, other, wanted) in cases {
         assert!(rt; order(one, other) == wanted, "{what}");
     }
 }
@@ -75,11 +75,11 @@ fn counted_end(contents: &[u8], offset: usize) -> Option<usize> {
 }
 
 /// How many labels, pointers and roots a reading from the offset goes over, at most 10,000.
-fn heads(contents: &[u8], offset: usize) -> Option<usize> {
+fn labels_wire(contents: &[u8], offset: usize) -> Option<usize> {
     let mut cursor = NameCursor::new(offset);
     for count in 1..10_001usize {
-        match cursor.next_head(contents) {
-            Ok(Head::Root) => return Some(count),
+        match cursor.next_label_type(contents) {
+            Ok(LabelType::Root) => return Some(count),
             Ok(_) => {}
             Err(_) => return None,
         }
@@ -92,7 +92,7 @@ fn a_counted_reading_goes_over_each_pointer(rt: HostRuntime) {
     holds(&rt, counted_end(CHAIN, 18) == Some(20), "a chain");
     holds(
         &rt,
-        heads(CHAIN, 18) == Some(5),
+        labels_wire(CHAIN, 18) == Some(5),
         "four pointers and the root",
     );
 }
@@ -129,7 +129,7 @@ fn a_chain_of_8000_pointers_is_read_to_its_end(rt: HostRuntime) {
     );
     holds(
         &rt,
-        heads(&contents, 16_012) == Some(8_002),
+        labels_wire(&contents, 16_012) == Some(8_002),
         "8,001 pointers and the root",
     );
     holds(

@@ -46,14 +46,40 @@ fn prints_json(alloc: Global, value: Option<Value>, text: &str) -> bool {
     }
 }
 
+/// A name of 255 octets as text: three labels of 63 letters and one of 61.
+fn longest_text() -> [u8; 254] {
+    let mut text = [b'a'; 254];
+    for end in [63, 127, 191, 253] {
+        text[end] = b'.';
+    }
+    text
+}
+
+/// Whether the text of the longest name is its JSON string.
+fn holds_longest(alloc: Global) -> bool {
+    let text = longest_text();
+    match json_of_name(alloc, &text) {
+        Some(value) => match value.as_str() {
+            Some(string) => string.as_bytes() == text.as_slice(),
+            None => false,
+        },
+        None => false,
+    }
+}
+
+#[test]
+fn the_longest_name_is_a_json_string(rt: HostRuntime) {
+    holds(&rt, holds_longest(rt.alloc()), "255 octets");
+}
+
 #[test]
 fn prints_names_as_json(rt: HostRuntime) {
     let alloc = rt.alloc();
-    let rows = [
+    let cases = [
         ("example.", "\"example.\""),
         ("a\\.b.\\000\\255.", "\"a\\\\.b.\\\\000\\\\255.\""),
     ];
-    for (text, wanted) in rows {
+    for (text, wanted) in cases {
         let json = json_of_name(alloc, text.as_bytes());
         assert!(rt; prints_json(alloc, json, wanted), "{text}");
         let json = json_of_reversed_name(alloc, text.as_bytes());
@@ -64,11 +90,11 @@ fn prints_names_as_json(rt: HostRuntime) {
 #[test]
 fn prints_labels_as_json(rt: HostRuntime) {
     let alloc = rt.alloc();
-    let rows = [
+    let cases = [
         ("a letter", b"a".as_slice(), "\"a\""),
         ("a quote", b"\"\0x", "\"\\\\\\\"\\\\000x\""),
     ];
-    for (what, contents, wanted) in rows {
+    for (what, contents, wanted) in cases {
         let json = json_of_label(alloc, contents);
         assert!(rt; prints_json(alloc, json, wanted), "{what}");
     }

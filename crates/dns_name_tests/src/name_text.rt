@@ -13,7 +13,7 @@ fn parse_error(text: &[u8]) -> Option<NameParseError> {
 
 #[test]
 fn refuses_texts(rt: HostRuntime) {
-    let rows: [(&str, &[u8], NameParseError); 7] = [
+    let cases: [(&str, &[u8], NameParseError); 7] = [
         ("a dot alone", b".", NameParseError::EmptyLabel),
         ("no dot", b"a", NameParseError::Relative),
         ("two dots", b"a..", NameParseError::EmptyLabel),
@@ -22,7 +22,7 @@ fn refuses_texts(rt: HostRuntime) {
         ("64 octets", &[b'a'; 64], NameParseError::OverlongLabel),
         ("a space", b"a b.", NameParseError::InvalidChar),
     ];
-    for (what, text, error) in rows {
+    for (what, text, error) in cases {
         assert!(rt; parse_error(text) == Some(error), "{what}");
     }
 }
@@ -99,7 +99,7 @@ fn splits_reversed_str(text: &[u8], octets: &[u8], rest: &[u8]) -> bool {
 
 #[test]
 fn reads_names_before_other_text(rt: HostRuntime) {
-    let rows: [(&str, &[u8], &[u8], &[u8]); 6] = [
+    let cases: [(&str, &[u8], &[u8], &[u8]); 6] = [
         ("a space", b"a. x", b"\x01a\0", b" x"),
         ("the root", b" a.", b"\0", b" a."),
         ("the root before a bracket", b")", b"\0", b")"),
@@ -122,7 +122,7 @@ fn reads_names_before_other_text(rt: HostRuntime) {
             b")",
         ),
     ];
-    for (what, text, octets, rest) in rows {
+    for (what, text, octets, rest) in cases {
         assert!(rt; splits_str(text, octets, rest), "{what}");
         assert!(rt;
             splits_reversed_str(text, octets, rest),
@@ -138,7 +138,7 @@ fn split_error(text: &[u8]) -> Option<NameSplitError> {
 
 #[test]
 fn refuses_prefixes(rt: HostRuntime) {
-    let rows: [(&str, &[u8], NameSplitError); 10] = [
+    let cases: [(&str, &[u8], NameSplitError); 10] = [
         ("nothing", b"", NameSplitError::ShortInput),
         ("a name alone", b"a.", NameSplitError::ShortInput),
         ("a dot", b". ", NameSplitError::EmptyLabel),
@@ -150,7 +150,7 @@ fn refuses_prefixes(rt: HostRuntime) {
         ("256", b"a.\\256 ", NameSplitError::InvalidEscape),
         ("64 octets", &[b'a'; 64], NameSplitError::OverlongLabel),
     ];
-    for (what, text, error) in rows {
+    for (what, text, error) in cases {
         assert!(rt; split_error(text) == Some(error), "{what}");
     }
 }

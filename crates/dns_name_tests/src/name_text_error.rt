@@ -7,7 +7,7 @@ use dns_name::{NameParseError, NameSplitError};
 
 #[test]
 fn prints_parse_errors(rt: HostRuntime) {
-    let rows = [
+    let cases = [
         (NameParseError::Overlong, "the domain name was too long"),
         (
             NameParseError::Relative,
@@ -34,14 +34,14 @@ fn prints_parse_errors(rt: HostRuntime) {
             "the domain name contained an invalid escape",
         ),
     ];
-    for (error, text) in rows {
+    for (error, text) in cases {
         assert!(rt; prints(rt.alloc(), &error, text), "{text}");
     }
 }
 
 #[test]
 fn prints_split_errors(rt: HostRuntime) {
-    let rows = [
+    let cases = [
         (NameSplitError::Overlong, "the domain name was too long"),
         (
             NameSplitError::Relative,
@@ -68,7 +68,7 @@ fn prints_split_errors(rt: HostRuntime) {
             "the input was too short to parse the domain name",
         ),
     ];
-    for (error, text) in rows {
+    for (error, text) in cases {
         assert!(rt; prints(rt.alloc(), &error, text), "{text}");
     }
 }

@@ -35,7 +35,7 @@ fn incremented(serial: u32, count: i32) -> Option<u32> {
 /// The cases of RFC 1982 sections 3.2 and 5.
 #[test]
 fn serial_numbers_compare(rt: HostRuntime) {
-    let rows = [
+    let table = [
         (0, 4_294_967_295, Some(Greater)),
         (4_294_967_295, 0, Some(Less)),
         (1, 2_147_483_649, None),
@@ -44,7 +44,7 @@ fn serial_numbers_compare(rt: HostRuntime) {
         (1, 2_147_483_650, Some(Greater)),
         (7, 7, Some(Equal)),
     ];
-    for (one, other, wanted) in rows {
+    for (one, other, wanted) in table {
         assert!(rt; compared(one, other) == wanted, "{one} and {other}");
     }
 }
@@ -52,12 +52,12 @@ fn serial_numbers_compare(rt: HostRuntime) {
 /// The cases of RFC 1982 sections 3.1 and 5.
 #[test]
 fn serial_numbers_are_incremented(rt: HostRuntime) {
-    let rows = [
+    let table = [
         (4_294_967_295, 1, 0),
         (4_294_967_295, i32::MAX, 2_147_483_646),
         (5, 0, 5),
     ];
-    for (serial, count, wanted) in rows {
+    for (serial, count, wanted) in table {
         assert!(rt;
             incremented(serial, count) == Some(wanted),
             "{serial} by {count}"

@@ -36,12 +36,12 @@ const OVER_POINTER_NAME: &[u8] = b"\x04abc\xc0\x0d\0\x01\0\x01\0\0\0\0\0\x04\xc0
 
 #[test]
 fn follows_pointers(rt: HostRuntime) {
-    let rows = [
+    let cases = [
         ("a chain", CHAIN, 18, b"\0".as_slice(), 20),
         ("through itself", OVER_POINTER, 5, OVER_POINTER_NAME, 7),
         ("over a pointer", OVER_POINTER, 1, OVER_POINTER_NAME, 21),
     ];
-    for (what, contents, offset, octets, end) in rows {
+    for (what, contents, offset, octets, end) in cases {
         let found = end_of_name::<NameBuf>(contents, offset, octets);
         assert!(rt; found == Some(end), "{what}");
         let found = end_of_name::<RevNameBuf>(contents, offset, octets);

@@ -58,7 +58,7 @@ fn keeps_labels_and_pointers(rt: HostRuntime) {
 /// The offset is the 14 bits after the first two, whatever it is.
 #[test]
 fn ends_at_the_root_or_a_pointer(rt: HostRuntime) {
-    let rows = [
+    let cases = [
         (
             "a label and a pointer",
             b"\x03www\xc0\x0c".as_slice(),
@@ -70,7 +70,7 @@ fn ends_at_the_root_or_a_pointer(rt: HostRuntime) {
         ("to 8,450", b"\xe1\x02", (false, Some(8450))),
         ("to 16,383", b"\xff\xff", (false, Some(16383))),
     ];
-    for (what, octets, wanted) in rows {
+    for (what, octets, wanted) in cases {
         assert!(rt; root_and_pointer(octets) == Some(wanted), "{what}");
     }
     let root = UnparsedName::root();
@@ -86,7 +86,7 @@ fn unparsed_end(contents: &[u8], offset: usize) -> Option<usize> {
 #[test]
 fn leads_back_in_messages(rt: HostRuntime) {
     let contents = b"\x01a\0\x01b\xc0\x0c\xc0\x13.";
-    let rows = [
+    let cases = [
         ("to before", contents.as_slice(), 3, Some(7)),
         ("to just before", b"........\xc0\x13", 8, Some(10)),
         ("to itself", contents, 7, None),
@@ -94,7 +94,7 @@ fn leads_back_in_messages(rt: HostRuntime) {
         ("to itself, the first octet", b"\xc0\x0c", 0, None),
         ("after the end", contents, 11, None),
     ];
-    for (what, contents, offset, end) in rows {
+    for (what, contents, offset, end) in cases {
         assert!(rt; unparsed_end(contents, offset) == end, "{what}");
     }
 }

@@ -1,8 +1,8 @@
 -- The crate's own lemmas.
-mod Alike
-mod Bits
+mod AlikeBitmaps
+mod WindowBits
 mod Made
 mod Marked
-mod Named
+mod NamedTypes
 mod Parted
-mod Rising
+mod RisingTypes

@@ -10,13 +10,13 @@ use Rattle.std.proofs.lemmas.Nat.{or_lt}
 use Rattle.std.proofs.lemmas.Nat.Bits.{bit_at_set_same, bit_at_set_other, bit_at-zero}
 use Rattle.dns_wire.specs.Reading.{AreOctets}
 use Rattle.dns_record.specs.InPlace.{AreWindows, WindowsFrom, AreBits}
-use Rattle.dns_record.specs.Windows.{Window, is_bitmap, windows_octets}
+use Rattle.dns_record.specs.TypeBitMaps.{Window, is_bitmap, windows_octets}
 use Rattle.dns_record.proofs.Bitmaps.{is_this_bitmap}
 use Rattle.dns_nsec.specs.Bitmaps.{bits_of, set_from, window_types, windows_types, windows_in, types_in}
-use Rattle.dns_nsec.proofs.Bits.{bit_of}
-use Rattle.dns_nsec.proofs.Named.{is_in, either_in, below_set, in_set}
+use Rattle.dns_nsec.proofs.WindowBits.{bit_of}
+use Rattle.dns_nsec.proofs.NamedTypes.{is_in, either_in, below_set, in_set}
 use Rattle.dns_nsec.proofs.Parted.{windows_these, from_less}
-use Rattle.dns_nsec.proofs.Rising.{RisesFrom, lower_from, windows_rise_from}
+use Rattle.dns_nsec.proofs.RisingTypes.{RisesFrom, lower_from, windows_rise_from}
 
 -- ---- one bit more in octets
 

@@ -3,10 +3,10 @@ use Rattle.std.proofs.Common.{◌≡◌, ℕ, zero, suc, ◌-◌, ◌/◌, ◌%�
 use Rattle.std.specs.Prelude.{◌==◌, ◌↔◌, IsTrue, Contains}
 use Rattle.std.proofs.lemmas.Bool.Decides.{nat_tests}
 use Rattle.dns_record.specs.InPlace.{WindowsFrom, AreBits}
-use Rattle.dns_record.specs.Windows.{Window, is_bitmap}
+use Rattle.dns_record.specs.TypeBitMaps.{Window, is_bitmap}
 use Rattle.dns_nsec.specs.Bitmaps.{bits_of, window_types, windows_types, windows_in, types_in, Marks, IsMarked}
-use Rattle.dns_nsec.proofs.Bits.{bit_of}
-use Rattle.dns_nsec.proofs.Named.{is_in, in_contains, contains_in, contains_so, either_in, window_hit, window_miss}
+use Rattle.dns_nsec.proofs.WindowBits.{bit_of}
+use Rattle.dns_nsec.proofs.NamedTypes.{is_in, in_contains, contains_in, contains_so, either_in, window_hit, window_miss}
 use Rattle.dns_nsec.proofs.Parted.{windows_rise}
 
 bit_is : (type : ℕ) (w : Window) → get_or (bits_of w.bits) (type % 256) 0 ≡ get_or w.bits (type % 256 / 8) 0 / 2 ^ (7 - type % 8) % 2

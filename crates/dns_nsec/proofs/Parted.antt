@@ -2,7 +2,7 @@
 use Rattle.std.proofs.Common.{◌≡◌, ℕ, zero, suc, ◌+◌, ◌<◌, ◌≤◌, true, false, List, [], ◌∷◌, length, Option, Some, None, refl, sym, ap, subst, ◌∙◌, arith}
 use Rattle.dns_wire.specs.Steps.{◌>>=◌}
 use Rattle.dns_record.specs.InPlace.{AreWindows, WindowsFrom}
-use Rattle.dns_record.specs.Windows.{Window, window, windows_within, windows_of, is_some, is_bitmap, windows_octets}
+use Rattle.dns_record.specs.TypeBitMaps.{Window, window, windows_within, windows_of, is_some, is_bitmap, windows_octets}
 use Rattle.dns_record.proofs.Bitmaps.{bitmap_is, is_this_bitmap, windows_found, window_read}
 use Rattle.dns_nsec.specs.Bitmaps.{windows_or_none, windows_in}
 
@@ -80,10 +80,10 @@ first_window bytes e = let w = bitmap_is bytes e in by w.windows w.rise w.is (wi
   by : (windows : List Window) → WindowsFrom 0 windows → bytes ≡ windows_octets windows → windows_in bytes ≡ windows → FirstOf bytes (window 0 bytes)
   by [] rise is these = subst (λ (l : List ℕ). FirstOf bytes (window 0 l)) (sym is) these
   by (w ∷ others) rise is these =
-      let behind : AreWindows (windows_octets others) = record { windows = others; rise = from_less 0 (suc w.number) others (omega arith) rise.2; is = refl } in
+      let trailing : AreWindows (windows_octets others) = record { windows = others; rise = from_less 0 (suc w.number) others (omega arith) rise.2; is = refl } in
       let read : window 0 bytes ≡ Some (w, windows_octets others) = ap (window 0) is ∙ window_read 0 w (windows_octets others) rise.0 rise.1 in
       subst (λ (r : Option (Window × List ℕ)). FirstOf bytes r) (sym read)
-      (these ∙ ap (λ (l : List Window). w ∷ l) (sym (windows_these (windows_octets others) behind)), is_this_bitmap (windows_octets others) behind)
+      (these ∙ ap (λ (l : List Window). w ∷ l) (sym (windows_these (windows_octets others) trailing)), is_this_bitmap (windows_octets others) trailing)
 
 pub no_windows : (is_bitmap [] ≡ true) × (windows_in [] ≡ [])
 unfolding is_bitmap windows_of windows_within windows_in

@@ -2,13 +2,13 @@
 -- type 256 * w + 8 * i + j.
 use Rattle.std.specs.Prelude.{◌≡◌, ℕ, suc, ◌+◌, ◌-◌, ◌*◌, ◌/◌, ◌%◌, List, [], ◌∷◌, ◌++◌, drop, slice_index, Contains, Option, Some, None, ◌==◌, if◌then◌else◌}
 use Rattle.std.specs.Int.{bit_at}
-use Rattle.dns_record.specs.Windows.{Window, windows_of}
+use Rattle.dns_record.specs.TypeBitMaps.{Window, windows_of}
 
 -- the bits of an octet, the top bit first
 abbrev pub octet_bits : ℕ → List ℕ
 octet_bits b = b / 128 % 2 ∷ b / 64 % 2 ∷ b / 32 % 2 ∷ b / 16 % 2 ∷ b / 8 % 2 ∷ b / 4 % 2 ∷ b / 2 % 2 ∷ b % 2 ∷ []
 
--- the bits of octets, one octet behind another
+-- the bits of octets, one octet after another
 unfoldable pub bits_of : List ℕ → List ℕ
 bits_of [] = []
 bits_of (octet ∷ octets) = octet_bits octet ++ bits_of octets
@@ -26,7 +26,7 @@ window_types window = set_from (256 * window.number) (bits_of window.bits)
 abbrev pub types_from : ℕ → List ℕ → ℕ → List ℕ
 types_from number bits place = set_from (256 * number + place) (drop place (bits_of bits))
 
--- the types of windows, one behind another
+-- the types of windows, one after another
 unfoldable pub windows_types : List Window → List ℕ
 windows_types [] = []
 windows_types (window ∷ windows) = window_types window ++ windows_types windows
@@ -46,7 +46,7 @@ types_in bytes = windows_types (windows_in bytes)
 -- ---- in other words
 
 -- the window is that of the type, and the type's bit in it is 1: that of octet (type % 256) / 8 at place type % 8 from the
--- top; behind the octets of the window are bits that are 0
+-- top; after the octets of the window are bits that are 0
 pub record Marks (window : Window) (type : ℕ) : Type 0 where
   pub number : window.number ≡ type / 256
   pub bit : bit_at (slice_index window.bits (type % 256 / 8)) (7 - type % 8) ≡ 1

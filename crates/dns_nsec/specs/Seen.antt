@@ -1,5 +1,5 @@
 -- What is seen of a window.
-use Rattle.dns_record.specs.Windows.{Window}
+use Rattle.dns_record.specs.TypeBitMaps.{Window}
 use Rattle.dns_nsec.specs.declared.window.Window.{Window as WindowView}
 
 -- its number and its octets of bits

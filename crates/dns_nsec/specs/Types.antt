@@ -3,7 +3,7 @@ use Rattle.std.specs.Prelude.{List, [], ◌∷◌, ◌++◌}
 use Rattle.std.specs.Int.{w16}
 use Rattle.dns_wire.specs.Names.{name_labels}
 use Rattle.dns_record.specs.Fields.{Field}
-use Rattle.dns_record.specs.Fields.FieldOf.{Bare, Raw, Sized, Byte, Number}
+use Rattle.dns_record.specs.Fields.FieldOf.{Uncompressed, Raw, Sized, Byte, Number}
 use Rattle.dns_nsec.specs.Flags.{nsec3_flag_bits}
 use Rattle.dns_nsec.specs.declared.hash_parameters.HashParameters.{HashParameters}
 use Rattle.dns_nsec.specs.declared.nsec.Nsec.{Nsec}
@@ -11,7 +11,7 @@ use Rattle.dns_nsec.specs.declared.nsec3.Nsec3.{Nsec3}
 use Rattle.dns_nsec.specs.declared.nsec3param.Nsec3Param.{Nsec3Param}
 
 abbrev pub nsec_fields : Nsec → List Field
-nsec_fields v = Bare (name_labels v.next.slice.now) ∷ Raw v.types.slice.now ∷ []
+nsec_fields v = Uncompressed (name_labels v.next.slice.now) ∷ Raw v.types.slice.now ∷ []
 
 -- what NSEC3 and NSEC3PARAM begin with
 abbrev pub parameter_fields : HashParameters → List Field

@@ -1,12 +1,12 @@
 //! Bitmaps of types.
 
-ghost use Rattle.dns_wire.specs.Left.{plain_ends};
-ghost use Rattle.dns_record.specs.Left.{bitmap_leaves};
+ghost use Rattle.dns_wire.specs.ReadingLemmas.{plain_ends};
+ghost use Rattle.dns_record.specs.DataLemmas.{bitmap_leaves};
 ghost use Rattle.std.specs.Prelude.{◌≡◌, ◌↔◌, ◌∷◌, IsTrue, Contains, ℕ, List, [], true, length, ◌≤◌, ◌<◌, IfSome, MatchOption, ⊤};
 ghost use Rattle.std.proofs.Props.{props};
 ghost use Rattle.dns_wire.specs.Reading.{plain_at};
 ghost use Rattle.dns_record.specs.InPlace.{WindowsFrom};
-ghost use Rattle.dns_record.specs.Windows.{is_bitmap, bitmap};
+ghost use Rattle.dns_record.specs.TypeBitMaps.{is_bitmap, bitmap};
 ghost use Rattle.dns_nsec.specs.Bitmaps.{IsMarked, types_in, windows_in};
 ghost use Rattle.dns_nsec.specs.Seen.{window_seen};
 
@@ -63,7 +63,7 @@ impl<'a> TypeBitmaps<'a> {
         has_no_type(self.slice)
     }
 
-    /// The first window, and the windows behind it; none where there is no window.
+    /// The first window, and the windows after it; none where there is no window.
     pub(crate) fn split_first(&self) -> Option<(Window<'a>, TypeBitmaps<'a>)>
         ensures windows { MatchOption result (windows_in self.now.slice.now ≡ [])
             (λ x. windows_in self.now.slice.now ≡ window_seen x.0 ∷ windows_in x.1.slice.now) }
@@ -104,11 +104,11 @@ impl<'a> ParseBytes<'a> for TypeBitmaps<'a> {
         let mut rest = bytes;
         let mut least = 0;
         while !rest.is_empty() {
-            let Ok((window, behind)) = Window::split(least, rest) else {
+            let Ok((window, trailing)) = Window::split(least, rest) else {
                 return Err(ParseError);
             };
             least = window.number as u16 + 1;
-            rest = behind;
+            rest = trailing;
         }
         Ok(TypeBitmaps { slice: bytes })
     }

@@ -1,9 +1,9 @@
 //! Flags of hashed owners.
 
-ghost use Rattle.dns_wire.specs.Left.{octet_leaves};
+ghost use Rattle.dns_wire.specs.ReadingLemmas.{octet_leaves};
 ghost use Rattle.std.specs.Prelude.{◌≡◌, ◌≢◌, ◌↔◌, ◌∷◌, if◌then◌else◌, ℕ, [], None, IsTrue, ⊤};
 ghost use Rattle.std.specs.Int.{bit_at};
-ghost use Rattle.dns_wire.specs.Pieces.{whole_presses};
+ghost use Rattle.dns_wire.specs.Layout.{octets_writes};
 ghost use Rattle.dns_wire.specs.Reading.{octet};
 ghost use Rattle.dns_nsec.specs.Flags.{nsec3_flag_bits};
 
@@ -38,9 +38,9 @@ impl Nsec3Flags {
         self.bits >> OPT_OUT & 1 == 1
     }
 
-    /// The flags with bit 0 as told. Every other bit stays.
+    /// The flags with bit 0 as given. Every other bit stays.
     pub fn set_optout(self, value: bool) -> Nsec3Flags
-        ensures told { bit_at (nsec3_flag_bits result) 0 ≡ (if value then 1 else 0) }
+        ensures set { bit_at (nsec3_flag_bits result) 0 ≡ (if value then 1 else 0) }
         ensures others { (i : ℕ) → i ≢ 0 → bit_at (nsec3_flag_bits result) i ≡ bit_at (nsec3_flag_bits self) i }
     {
         Nsec3Flags {
@@ -80,9 +80,9 @@ impl BuildBytes for Nsec3Flags {
 
 /// Whole, with no name in it.
 impl BuildInMessage for Nsec3Flags {
-    ghost presses = { λ v. whole_presses (nsec3_flag_bits v ∷ []) };
+    ghost writes = { λ v. octets_writes (nsec3_flag_bits v ∷ []) };
 
-    ghost told = { λ _. tt };
+    ghost layout_matches = { λ _. tt };
 
     fn build_in_message(
         &self,

@@ -4,8 +4,8 @@ ghost use Rattle.std.specs.Prelude.{◌≡◌, ◌≤◌, ◌<◌, ◌^◌, List
 ghost use Rattle.dns_wire.specs.Reading.{plain_at};
 ghost use Rattle.dns_record.specs.Fields.{Field, fields_octets};
 ghost use Rattle.dns_record.specs.Kinds.{fields_of, no_name};
-ghost use Rattle.dns_record.specs.Left.{bare_leave, bare_end};
-ghost use Rattle.dns_record.specs.Rows.{row};
+ghost use Rattle.dns_record.specs.DataLemmas.{uncompressed_leave, uncompressed_end};
+ghost use Rattle.dns_record.specs.Formats.{rdata_format};
 ghost use Rattle.dns_nsec.specs.Flags.{nsec3_flag_bits};
 ghost use Rattle.dns_nsec.specs.Types.{parameter_fields};
 
@@ -74,13 +74,13 @@ impl<'a> ParseBytes<'a> for HashParameters<'a> {
 
     ghost seen = { parameter_fields };
 
-    ghost reads = { fields_of no_name (row 51) };
+    ghost reads = { fields_of no_name (rdata_format 51) };
 
-    ghost reads_at = { plain_at (fields_of no_name (row 51)) };
+    ghost reads_at = { plain_at (fields_of no_name (rdata_format 51)) };
 
-    ghost leaves_rest = { bare_leave (row 51) };
+    ghost leaves_rest = { uncompressed_leave (rdata_format 51) };
 
-    ghost ends_within = { bare_end (row 51) };
+    ghost ends_within = { uncompressed_end (rdata_format 51) };
 
     fn parse_bytes(bytes: &'a [u8]) -> Result<HashParameters<'a>, ParseError> {
         whole(HashParameters::split_bytes(bytes))

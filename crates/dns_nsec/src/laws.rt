@@ -3,7 +3,7 @@
 ghost use Rattle.std.specs.Prelude.{◌≡◌, ◌<◌, ◌^◌, ◌↔◌, slice_index, Contains, ℕ, List, [], true};
 ghost use Rattle.std.specs.List.Sorted.{IsStrictlyIncreasing};
 ghost use Rattle.dns_wire.specs.Reading.{AreOctets};
-ghost use Rattle.dns_record.specs.Windows.{is_bitmap};
+ghost use Rattle.dns_record.specs.TypeBitMaps.{is_bitmap};
 ghost use Rattle.dns_nsec.specs.Bitmaps.{IsMarked, types_in};
 
 use crate::hash_algorithm::Nsec3HashAlgorithm;

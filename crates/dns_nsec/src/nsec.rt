@@ -5,14 +5,14 @@ ghost use Rattle.std.specs.Int.{w16};
 ghost use Rattle.dns_wire.specs.Building.{Builds};
 ghost use Rattle.dns_wire.specs.Compression.{FitsIn};
 ghost use Rattle.dns_wire.specs.InMessage.{BuildsIn};
-ghost use Rattle.dns_wire.specs.Pieces.{whole_presses};
+ghost use Rattle.dns_wire.specs.Layout.{octets_writes};
 ghost use Rattle.dns_wire.specs.Reading.{Gives, all_of, all_at, plain_at};
 ghost use Rattle.dns_record.specs.Canonical.{ranked_cmp};
 ghost use Rattle.dns_record.specs.Fields.{Field, fields_octets, canonical_octets};
 ghost use Rattle.dns_record.specs.Kinds.{fields_of, no_name};
-ghost use Rattle.dns_record.specs.Left.{bare_leave, bare_end};
-ghost use Rattle.dns_record.specs.Rows.{row};
-ghost use Rattle.dns_record.specs.Whole.{whole_pieces, told_whole};
+ghost use Rattle.dns_record.specs.DataLemmas.{uncompressed_leave, uncompressed_end};
+ghost use Rattle.dns_record.specs.Formats.{rdata_format};
+ghost use Rattle.dns_record.specs.Whole.{octets_layout, octets_match};
 ghost use Rattle.dns_record.proofs.Sizes.{canonical_long};
 ghost use Rattle.dns_nsec.specs.Types.{nsec_fields};
 
@@ -63,13 +63,13 @@ impl<'a> ParseBytes<'a> for Nsec<'a> {
 
     ghost seen = { nsec_fields };
 
-    ghost reads = { fields_of no_name (row 47) };
+    ghost reads = { fields_of no_name (rdata_format 47) };
 
-    ghost reads_at = { plain_at (fields_of no_name (row 47)) };
+    ghost reads_at = { plain_at (fields_of no_name (rdata_format 47)) };
 
-    ghost leaves_rest = { bare_leave (row 47) };
+    ghost leaves_rest = { uncompressed_leave (rdata_format 47) };
 
-    ghost ends_within = { bare_end (row 47) };
+    ghost ends_within = { uncompressed_end (rdata_format 47) };
 
     /// Data without a window are `ParseError`.
     fn parse_bytes(bytes: &'a [u8]) -> Result<Nsec<'a>, ParseError> {
@@ -110,13 +110,13 @@ impl BuildBytes for Nsec<'_> {
     }
 }
 
-/// Whole, a piece for each field.
+/// Uncompressed, with a part for each field.
 impl BuildInMessage for Nsec<'_> {
-    ghost presses = { λ v. whole_presses (fields_octets (nsec_fields v)) };
+    ghost writes = { λ v. octets_writes (fields_octets (nsec_fields v)) };
 
-    ghost pieces = { λ v. Some (whole_pieces (nsec_fields v)) };
+    ghost layout = { λ v. Some (octets_layout (nsec_fields v)) };
 
-    ghost told = { λ v. told_whole (nsec_fields v) };
+    ghost layout_matches = { λ v. octets_match (nsec_fields v) };
 
     fn build_in_message(
         &self,

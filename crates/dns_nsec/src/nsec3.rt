@@ -5,14 +5,14 @@ ghost use Rattle.std.specs.Int.{w16};
 ghost use Rattle.dns_wire.specs.Building.{Builds};
 ghost use Rattle.dns_wire.specs.Compression.{FitsIn};
 ghost use Rattle.dns_wire.specs.InMessage.{BuildsIn};
-ghost use Rattle.dns_wire.specs.Pieces.{whole_presses};
+ghost use Rattle.dns_wire.specs.Layout.{octets_writes};
 ghost use Rattle.dns_wire.specs.Reading.{Gives, all_of, all_at, plain_at};
 ghost use Rattle.dns_record.specs.Canonical.{ranked_cmp};
 ghost use Rattle.dns_record.specs.Fields.{Field, fields_octets, canonical_octets};
 ghost use Rattle.dns_record.specs.Kinds.{fields_of, no_name};
-ghost use Rattle.dns_record.specs.Left.{bare_leave, bare_end};
-ghost use Rattle.dns_record.specs.Rows.{row};
-ghost use Rattle.dns_record.specs.Whole.{whole_pieces, told_whole};
+ghost use Rattle.dns_record.specs.DataLemmas.{uncompressed_leave, uncompressed_end};
+ghost use Rattle.dns_record.specs.Formats.{rdata_format};
+ghost use Rattle.dns_record.specs.Whole.{octets_layout, octets_match};
 ghost use Rattle.dns_record.proofs.Sizes.{canonical_long};
 ghost use Rattle.dns_nsec.specs.Flags.{nsec3_flag_bits};
 ghost use Rattle.dns_nsec.specs.Hashed.{algorithm_of, flags_of, iterations_of, salt_of, next_owner_of, types_of};
@@ -117,13 +117,13 @@ impl<'a> ParseBytes<'a> for Nsec3<'a> {
 
     ghost seen = { nsec3_fields };
 
-    ghost reads = { fields_of no_name (row 50) };
+    ghost reads = { fields_of no_name (rdata_format 50) };
 
-    ghost reads_at = { plain_at (fields_of no_name (row 50)) };
+    ghost reads_at = { plain_at (fields_of no_name (rdata_format 50)) };
 
-    ghost leaves_rest = { bare_leave (row 50) };
+    ghost leaves_rest = { uncompressed_leave (rdata_format 50) };
 
-    ghost ends_within = { bare_end (row 50) };
+    ghost ends_within = { uncompressed_end (rdata_format 50) };
 
     fn parse_bytes(bytes: &'a [u8]) -> Result<Nsec3<'a>, ParseError> {
         let (parameters, rest) = HashParameters::split_bytes(bytes)?;
@@ -166,13 +166,13 @@ impl BuildBytes for Nsec3<'_> {
     }
 }
 
-/// Whole, a piece for each field.
+/// Uncompressed, with a part for each field.
 impl BuildInMessage for Nsec3<'_> {
-    ghost presses = { λ v. whole_presses (fields_octets (nsec3_fields v)) };
+    ghost writes = { λ v. octets_writes (fields_octets (nsec3_fields v)) };
 
-    ghost pieces = { λ v. Some (whole_pieces (nsec3_fields v)) };
+    ghost layout = { λ v. Some (octets_layout (nsec3_fields v)) };
 
-    ghost told = { λ v. told_whole (nsec3_fields v) };
+    ghost layout_matches = { λ v. octets_match (nsec3_fields v) };
 
     fn build_in_message(
         &self,

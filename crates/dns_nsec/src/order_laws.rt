@@ -10,6 +10,7 @@ ghost use Rattle.dns_record.specs.FieldOrder.{fields_eq, fields_writes};
 ghost use Rattle.dns_nsec.specs.Flags.{nsec3_flag_bits};
 ghost use Rattle.dns_nsec.specs.Types.{nsec_fields, nsec3_fields, nsec3param_fields};
 
+use crate::bitmaps::TypeBitmaps;
 use crate::flags::Nsec3Flags;
 use crate::hash_algorithm::Nsec3HashAlgorithm;
 use crate::nsec::Nsec;
@@ -25,7 +26,12 @@ pub fn data_are_equal_by_fields()
     ensures nsec3param { (a b : _) → ⟦<Nsec3Param<'static> as PartialEq>⟧.eq a b ≡ fields_eq (eq_by_cmp (on key key_cmp)) (eq_by_cmp (on key key_cmp)) (pointwise nat_eq) (nsec3param_fields a) (nsec3param_fields b) }
 {}
 
-/// Data feed a hasher their fields one after another, names in small letters.
+/// Type bit maps are equal octet by octet.
+pub fn bitmaps_are_equal_by_octets()
+    ensures { (a b : _) → ⟦<TypeBitmaps<'static> as PartialEq>⟧.eq a b ≡ pointwise nat_eq a.slice.now b.slice.now }
+{}
+
+/// Data feed a hasher their fields one after another, names in lowercase.
 pub fn data_are_hashed_by_fields()
     ensures nsec { (v : _) → ⟦<Nsec<'static> as Hash>⟧.hash_input v ≡ fields_writes name_writes name_writes (slice u8) (nsec_fields v) }
     ensures nsec3 { (v : _) → ⟦<Nsec3<'static> as Hash>⟧.hash_input v ≡ fields_writes name_writes name_writes (slice u8) (nsec3_fields v) }

@@ -1,15 +1,15 @@
 //! Octets that one octet can count.
 
-ghost use Rattle.dns_wire.specs.Left.{plain_ends};
-ghost use Rattle.dns_record.specs.Left.{text_leaves};
+ghost use Rattle.dns_wire.specs.ReadingLemmas.{plain_ends};
+ghost use Rattle.dns_record.specs.DataLemmas.{text_leaves};
 ghost use Rattle.std.specs.Prelude.{◌≡◌, ◌≤◌, ◌∷◌, ℕ, List, [], length, ⊤};
 ghost use Rattle.dns_wire.specs.Reading.{plain_at};
-ghost use Rattle.dns_record.specs.Texts.{text};
+ghost use Rattle.dns_record.specs.CharacterStrings.{character_string};
 
 use dns_num::SizePrefixed;
 use dns_wire::{BuildBytes, ParseBytes, ParseError, SplitBytes, TruncationError, put, whole};
 
-/// At most 255 octets. On the wire they stand behind an octet with their number (RFC 5155 section 3.2).
+/// At most 255 octets. On the wire they stand after an octet with their number (RFC 5155 section 3.2).
 #[derive(Clone, Copy, Debug, PartialEq, Eq, Hash)]
 pub(crate) struct ShortOctets<'a> {
     /// The octets, without their number.
@@ -18,7 +18,7 @@ pub(crate) struct ShortOctets<'a> {
 }
 
 impl<'a> ShortOctets<'a> {
-    /// The data that are to be written behind their number.
+    /// The data that are to be written after their number.
     pub fn new(prefixed: SizePrefixed<u8, &'a [u8]>) -> ShortOctets<'a>
         requires { length prefixed.now ≤ 255 }
         ensures { result.octets.now ≡ prefixed.entry.now }
@@ -28,14 +28,14 @@ impl<'a> ShortOctets<'a> {
         }
     }
 
-    /// The same as data behind their number.
+    /// The same as data after their number.
     pub fn prefixed(&self) -> SizePrefixed<u8, &'a [u8]>
         ensures { result.now ≡ self.now.octets.now }
     {
         SizePrefixed::new(self.octets)
     }
 
-    /// What is compared first and last: on the wire their number stands in front of them.
+    /// What is compared first and last: on the wire their number stands before them.
     pub fn order_key(&self) -> (usize, &'a [u8])
         ensures { result ≡ record { 0 = length self.now.octets.now; 1 = self.now.octets } }
     {
@@ -48,13 +48,13 @@ impl<'a> ParseBytes<'a> for ShortOctets<'a> {
 
     ghost seen = { λ v. v.octets.now };
 
-    ghost reads = { text };
+    ghost reads = { character_string };
 
-    ghost reads_at = { plain_at text };
+    ghost reads_at = { plain_at character_string };
 
     ghost leaves_rest = { text_leaves };
 
-    ghost ends_within = { plain_ends text text_leaves };
+    ghost ends_within = { plain_ends character_string text_leaves };
 
     fn parse_bytes(bytes: &'a [u8]) -> Result<ShortOctets<'a>, ParseError> {
         whole(ShortOctets::split_bytes(bytes))
@@ -63,14 +63,14 @@ impl<'a> ParseBytes<'a> for ShortOctets<'a> {
 
 impl<'a> SplitBytes<'a> for ShortOctets<'a> {
     fn split_bytes(bytes: &'a [u8]) -> Result<(ShortOctets<'a>, &'a [u8]), ParseError> {
-        let [size, behind @ ..] = bytes else {
+        let [size, trailing @ ..] = bytes else {
             return Err(ParseError);
         };
         let size = *size as usize;
-        if behind.len() < size {
+        if trailing.len() < size {
             return Err(ParseError);
         }
-        let (octets, rest) = behind.split_at(size);
+        let (octets, rest) = trailing.split_at(size);
         Ok((ShortOctets { octets }, rest))
     }
 }

@@ -61,8 +61,8 @@ impl<'a> Iterator for TypeIter<'a> {
                 self.rest = rest;
                 return Some(window.rtype(place));
             }
-            let (behind, later) = rest.split_first()?;
-            window = behind;
+            let (trailing, later) = rest.split_first()?;
+            window = trailing;
             from = 0;
             rest = later;
         }

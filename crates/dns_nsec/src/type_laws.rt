@@ -1,4 +1,4 @@
-//! The types of this crate by the one table: what is read and written for the number of each is what its row says.
+//! The types of this crate by the one table: what is read and written for the number of each is what its RDATA format says.
 
 ghost use Rattle.std.specs.Prelude.{◌≡◌, ℕ, List};
 ghost use Rattle.dns_wire.specs.Names.{plain_name};
@@ -12,7 +12,7 @@ use crate::nsec3::Nsec3;
 use crate::nsec3param::Nsec3Param;
 use dns_record::{CanonicalRecordData, ParseRecordDataBytes};
 
-/// Of all the octets, each type reads the fields of its number's row, and for any other number nothing (RFC 4034
+/// Of all the octets, each type reads the fields of its number's RDATA format, and for any other number nothing (RFC 4034
 /// section 4.1, RFC 5155 sections 3.2 and 4.2).
 pub fn types_are_read_by_number()
     ensures nsec { (rtype : ℕ) (bytes : List ℕ) → ⟦<Nsec<'static> as ParseRecordDataBytes<'static>>⟧.reads_as rtype bytes ≡ of_type 47 rtype (data_as plain_name 47 bytes) }

@@ -2,7 +2,7 @@
 
 ghost use Rattle.std.specs.Prelude.{◌≡◌, ◌≤◌, ◌<◌, ◌==◌, ◌+◌, ◌*◌, suc, ℕ, [], ◌∷◌, length, drop, slice_index, MatchOption, IfOk};
 ghost use Rattle.dns_wire.specs.Reading.{Gives};
-ghost use Rattle.dns_record.specs.Windows.{window};
+ghost use Rattle.dns_record.specs.TypeBitMaps.{window};
 ghost use Rattle.dns_nsec.specs.Bitmaps.{bits_of, types_from};
 ghost use Rattle.dns_nsec.specs.Seen.{window_seen};
 
@@ -14,7 +14,7 @@ use dns_wire::ParseError;
 pub(crate) struct Window<'a> {
     /// The number.
     pub number: u8,
-    /// The octets of bits. What is behind them is 0.
+    /// The octets of bits. What is after them is 0.
     pub bits: &'a [u8],
 }
 
@@ -29,21 +29,21 @@ impl<'a> Window<'a> {
         }
     }
 
-    /// Reads the window at the front, whose number is to be at least this one, and gives the octets behind it.
+    /// Reads the window at the start, whose number is to be at least this one, and gives the octets after it.
     pub fn split(least: u16, bytes: &'a [u8]) -> Result<(Window<'a>, &'a [u8]), ParseError>
         ensures exact { Gives (λ x. (window_seen x.0, x.1.now)) result (window least bytes.entry.now) }
         ensures few { IfOk result (λ x. length x.0.bits.now ≤ 32) }
         ensures shorter { IfOk result (λ x. length x.1.now < length bytes.entry.now) }
     {
-        let [number, size, behind @ ..] = bytes else {
+        let [number, size, trailing @ ..] = bytes else {
             return Err(ParseError);
         };
         let number = *number;
         let size = *size as usize;
-        if (number as u16) < least || size == 0 || size > 32 || behind.len() < size {
+        if (number as u16) < least || size == 0 || size > 32 || trailing.len() < size {
             return Err(ParseError);
         }
-        let (bits, rest) = behind.split_at(size);
+        let (bits, rest) = trailing.split_at(size);
         if bits[size - 1] == 0 {
             return Err(ParseError);
         }

@@ -1,7 +1,7 @@
 -- The crate's own lemmas.
-pub mod Counted
-pub mod Filled
+pub mod CountedData
+pub mod FilledPrefixes
 pub mod OneBit
-pub mod Prefixes
-pub mod Placed
-pub mod Slots
+pub mod SizePrefixes
+pub mod PrefixedAt
+pub mod OverwrittenOctets

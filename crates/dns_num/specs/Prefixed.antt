@@ -1,14 +1,14 @@
--- Data behind the number of their octets.
+-- Data after the number of their octets.
 use Rattle.std.specs.Prelude.{◌≡◌, ◌≤◌, ◌<◌, ◌^◌, ℕ, ◌+◌, List, ◌++◌, length, take, drop, Option, Some, None, nat_lt, if◌then◌else◌}
 use Rattle.std.specs.Int.{Width, byte_len, to_be_bytes}
 use Rattle.dns_wire.specs.Reading.{number, octets, all_of, all_at, plain_at}
 use Rattle.dns_wire.specs.Steps.{◌>>=◌}
 
--- these octets, behind their number
+-- these octets, after their number
 abbrev pub sized : Width → List ℕ → List ℕ
 sized w content = to_be_bytes w (length content) ++ content
 
--- what the grammar reads from exactly the octets that the number in front counts, and the octets behind them
+-- what the grammar reads from exactly the octets that the number before counts, and the octets after them
 unfoldable pub prefixed : {Y : Type 0} → Width → (List ℕ → Option (Y × List ℕ)) → List ℕ → Option (Y × List ℕ)
 prefixed w grammar bytes = do
   size ← number w bytes
@@ -18,7 +18,7 @@ prefixed w grammar bytes = do
 
 -- ---- at a place in the contents of a message
 
--- what the grammar reads from a place up to an end, behind which it sees nothing; none where that lies behind the contents
+-- what the grammar reads from a place up to an end, after which it sees nothing; none where that lies after the contents
 abbrev pub all_up_to : {Y : Type 0} → (List ℕ → ℕ → Option (Y × ℕ)) → List ℕ → ℕ → ℕ → Option Y
 all_up_to grammar contents start end =
     if nat_lt (length contents) end then None else all_at (take end contents) (grammar (take end contents) start)
@@ -32,8 +32,8 @@ prefixed_at w grammar contents start = do
 
 -- ---- in words
 
--- At a place stand so many octets as the number says that stands in front of them, up to the end, and the value is what the
--- grammar reads from just these, seeing nothing behind them.
+-- At a place stand that many octets as the number says that stands before them, up to the end, and the value is what the
+-- grammar reads from just these, seeing nothing after them.
 pub record PrefixedAt {Y : Type 0} (w : Width) (grammar : List ℕ → ℕ → Option (Y × ℕ)) (contents : List ℕ) (at : ℕ) (value : Y) (end : ℕ) : Type 0 where
   pub count : ℕ
   pub few : count < 256 ^ byte_len w

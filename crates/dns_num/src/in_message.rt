@@ -1,9 +1,9 @@
-//! Data in a message behind the number of their octets.
+//! Data in a message after the number of their octets.
 
 ghost use Rattle.std.specs.Prelude.{◌≡◌, ◌+◌, ◌<◌, ◌≤◌, ◌^◌, ◌++◌, length, take, drop, ⊤};
 ghost use Rattle.std.specs.Int.{byte_len, to_be_bytes};
 ghost use Rattle.dns_wire.specs.Building.{Builds};
-ghost use Rattle.dns_num.specs.InMessage.{zeros, sized_presses, sized_fits};
+ghost use Rattle.dns_num.specs.InMessage.{zeros, sized_compressed_writes, sized_fits};
 
 use crate::size_prefix::{SizePrefix, can_say};
 use crate::size_prefixed::SizePrefixed;
@@ -18,7 +18,7 @@ fn fill_size<S: SizePrefix>(size: usize, contents: &mut [u8], start: usize)
     S::write_size(size, &mut contents[start..]);
 }
 
-/// Writes zeros for a size that is not known yet, and gives the place behind them.
+/// Writes zeros for a size that is not known yet, and gives the place after them.
 fn put_zeros<S: SizePrefix>(contents: &mut [u8], start: usize) -> Result<usize, TruncationError>
     requires { start ≤ length contents.old }
     ensures { Builds ⊤ (zeros S.number_width) contents.old start contents.new result }
@@ -31,14 +31,14 @@ fn put_zeros<S: SizePrefix>(contents: &mut [u8], start: usize) -> Result<usize, 
     Ok(start + width)
 }
 
-/// The data are written behind zeros, and the number of their octets is written over these last. Data of more
+/// The data are written after zeros, and the number of their octets is written over these last. Data of more
 /// octets than the prefix can say are `TruncationError`.
 impl<S: SizePrefix, T: BuildInMessage> BuildInMessage for SizePrefixed<S, T> {
-    ghost presses = { λ v. sized_presses S.number_width (T.presses v) };
+    ghost writes = { λ v. sized_compressed_writes S.number_width (T.writes v) };
 
-    ghost fits_in = { λ v. sized_fits S.number_width (T.fits_in v) (T.presses v) };
+    ghost fits_in = { λ v. sized_fits S.number_width (T.fits_in v) (T.writes v) };
 
-    ghost told = { λ _. tt };
+    ghost layout_matches = { λ _. tt };
 
     fn build_in_message(
         &self,

@@ -8,7 +8,7 @@ ghost use Rattle.dns_num.specs.Prefixed.{sized, prefixed, prefixed_at, PrefixedA
 use crate::size_prefix::SizePrefix;
 use dns_wire::ParseBytes;
 
-/// Each octet of a number is worth 256 times as much as the one behind it (RFC 1035 section 2.3.2), and
+/// Each octet of a number is worth 256 times as much as the one after it (RFC 1035 section 2.3.2), and
 /// what is written is read back.
 pub fn wire_numbers()
     ensures two_octets { (a b : ℕ) (rest : List ℕ) → number w16 (a ∷ b ∷ rest) ≡ Some (a * 256 + b, rest) }
@@ -22,8 +22,8 @@ pub fn wire_numbers()
     ensures eight_back { (n : ℕ) (rest : List ℕ) → n < 2 ^ 64 → number w64 (to_be_bytes w64 n ++ rest) ≡ Some (n, rest) }
 {}
 
-/// Prefixed data are read exactly where they stand as they are written: the number of their octets in front, and
-/// behind it just these octets. In a message it is the same from the place on.
+/// Prefixed data are read exactly where they stand as they are written: the number of their octets before, and
+/// after it just these octets. In a message it is the same from the place on.
 pub fn prefixed_data<'a, S: SizePrefix, T: ParseBytes<'a>>()
     ensures read { (content rest : List ℕ) (value : T.Seen) → length content < 256 ^ byte_len S.number_width →
         all_of (T.reads content) ≡ Some value →

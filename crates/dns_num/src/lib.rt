@@ -1,4 +1,4 @@
-//! Numbers on the wire, the most significant octet first, and data behind their size.
+//! Numbers on the wire, the most significant octet first, and data after their size.
 #![tactic(auto)]
 
 mod bits;

@@ -5,8 +5,8 @@ ghost use Rattle.std.specs.Int.{w16, to_be_bytes};
 ghost use Rattle.std.specs.Fmt.{decimal};
 ghost use Rattle.std.specs.Ordering.{nat_cmp};
 ghost use Rattle.std.specs.Result.{OkIff};
-ghost use Rattle.dns_wire.specs.Pieces.{whole_presses};
-ghost use Rattle.dns_wire.specs.Left.{number_leaves};
+ghost use Rattle.dns_wire.specs.Layout.{octets_writes};
+ghost use Rattle.dns_wire.specs.ReadingLemmas.{number_leaves};
 ghost use Rattle.dns_wire.specs.Reading.{number};
 
 use dns_wire::{
@@ -61,7 +61,7 @@ impl U16 {
     }
 
     /// How it compares with another, by number, and that both fit their width, which nothing else tells of numbers
-    /// behind references.
+    /// after references.
     pub fn compare(&self, other: &U16) -> Ordering
         ensures order { result ≡ nat_cmp self.now.value other.now.value }
         ensures fits { (self.now.value < 2 ^ 16) × (other.now.value < 2 ^ 16) }
@@ -141,9 +141,9 @@ impl BuildBytes for U16 {
 
 /// Whole, with no name in it.
 impl BuildInMessage for U16 {
-    ghost presses = { λ v. whole_presses (to_be_bytes w16 v.value) };
+    ghost writes = { λ v. octets_writes (to_be_bytes w16 v.value) };
 
-    ghost told = { λ _. tt };
+    ghost layout_matches = { λ _. tt };
 
     fn build_in_message(
         &self,

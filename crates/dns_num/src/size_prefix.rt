@@ -75,7 +75,7 @@ pub(crate) fn can_say<S: SizePrefix>(size: usize) -> bool
     size >> (8 * S::width()) == 0
 }
 
-/// Reads the prefix, and gives the octets behind it. `ParseError` comes exactly where there are too few.
+/// Reads the prefix, and gives the octets after it. `ParseError` comes exactly where there are too few.
 pub(crate) fn split_size<S: SizePrefix>(bytes: &[u8]) -> Result<(usize, &[u8]), ParseError>
     ensures exact { Gives (λ x. (x.0, x.1.now)) result (number S.number_width bytes.now) }
     ensures within { IfOk result (λ x. length x.1.now ≤ length bytes.now) }

@@ -1,8 +1,8 @@
-//! Data behind the number of their octets.
+//! Data after the number of their octets.
 
 ghost use Rattle.std.specs.Prelude.{◌≡◌, ◌<◌, ◌^◌, length};
 ghost use Rattle.std.specs.Int.{byte_len};
-ghost use Rattle.dns_num.specs.Left.{prefixed_leaves, prefixed_ends};
+ghost use Rattle.dns_num.specs.PrefixedLemmas.{prefixed_leaves, prefixed_ends};
 ghost use Rattle.dns_num.specs.Prefixed.{sized, prefixed, prefixed_at};
 
 use crate::size_prefix::{SizePrefix, can_say, split_size};
@@ -12,7 +12,7 @@ use dns_wire::{
 };
 use std::marker::{Model, PhantomData};
 
-/// Data behind the number of their octets. The number is not kept, but counted where the data are written.
+/// Data after the number of their octets. The number is not kept, but counted where the data are written.
 #[derive(Clone, Copy, Debug, PartialEq, Eq, PartialOrd, Ord, Hash, Drop)]
 pub struct SizePrefixed<S, T> {
     content: T,
@@ -28,7 +28,7 @@ impl<S, T> Model for SizePrefixed<S, T> {
 }
 
 impl<S, T> SizePrefixed<S, T> {
-    /// The data, to be written behind the number of their octets.
+    /// The data, to be written after the number of their octets.
     pub fn new(inner: T) -> Self
         ensures { result ≡ inner }
     {
@@ -45,7 +45,7 @@ impl<S, T> SizePrefixed<S, T> {
         self.content
     }
 
-    /// The data, lent.
+    /// The data, borrowed.
     pub fn inner(&self) -> &T
         ensures { result.now ≡ self.now }
     {
@@ -53,7 +53,7 @@ impl<S, T> SizePrefixed<S, T> {
     }
 }
 
-/// The prefix, and then a value of exactly so many octets as it counts.
+/// The prefix, and then a value of exactly that many octets as it counts.
 impl<'a, S: SizePrefix, T: ParseBytes<'a>> ParseBytes<'a> for SizePrefixed<S, T> {
     ghost Seen = { T.Seen };
 

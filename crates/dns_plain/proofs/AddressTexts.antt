@@ -25,11 +25,11 @@ either_false false b e = (refl, e)
 either_false true b e = absurd (true≢false e)
 
 -- a text has no dot exactly where neither part has one
-parted : (front back : List ℕ) → has_dot (front ++ back) ≡ false → (has_dot front ≡ false) × (has_dot back ≡ false)
-parted front back e = either_false (has_dot front) (has_dot back) (sym (list_any-append (λ b. b == 46) front back) ∙ e)
+parted : (prefix back : List ℕ) → has_dot (prefix ++ back) ≡ false → (has_dot prefix ≡ false) × (has_dot back ≡ false)
+parted prefix back e = either_false (has_dot prefix) (has_dot back) (sym (list_any-append (λ b. b == 46) prefix back) ∙ e)
 
-joined : (front back : List ℕ) → has_dot front ≡ false → has_dot back ≡ false → has_dot (front ++ back) ≡ false
-joined front back first second = list_any-append (λ b. b == 46) front back ∙ ap (λ b. b || has_dot back) first ∙ second
+joined : (prefix back : List ℕ) → has_dot prefix ≡ false → has_dot back ≡ false → has_dot (prefix ++ back) ≡ false
+joined prefix back first second = list_any-append (λ b. b == 46) prefix back ∙ ap (λ b. b || has_dot back) first ∙ second
 
 -- hexadecimal digits are no dots
 digits_undotted : (digits : List ℕ) → AllDigits 16 digits → has_dot digits ≡ false
@@ -69,12 +69,12 @@ weaker lead text (g ∷ groups) (inr h) = absurd (true≢false (sym h.2))
 pub as_colon_hex : (text groups : List ℕ) → IsHexText text groups → IsColonHex text groups
 as_colon_hex text groups (inl h) = inl (weaker [] text groups h.0, h.1)
 as_colon_hex text groups (inr h) = inr (record {
-  head_text = h.front_text;
+  head_text = h.prefix_text;
   tail_text = h.back_text;
-  head = h.front;
+  head = h.prefix;
   tail = h.back;
   spelled = h.spelled;
-  head_groups = h.front_groups;
+  head_groups = h.prefix_groups;
   tail_groups = weaker [] h.back_text h.back h.back_groups;
   room = h.few;
   value = h.value;
@@ -83,22 +83,22 @@ as_colon_hex text groups (inr h) = inr (record {
 pub hex_undotted : (text groups : List ℕ) → IsHexText text groups → has_dot text ≡ false
 hex_undotted text groups (inl h) = groups_undotted [] text groups refl h.0
 hex_undotted text groups (inr h) =
-    let front = joined h.front_text (codes "::") (groups_undotted [] h.front_text h.front refl h.front_groups) refl in
-    ap has_dot h.spelled ∙ joined (h.front_text ++ codes "::") h.back_text front (groups_undotted [] h.back_text h.back refl h.back_groups)
+    let prefix = joined h.prefix_text (codes "::") (groups_undotted [] h.prefix_text h.prefix refl h.prefix_groups) refl in
+    ap has_dot h.spelled ∙ joined (h.prefix_text ++ codes "::") h.back_text prefix (groups_undotted [] h.back_text h.back refl h.back_groups)
 
 -- and std's without dots are read here
 pub as_hex_text : (text groups : List ℕ) → has_dot text ≡ false → IsColonHex text groups → IsHexText text groups
 as_hex_text text groups none (inl h) = inl (without_dots [] text groups none h.0, h.1)
 as_hex_text text groups none (inr h) =
-    let behind = parted (h.head_text ++ codes "::") h.tail_text (sym (ap has_dot h.spelled) ∙ none) in
+    let trailing = parted (h.head_text ++ codes "::") h.tail_text (sym (ap has_dot h.spelled) ∙ none) in
     inr (record {
-      front_text = h.head_text;
+      prefix_text = h.head_text;
       back_text = h.tail_text;
-      front = h.head;
+      prefix = h.head;
       back = h.tail;
       spelled = h.spelled;
-      front_groups = h.head_groups;
-      back_groups = without_dots [] h.tail_text h.tail behind.1 h.tail_groups;
+      prefix_groups = h.head_groups;
+      back_groups = without_dots [] h.tail_text h.tail trailing.1 h.tail_groups;
       few = h.room;
       value = h.value;
     })

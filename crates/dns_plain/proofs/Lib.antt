@@ -1,3 +1,3 @@
 -- The crate's own lemmas.
 mod AddressTexts
-pub mod Strings
+pub mod TxtLemmas

@@ -22,15 +22,15 @@ ipv4_text v = Net.ipv4_text v.octets
 -- Groups of one to four hexadecimal digits with colons between them before and after `::`, at most seven in all. It stands for
 -- the groups of zero that are missing.
 pub record IsShortened (text groups : List ℕ) : Type 0 where
-  pub front_text : List ℕ
+  pub prefix_text : List ℕ
   pub back_text : List ℕ
-  pub front : List ℕ
+  pub prefix : List ℕ
   pub back : List ℕ
-  pub spelled : text ≡ front_text ++ codes "::" ++ back_text
-  pub front_groups : IsGroups false front_text front
+  pub spelled : text ≡ prefix_text ++ codes "::" ++ back_text
+  pub prefix_groups : IsGroups false prefix_text prefix
   pub back_groups : IsGroups false back_text back
-  pub few : length front + length back < 8
-  pub value : groups ≡ front ++ replicate (8 - length front - length back) 0 ++ back
+  pub few : length prefix + length back < 8
+  pub value : groups ≡ prefix ++ replicate (8 - length prefix - length back) 0 ++ back
 
 -- all eight groups, or those around `::`
 abbrev pub IsHexText : List ℕ → List ℕ → Type 0
@@ -40,7 +40,7 @@ IsHexText text groups = (IsGroups false text groups × (length groups ≡ 8)) �
 abbrev pub SpellsIpv6 : List ℕ → Aaaa → Type 0
 SpellsIpv6 text v = IsHexText text (segments_of v.octets)
 
--- Hexadecimal digits in small letters, with no zero in front of a group. Where two groups of zero or more stand together, `::` stands
+-- Hexadecimal digits in lowercase, with no zero before a group. Where two groups of zero or more stand together, `::` stands
 -- for the longest such run, and for the first of those as long.
 abbrev pub ipv6_text : Aaaa → List ℕ
 ipv6_text v = Net.hex_groups_text (segments_of v.octets)

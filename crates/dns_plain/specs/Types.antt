@@ -4,7 +4,7 @@ use Rattle.std.specs.Int.{w16}
 use Rattle.dns_wire.specs.Names.{name_labels}
 use Rattle.dns_record.specs.CharStrs.{octets_of}
 use Rattle.dns_record.specs.Fields.{Field}
-use Rattle.dns_record.specs.Fields.FieldOf.{Bare, Raw, Sized, Number}
+use Rattle.dns_record.specs.Fields.FieldOf.{Uncompressed, Raw, Sized, Number}
 use Rattle.dns_plain.specs.declared.a.A.{A}
 use Rattle.dns_plain.specs.declared.hinfo.HInfo.{HInfo}
 use Rattle.dns_plain.specs.declared.srv.Srv.{Srv}
@@ -22,10 +22,10 @@ abbrev pub txt_fields : List ℕ → List Field
 txt_fields octets = Raw octets ∷ []
 
 abbrev pub srv_fields : Srv → List Field
-srv_fields v = Number w16 v.priority.value ∷ Number w16 v.weight.value ∷ Number w16 v.port.value ∷ Bare (name_labels v.name.slice.now) ∷ []
+srv_fields v = Number w16 v.priority.value ∷ Number w16 v.weight.value ∷ Number w16 v.port.value ∷ Uncompressed (name_labels v.name.slice.now) ∷ []
 
 abbrev pub aaaa_fields : Aaaa → List Field
 aaaa_fields v = Raw v.octets ∷ []
 
 abbrev pub dname_fields : DName → List Field
-dname_fields v = Bare (name_labels v.name.slice.now) ∷ []
+dname_fields v = Uncompressed (name_labels v.name.slice.now) ∷ []

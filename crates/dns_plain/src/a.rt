@@ -7,15 +7,15 @@ ghost use Rattle.std.proofs.lemmas.List.{append-nil};
 ghost use Rattle.dns_wire.specs.Building.{Builds};
 ghost use Rattle.dns_wire.specs.Compression.{FitsIn};
 ghost use Rattle.dns_wire.specs.InMessage.{BuildsIn};
-ghost use Rattle.dns_wire.specs.Pieces.{whole_presses};
-ghost use Rattle.dns_wire.specs.Pieces.Piece.{Whole};
-ghost use Rattle.dns_wire.specs.Told.{told_piece};
+ghost use Rattle.dns_wire.specs.Layout.{octets_writes};
+ghost use Rattle.dns_wire.specs.Layout.LayoutPart.{OctetsPart};
+ghost use Rattle.dns_wire.specs.LayoutLemmas.{part_matches};
 ghost use Rattle.dns_wire.specs.Reading.{Gives, all_of, all_at};
 ghost use Rattle.dns_record.specs.Canonical.{ranked_cmp};
 ghost use Rattle.dns_record.specs.Fields.{Field, canonical_octets};
 ghost use Rattle.dns_record.specs.Kinds.{fields_of, no_name};
-ghost use Rattle.dns_record.specs.Left.{bare_leave};
-ghost use Rattle.dns_record.specs.Rows.{row};
+ghost use Rattle.dns_record.specs.DataLemmas.{uncompressed_leave};
+ghost use Rattle.dns_record.specs.Formats.{rdata_format};
 ghost use Rattle.dns_record.proofs.Sizes.{canonical_long};
 ghost use Rattle.dns_plain.specs.AddressTexts.{SpellsIpv4, ipv4_text};
 ghost use Rattle.dns_plain.specs.Types.{a_fields};
@@ -32,6 +32,10 @@ use std::net::Ipv4Addr;
 use std::str::FromStr;
 
 /// An address of IPv4 (RFC 1035 section 3.4.1).
+///
+/// ```
+/// println!(rt; "{}", A::from_str("192.0.2.80")?)?; // 192.0.2.80
+/// ```
 #[derive(Clone, Copy, Debug, PartialEq, Eq, PartialOrd, Ord, Hash)]
 pub struct A {
     /// The four octets of the address, as they are written.
@@ -66,9 +70,9 @@ impl<'a> ReadPlainValue<'a> for A {
 
     ghost seen = { a_fields };
 
-    ghost reads = { fields_of no_name (row 1) };
+    ghost reads = { fields_of no_name (rdata_format 1) };
 
-    ghost leaves_rest = { bare_leave (row 1) };
+    ghost leaves_rest = { uncompressed_leave (rdata_format 1) };
 
     fn read_plain(bytes: &'a [u8]) -> Result<(A, &'a [u8]), ParseError> {
         let (octets, rest) = <[u8; 4]>::split_bytes(bytes)?;
@@ -100,13 +104,13 @@ impl BuildBytes for A {
     }
 }
 
-/// Whole, a piece for each field.
+/// Uncompressed, with a part for each field.
 impl BuildInMessage for A {
-    ghost presses = { λ v. whole_presses v.octets };
+    ghost writes = { λ v. octets_writes v.octets };
 
-    ghost pieces = { λ v. Some (Whole v.octets ∷ []) };
+    ghost layout = { λ v. Some (OctetsPart v.octets ∷ []) };
 
-    ghost told = { λ v. told_piece (Whole v.octets) };
+    ghost layout_matches = { λ v. part_matches (OctetsPart v.octets) };
 
     fn build_in_message(
         &self,

@@ -7,15 +7,15 @@ ghost use Rattle.std.proofs.lemmas.List.{append-nil};
 ghost use Rattle.dns_wire.specs.Building.{Builds};
 ghost use Rattle.dns_wire.specs.Compression.{FitsIn};
 ghost use Rattle.dns_wire.specs.InMessage.{BuildsIn};
-ghost use Rattle.dns_wire.specs.Pieces.{whole_presses};
-ghost use Rattle.dns_wire.specs.Pieces.Piece.{Whole};
-ghost use Rattle.dns_wire.specs.Told.{told_piece};
+ghost use Rattle.dns_wire.specs.Layout.{octets_writes};
+ghost use Rattle.dns_wire.specs.Layout.LayoutPart.{OctetsPart};
+ghost use Rattle.dns_wire.specs.LayoutLemmas.{part_matches};
 ghost use Rattle.dns_wire.specs.Reading.{Gives, all_of, all_at};
 ghost use Rattle.dns_record.specs.Canonical.{ranked_cmp};
 ghost use Rattle.dns_record.specs.Fields.{Field, canonical_octets};
 ghost use Rattle.dns_record.specs.Kinds.{fields_of, no_name};
-ghost use Rattle.dns_record.specs.Left.{bare_leave};
-ghost use Rattle.dns_record.specs.Rows.{row};
+ghost use Rattle.dns_record.specs.DataLemmas.{uncompressed_leave};
+ghost use Rattle.dns_record.specs.Formats.{rdata_format};
 ghost use Rattle.dns_record.proofs.Sizes.{canonical_long};
 ghost use Rattle.dns_plain.specs.AddressTexts.{SpellsIpv6, ipv6_text};
 ghost use Rattle.dns_plain.specs.Types.{aaaa_fields};
@@ -32,6 +32,10 @@ use std::net::Ipv6Addr;
 use std::str::FromStr;
 
 /// An address of IPv6 (RFC 3596 section 2.2).
+///
+/// ```
+/// println!(rt; "{}", Aaaa::from_str("2001:DB8:0:0::0001")?)?; // 2001:db8::1
+/// ```
 #[derive(Clone, Copy, Debug, PartialEq, Eq, PartialOrd, Ord, Hash)]
 pub struct Aaaa {
     /// The sixteen octets of the address, as they are written.
@@ -70,9 +74,9 @@ impl<'a> ReadPlainValue<'a> for Aaaa {
 
     ghost seen = { aaaa_fields };
 
-    ghost reads = { fields_of no_name (row 28) };
+    ghost reads = { fields_of no_name (rdata_format 28) };
 
-    ghost leaves_rest = { bare_leave (row 28) };
+    ghost leaves_rest = { uncompressed_leave (rdata_format 28) };
 
     fn read_plain(bytes: &'a [u8]) -> Result<(Aaaa, &'a [u8]), ParseError> {
         let (octets, rest) = <[u8; 16]>::split_bytes(bytes)?;
@@ -104,13 +108,13 @@ impl BuildBytes for Aaaa {
     }
 }
 
-/// Whole, a piece for each field.
+/// Uncompressed, with a part for each field.
 impl BuildInMessage for Aaaa {
-    ghost presses = { λ v. whole_presses v.octets };
+    ghost writes = { λ v. octets_writes v.octets };
 
-    ghost pieces = { λ v. Some (Whole v.octets ∷ []) };
+    ghost layout = { λ v. Some (OctetsPart v.octets ∷ []) };
 
-    ghost told = { λ v. told_piece (Whole v.octets) };
+    ghost layout_matches = { λ v. part_matches (OctetsPart v.octets) };
 
     fn build_in_message(
         &self,
@@ -139,7 +143,7 @@ impl CanonicalRecordData for Aaaa {
 impl fmt::Display for Aaaa {
     ghost output = { λ v. Some (ipv6_text v) };
 
-    /// Hexadecimal digits in small letters, with no zero in front of a group. `::` stands for the longest run of two
+    /// Hexadecimal digits in lowercase, with no zero before a group. `::` stands for the longest run of two
     /// groups of zero or more, and for the first of those as long (RFC 5952 section 4).
     fn fmt<W: fmt::Write>(&self, f: &mut fmt::Formatter<W>) -> fmt::Result {
         fmt::Display::fmt(&Ipv6Addr::from(self.octets).hex_groups(), f)

@@ -6,15 +6,15 @@ ghost use Rattle.std.specs.Cmp.Lexicographic.{slice_cmp};
 ghost use Rattle.dns_wire.specs.Building.{Builds};
 ghost use Rattle.dns_wire.specs.Compression.{FitsIn};
 ghost use Rattle.dns_wire.specs.InMessage.{BuildsIn};
-ghost use Rattle.dns_wire.specs.Pieces.{whole_presses};
+ghost use Rattle.dns_wire.specs.Layout.{octets_writes};
 ghost use Rattle.dns_wire.specs.Reading.{Gives, all_of, all_at};
 ghost use Rattle.dns_record.specs.Canonical.{ranked_cmp};
 ghost use Rattle.dns_record.specs.CharStrs.{octets_of};
 ghost use Rattle.dns_record.specs.Fields.{Field, fields_octets, canonical_octets};
 ghost use Rattle.dns_record.specs.Kinds.{fields_of, no_name};
-ghost use Rattle.dns_record.specs.Left.{bare_leave};
-ghost use Rattle.dns_record.specs.Rows.{row};
-ghost use Rattle.dns_record.specs.Whole.{whole_pieces, told_whole};
+ghost use Rattle.dns_record.specs.DataLemmas.{uncompressed_leave};
+ghost use Rattle.dns_record.specs.Formats.{rdata_format};
+ghost use Rattle.dns_record.specs.Whole.{octets_layout, octets_match};
 ghost use Rattle.dns_record.proofs.Sizes.{canonical_long};
 ghost use Rattle.dns_plain.specs.Types.{hinfo_fields};
 
@@ -39,9 +39,9 @@ impl<'a> ReadPlainValue<'a> for HInfo<'a> {
 
     ghost seen = { hinfo_fields };
 
-    ghost reads = { fields_of no_name (row 13) };
+    ghost reads = { fields_of no_name (rdata_format 13) };
 
-    ghost leaves_rest = { bare_leave (row 13) };
+    ghost leaves_rest = { uncompressed_leave (rdata_format 13) };
 
     fn read_plain(bytes: &'a [u8]) -> Result<(HInfo<'a>, &'a [u8]), ParseError> {
         let (cpu, rest) = CharStr::split_bytes(bytes)?;
@@ -77,13 +77,13 @@ impl BuildBytes for HInfo<'_> {
     }
 }
 
-/// Whole, a piece for each field.
+/// Uncompressed, with a part for each field.
 impl BuildInMessage for HInfo<'_> {
-    ghost presses = { λ v. whole_presses (fields_octets (hinfo_fields v)) };
+    ghost writes = { λ v. octets_writes (fields_octets (hinfo_fields v)) };
 
-    ghost pieces = { λ v. Some (whole_pieces (hinfo_fields v)) };
+    ghost layout = { λ v. Some (octets_layout (hinfo_fields v)) };
 
-    ghost told = { λ v. told_whole (hinfo_fields v) };
+    ghost layout_matches = { λ v. octets_match (hinfo_fields v) };
 
     fn build_in_message(
         &self,

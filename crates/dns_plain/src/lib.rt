@@ -20,7 +20,7 @@ pub use addr_error::AddrParseError;
 pub use address_laws::{runs_of_zero, texts_of_addresses};
 pub use dname::DName;
 pub use hinfo::HInfo;
-pub use laws::strings_of_texts;
+pub use laws::strings_of_character_strings;
 pub use order_laws::{
     data_are_equal_by_fields, data_are_hashed_by_fields, data_are_ordered_by_fields,
 };

@@ -39,7 +39,7 @@ pub fn data_are_equal_by_fields()
     ensures txt { (a b : _) → ⟦<Txt<'static> as PartialEq>⟧.eq a b ≡ fields_eq (eq_by_cmp (on key key_cmp)) (eq_by_cmp (on key key_cmp)) same_charstr (map Sized (strings_in a.slice.now)) (map Sized (strings_in b.slice.now)) }
 {}
 
-/// Data feed a hasher their fields one after another, names and strings in small letters.
+/// Data feed a hasher their fields one after another, names and strings in lowercase.
 pub fn data_are_hashed_by_fields()
     ensures a { (v : _) → ⟦<A as Hash>⟧.hash_input v ≡ fields_writes name_writes name_writes charstr_writes (a_fields v) }
     ensures hinfo { (v : _) → ⟦<HInfo<'static> as Hash>⟧.hash_input v ≡ fields_writes name_writes name_writes charstr_writes (hinfo_fields v) }

@@ -5,14 +5,14 @@ ghost use Rattle.std.specs.Int.{w16};
 ghost use Rattle.dns_wire.specs.Building.{Builds};
 ghost use Rattle.dns_wire.specs.Compression.{FitsIn};
 ghost use Rattle.dns_wire.specs.InMessage.{BuildsIn};
-ghost use Rattle.dns_wire.specs.Pieces.{whole_presses};
+ghost use Rattle.dns_wire.specs.Layout.{octets_writes};
 ghost use Rattle.dns_wire.specs.Reading.{Gives, all_of, all_at};
 ghost use Rattle.dns_record.specs.Canonical.{ranked_cmp};
 ghost use Rattle.dns_record.specs.Fields.{Field, fields_octets, canonical_octets};
 ghost use Rattle.dns_record.specs.Kinds.{fields_of, no_name};
-ghost use Rattle.dns_record.specs.Left.{bare_leave};
-ghost use Rattle.dns_record.specs.Rows.{row};
-ghost use Rattle.dns_record.specs.Whole.{whole_pieces, told_whole};
+ghost use Rattle.dns_record.specs.DataLemmas.{uncompressed_leave};
+ghost use Rattle.dns_record.specs.Formats.{rdata_format};
+ghost use Rattle.dns_record.specs.Whole.{octets_layout, octets_match};
 ghost use Rattle.dns_record.proofs.Sizes.{canonical_long};
 ghost use Rattle.dns_plain.specs.Types.{srv_fields};
 
@@ -43,9 +43,9 @@ impl<'a> ReadPlainValue<'a> for Srv<'a> {
 
     ghost seen = { srv_fields };
 
-    ghost reads = { fields_of no_name (row 33) };
+    ghost reads = { fields_of no_name (rdata_format 33) };
 
-    ghost leaves_rest = { bare_leave (row 33) };
+    ghost leaves_rest = { uncompressed_leave (rdata_format 33) };
 
     fn read_plain(bytes: &'a [u8]) -> Result<(Srv<'a>, &'a [u8]), ParseError> {
         let (priority, rest) = U16::split_bytes(bytes)?;
@@ -95,13 +95,13 @@ impl BuildBytes for Srv<'_> {
     }
 }
 
-/// Whole, a piece for each field.
+/// Uncompressed, with a part for each field.
 impl BuildInMessage for Srv<'_> {
-    ghost presses = { λ v. whole_presses (fields_octets (srv_fields v)) };
+    ghost writes = { λ v. octets_writes (fields_octets (srv_fields v)) };
 
-    ghost pieces = { λ v. Some (whole_pieces (srv_fields v)) };
+    ghost layout = { λ v. Some (octets_layout (srv_fields v)) };
 
-    ghost told = { λ v. told_whole (srv_fields v) };
+    ghost layout_matches = { λ v. octets_match (srv_fields v) };
 
     fn build_in_message(
         &self,

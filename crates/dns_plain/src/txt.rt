@@ -11,17 +11,17 @@ ghost use Rattle.std.proofs.lemmas.List.{append-nil};
 ghost use Rattle.dns_wire.specs.Building.{Builds};
 ghost use Rattle.dns_wire.specs.Compression.{FitsIn};
 ghost use Rattle.dns_wire.specs.InMessage.{BuildsIn};
-ghost use Rattle.dns_wire.specs.Pieces.{whole_presses};
-ghost use Rattle.dns_wire.specs.Pieces.Piece.{Whole};
-ghost use Rattle.dns_wire.specs.Told.{told_piece};
+ghost use Rattle.dns_wire.specs.Layout.{octets_writes};
+ghost use Rattle.dns_wire.specs.Layout.LayoutPart.{OctetsPart};
+ghost use Rattle.dns_wire.specs.LayoutLemmas.{part_matches};
 ghost use Rattle.dns_wire.specs.Reading.{Gives, all_of, all_at, plain_at};
 ghost use Rattle.dns_record.specs.Canonical.{ranked_cmp};
 ghost use Rattle.dns_record.specs.CharStrs.{same_charstr};
 ghost use Rattle.dns_record.specs.Fields.{Field, canonical_octets};
 ghost use Rattle.dns_record.specs.Kinds.{fields_of, no_name};
-ghost use Rattle.dns_record.specs.Left.{bare_leave, bare_end};
-ghost use Rattle.dns_record.specs.Rows.{row};
-ghost use Rattle.dns_record.specs.Texts.{is_text_data, texts_octets};
+ghost use Rattle.dns_record.specs.DataLemmas.{uncompressed_leave, uncompressed_end};
+ghost use Rattle.dns_record.specs.Formats.{rdata_format};
+ghost use Rattle.dns_record.specs.CharacterStrings.{is_text_data, character_strings_octets};
 ghost use Rattle.dns_record.proofs.Sizes.{canonical_long};
 ghost use Rattle.dns_plain.specs.Strings.{strings_in, same_strings, strings_writes, same_strings_alike};
 ghost use Rattle.dns_plain.specs.Types.{txt_fields};
@@ -38,7 +38,7 @@ use std::hash::{Hash, Hasher};
 /// Texts: one character string or more, of at most 65,535 octets in all (RFC 1035 section 3.3.14).
 #[derive(Clone, Copy, Debug)]
 pub struct Txt<'a> {
-    /// The strings one after another, each behind its length octet.
+    /// The strings one after another, each after its length octet.
     pub slice: &'a [u8],
     ghost is_txt: { is_text_data slice.now ≡ true } by { Prim.hlevel props },
 }
@@ -47,7 +47,7 @@ impl<'a> Txt<'a> {
     /// Goes over the strings in order, from 1 to 65,535.
     pub fn iter(&self) -> TxtIter<'a>
         ensures strings { result ≡ strings_in self.now.slice.now }
-        ensures whole { texts_octets result ≡ self.now.slice.now }
+        ensures whole { character_strings_octets result ≡ self.now.slice.now }
         ensures few { length result ≤ 65535 }
     {
         TxtIter::new(self.slice)
@@ -61,7 +61,7 @@ impl AsBytes for Txt<'_> {
 }
 
 /// Whether the octets are one string or more, and at most 65,535.
-fn are_texts(bytes: &[u8]) -> bool
+fn are_character_strings(bytes: &[u8]) -> bool
     ensures { result ≡ is_text_data bytes.now }
 {
     if bytes.is_empty() || bytes.len() > 65_535 {
@@ -69,10 +69,10 @@ fn are_texts(bytes: &[u8]) -> bool
     }
     let mut rest = bytes;
     while !rest.is_empty() {
-        let Ok((_string, behind)) = CharStr::split_bytes(rest) else {
+        let Ok((_string, trailing)) = CharStr::split_bytes(rest) else {
             return false;
         };
-        rest = behind;
+        rest = trailing;
     }
     true
 }
@@ -83,16 +83,16 @@ impl<'a> ParseBytes<'a> for Txt<'a> {
 
     ghost seen = { λ v. txt_fields v.slice.now };
 
-    ghost reads = { fields_of no_name (row 16) };
+    ghost reads = { fields_of no_name (rdata_format 16) };
 
-    ghost reads_at = { plain_at (fields_of no_name (row 16)) };
+    ghost reads_at = { plain_at (fields_of no_name (rdata_format 16)) };
 
-    ghost leaves_rest = { bare_leave (row 16) };
+    ghost leaves_rest = { uncompressed_leave (rdata_format 16) };
 
-    ghost ends_within = { bare_end (row 16) };
+    ghost ends_within = { uncompressed_end (rdata_format 16) };
 
     fn parse_bytes(bytes: &'a [u8]) -> Result<Txt<'a>, ParseError> {
-        if are_texts(bytes) {
+        if are_character_strings(bytes) {
             Ok(Txt { slice: bytes })
         } else {
             Err(ParseError)
@@ -128,13 +128,13 @@ impl BuildBytes for Txt<'_> {
     }
 }
 
-/// Whole, in one piece.
+/// Uncompressed, as one part.
 impl BuildInMessage for Txt<'_> {
-    ghost presses = { λ v. whole_presses v.slice.now };
+    ghost writes = { λ v. octets_writes v.slice.now };
 
-    ghost pieces = { λ v. Some (Whole v.slice.now ∷ []) };
+    ghost layout = { λ v. Some (OctetsPart v.slice.now ∷ []) };
 
-    ghost told = { λ v. told_piece (Whole v.slice.now) };
+    ghost layout_matches = { λ v. part_matches (OctetsPart v.slice.now) };
 
     fn build_in_message(
         &self,
@@ -165,7 +165,7 @@ impl PartialEq for Txt<'_> {
 
     ghost laws = { partial_equiv_from_equiv (on_equiv (λ v. strings_in v.slice.now) (lists_equiv (on_texts_equal str_to_ascii_lowercase))) };
 
-    /// Whether the strings are the same in order, ASCII case aside (RFC 1035 section 2.3.3).
+    /// Whether the strings are the same in order, ignoring ASCII case (RFC 1035 section 2.3.3).
     fn eq(&self, other: &Self) -> bool {
         let mut strings = self.iter();
         let mut others = other.iter();
@@ -190,7 +190,7 @@ impl Hash for Txt<'_> {
 
     ghost respects_eq = { λ a b same. same_strings_alike (strings_in a.slice.now) (strings_in b.slice.now) same };
 
-    /// Feeds each string in order: its length octet and its octets in small letters, in one write.
+    /// Feeds each string in order: its length octet and its octets in lowercase, in one write.
     fn hash<H: Hasher>(&self, state: &mut H) {
         let mut strings = self.iter();
         while let Some(string) = strings.next() {

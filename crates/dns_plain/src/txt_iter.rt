@@ -27,7 +27,7 @@ impl<'a> Model for TxtIter<'a> {
 }
 
 impl<'a> TxtIter<'a> {
-    /// Goes over the strings at the front of the octets.
+    /// Goes over the strings at the start of the octets.
     pub(crate) fn new(octets: &'a [u8]) -> TxtIter<'a>
         ensures { result ≡ strings_in octets.entry.now }
     {

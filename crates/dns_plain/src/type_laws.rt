@@ -1,4 +1,4 @@
-//! The types of this crate by the one table: what is read and written for the number of each is what its row says.
+//! The types of this crate by the one table: what is read and written for the number of each is what its RDATA format says.
 
 ghost use Rattle.std.specs.Prelude.{◌≡◌, ℕ, List};
 ghost use Rattle.dns_wire.specs.Names.{plain_name};
@@ -15,7 +15,7 @@ use crate::srv::Srv;
 use crate::txt::Txt;
 use dns_record::{CanonicalRecordData, ParseRecordDataBytes};
 
-/// Of all the octets, each type reads the fields of its number's row, and for any other number nothing (RFC 1035
+/// Of all the octets, each type reads the fields of its number's RDATA format, and for any other number nothing (RFC 1035
 /// sections 3.3 and 3.4, RFC 2782, RFC 3596 section 2.2, RFC 6672 section 2.1).
 pub fn types_are_read_by_number()
     ensures a { (rtype : ℕ) (bytes : List ℕ) → ⟦<A as ParseRecordDataBytes<'static>>⟧.reads_as rtype bytes ≡ of_type 1 rtype (data_as plain_name 1 bytes) }

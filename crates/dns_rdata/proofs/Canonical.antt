@@ -1,8 +1,8 @@
 -- The canonical octets of data in which no name may have pointers.
 use Rattle.std.proofs.Common.{◌≡◌, ℕ, Bool, true, false, cond, List, [], ◌∷◌, ◌++◌, refl, ap, ◌∙◌}
 use Rattle.std.specs.Prelude.{map}
-use Rattle.dns_record.specs.Fields.{Field, named_by, field_octets, fields_octets, folded_field, canonical_octets}
-use Rattle.dns_record.specs.Fields.FieldOf.{Named, Bare, Raw, Sized, Byte, Number}
+use Rattle.dns_record.specs.Fields.{Field, named_by, field_octets, fields_octets, lowercased_field, canonical_octets}
+use Rattle.dns_record.specs.Fields.FieldOf.{Compressible, Uncompressed, Raw, Sized, Byte, Number}
 use Rattle.std.specs.Ordering.{nat_cmp}
 use Rattle.std.specs.Cmp.Lexicographic.{slice_cmp}
 use Rattle.std.specs.declared.cmp.Ordering.{Ordering}
@@ -11,20 +11,20 @@ use Rattle.dns_record.specs.Types.{is_lowercased}
 use Rattle.dns_rdata.specs.Data.{as_plain}
 
 field_plain : {N : Type 0} (name : N → List (List ℕ)) (field : Field) → field_octets (named_by name (as_plain {N = N} field)) ≡ field_octets field
-field_plain name (Named labels) = refl
-field_plain name (Bare labels) = refl
+field_plain name (Compressible labels) = refl
+field_plain name (Uncompressed labels) = refl
 field_plain name (Raw octets) = refl
 field_plain name (Sized octets) = refl
 field_plain name (Byte b) = refl
 field_plain name (Number w n) = refl
 
-folded_plain : {N : Type 0} (name : N → List (List ℕ)) (field : Field) → field_octets (folded_field (named_by name (as_plain {N = N} field))) ≡ field_octets (folded_field field)
-folded_plain name (Named labels) = refl
-folded_plain name (Bare labels) = refl
-folded_plain name (Raw octets) = refl
-folded_plain name (Sized octets) = refl
-folded_plain name (Byte b) = refl
-folded_plain name (Number w n) = refl
+lowercased_uncompressed : {N : Type 0} (name : N → List (List ℕ)) (field : Field) → field_octets (lowercased_field (named_by name (as_plain {N = N} field))) ≡ field_octets (lowercased_field field)
+lowercased_uncompressed name (Compressible labels) = refl
+lowercased_uncompressed name (Uncompressed labels) = refl
+lowercased_uncompressed name (Raw octets) = refl
+lowercased_uncompressed name (Sized octets) = refl
+lowercased_uncompressed name (Byte b) = refl
+lowercased_uncompressed name (Number w n) = refl
 
 fields_plain : {N : Type 0} (name : N → List (List ℕ)) (fields : List Field) → fields_octets (map (named_by name) (map (as_plain {N = N}) fields)) ≡ fields_octets fields
 fields_plain name [] = refl
@@ -32,16 +32,16 @@ fields_plain {N} name (field ∷ fields) =
     ap (λ (l : List ℕ). l ++ fields_octets (map (named_by name) (map (as_plain {N = N}) fields))) (field_plain name field)
     ∙ ap (λ (l : List ℕ). field_octets field ++ l) (fields_plain name fields)
 
-fields_folded_plain : {N : Type 0} (name : N → List (List ℕ)) (fields : List Field) → fields_octets (map folded_field (map (named_by name) (map (as_plain {N = N}) fields))) ≡ fields_octets (map folded_field fields)
-fields_folded_plain name [] = refl
-fields_folded_plain {N} name (field ∷ fields) =
-    ap (λ (l : List ℕ). l ++ fields_octets (map folded_field (map (named_by name) (map (as_plain {N = N}) fields)))) (folded_plain name field)
-    ∙ ap (λ (l : List ℕ). field_octets (folded_field field) ++ l) (fields_folded_plain name fields)
+fields_lowercased_uncompressed : {N : Type 0} (name : N → List (List ℕ)) (fields : List Field) → fields_octets (map lowercased_field (map (named_by name) (map (as_plain {N = N}) fields))) ≡ fields_octets (map lowercased_field fields)
+fields_lowercased_uncompressed name [] = refl
+fields_lowercased_uncompressed {N} name (field ∷ fields) =
+    ap (λ (l : List ℕ). l ++ fields_octets (map lowercased_field (map (named_by name) (map (as_plain {N = N}) fields)))) (lowercased_uncompressed name field)
+    ∙ ap (λ (l : List ℕ). field_octets (lowercased_field field) ++ l) (fields_lowercased_uncompressed name fields)
 
 pub plain_canonical : {N : Type 0} (name : N → List (List ℕ)) (rtype : ℕ) (fields : List Field) → canonical_octets rtype (map (named_by name) (map (as_plain {N = N}) fields)) ≡ canonical_octets rtype fields
 plain_canonical {N} name rtype fields = by (is_lowercased rtype) where
-  by : (b : Bool) → fields_octets (cond b (map folded_field (map (named_by name) (map (as_plain {N = N}) fields))) (map (named_by name) (map (as_plain {N = N}) fields))) ≡ fields_octets (cond b (map folded_field fields) fields)
-  by true = fields_folded_plain name fields
+  by : (b : Bool) → fields_octets (cond b (map lowercased_field (map (named_by name) (map (as_plain {N = N}) fields))) (map (named_by name) (map (as_plain {N = N}) fields))) ≡ fields_octets (cond b (map lowercased_field fields) fields)
+  by true = fields_lowercased_uncompressed name fields
   by false = fields_plain name fields
 
 -- and their order, where data of one type compare by it

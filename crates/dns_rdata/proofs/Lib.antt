@@ -1,6 +1,6 @@
 -- The crate's own lemmas.
-pub mod Alike
+pub mod AlikeContent
 pub mod Canonical
 pub mod Forms
-pub mod Plain
-pub mod Pressed
+pub mod UncompressedData
+pub mod CompressedData

@@ -12,9 +12,9 @@ use Rattle.dns_record.specs.CharStrHashing.{charstr_writes}
 use Rattle.dns_record.specs.CharStrs.{same_charstr}
 use Rattle.dns_record.specs.FieldOrder.{fields_eq, fields_writes}
 use Rattle.dns_record.specs.Fields.{FieldOf}
-use Rattle.dns_record.specs.Fields.FieldOf.{Named, Bare, Raw, Sized, Byte, Number}
+use Rattle.dns_record.specs.Fields.FieldOf.{Compressible, Uncompressed, Raw, Sized, Byte, Number}
 use Rattle.dns_record.specs.Kinds.{Kind}
-use Rattle.dns_record.specs.Rows.{rows}
+use Rattle.dns_record.specs.Formats.{rdata_formats}
 use Rattle.dns_rdata.specs.Data.{data_fields, type_number}
 use Rattle.dns_rdata.specs.declared.record_data.RecordData.{RecordData}
 use Rattle.dns_rdata.specs.declared.record_data.RecordData.TheVariants.{Unknown}
@@ -39,8 +39,8 @@ content_of v = record { rtype = type_number v; known = is_known v; fields = data
 -- of strings one after another, each
 abbrev pub each_string : {N : Type 0} → FieldOf N → List (FieldOf N)
 each_string (Raw octets) = map Sized (strings_in octets)
-each_string (Named n) = Named n ∷ []
-each_string (Bare labels) = Bare labels ∷ []
+each_string (Compressible n) = Compressible n ∷ []
+each_string (Uncompressed labels) = Uncompressed labels ∷ []
 each_string (Sized octets) = Sized octets ∷ []
 each_string (Byte b) = Byte b ∷ []
 each_string (Number w n) = Number w n ∷ []
@@ -75,7 +75,7 @@ same_content names a b = beq a.known b.known && (nat_eq a.rtype b.rtype && same_
 
 -- the numbers of the types that are read as they say, in the order of the choice among them
 abbrev pub choices : List ℕ
-choices = map (λ (typed : ℕ × List Kind). typed.0) rows
+choices = map (λ (typed : ℕ × List Kind). typed.0) rdata_formats
 
 -- how many stand before the number
 abbrev pub place_among : List ℕ → ℕ → ℕ
@@ -88,7 +88,7 @@ type_writes c =
     if c.known then le_bytes 8 (place_among choices c.rtype) ∷ []
     else le_bytes 8 (length choices) ∷ le_bytes 2 c.rtype ∷ []
 
--- octets with their size: salts and hashes as they stand, strings in small letters
+-- octets with their size: salts and hashes as they stand, strings in lowercase
 abbrev pub sized_writes : ℕ → List ℕ → List (List ℕ)
 sized_writes rtype octets = if is_hashed rtype then slice u8 octets else charstr_writes octets
 

@@ -3,8 +3,8 @@ use Rattle.std.specs.Prelude.{◌≡◌, ℕ, List, [], ◌∷◌, ◌++◌, len
 use Rattle.std.specs.Int.{to_be_bytes}
 use Rattle.dns_wire.specs.Names.{wire}
 use Rattle.dns_record.specs.Fields.{Field, FieldOf}
-use Rattle.dns_record.specs.Fields.FieldOf.{Named, Bare, Raw, Sized, Byte, Number}
-use Rattle.dns_record.specs.Rows.{has_row}
+use Rattle.dns_record.specs.Fields.FieldOf.{Compressible, Uncompressed, Raw, Sized, Byte, Number}
+use Rattle.dns_record.specs.Formats.{has_rdata_format}
 use Rattle.dns_basic.specs.Types.{ns_fields, cname_fields, soa_fields, ptr_fields, mx_fields, rp_fields}
 use Rattle.dns_edns.specs.Types.{opt_fields}
 use Rattle.dns_nsec.specs.Types.{nsec_fields, nsec3_fields, nsec3param_fields}
@@ -15,8 +15,8 @@ use Rattle.dns_rdata.specs.declared.record_data.RecordData.TheVariants.{A, Ns, C
 
 -- a field of data in which no name may have pointers
 abbrev pub as_plain : {N : Type 0} → Field → FieldOf N
-as_plain (Named labels) = Bare labels
-as_plain (Bare labels) = Bare labels
+as_plain (Compressible labels) = Uncompressed labels
+as_plain (Uncompressed labels) = Uncompressed labels
 as_plain (Raw octets) = Raw octets
 as_plain (Sized octets) = Sized octets
 as_plain (Byte b) = Byte b
@@ -74,12 +74,12 @@ type_number (CDNSKey v) = 60
 type_number (ZoneMD v) = 63
 type_number (Unknown rtype v) = rtype.code.value
 
--- data of a type that has a row are no unknown octets
+-- data of a type that has an RDATA format are no unknown octets
 abbrev pub IsProper : {N : Type 0} → RecordData N → Type 0
-IsProper (Unknown rtype v) = has_row rtype.code.value ≡ false
+IsProper (Unknown rtype v) = has_rdata_format rtype.code.value ≡ false
 IsProper v = ⊤
 
--- the data are of this type, and not unknown where the type has a row
+-- the data are of this type, and not unknown where the type has an RDATA format
 abbrev pub IsDataOf : {N : Type 0} → RecordData N → ℕ → Type 0
 IsDataOf v rtype = (rtype ≡ type_number v) × IsProper v
 
@@ -87,8 +87,8 @@ IsDataOf v rtype = (rtype ≡ type_number v) × IsProper v
 
 -- a field's octets, a name's as its type writes them
 abbrev pub written_field : {N : Type 0} → (N → List ℕ) → FieldOf N → List ℕ
-written_field name (Named n) = name n
-written_field name (Bare labels) = wire labels
+written_field name (Compressible n) = name n
+written_field name (Uncompressed labels) = wire labels
 written_field name (Raw octets) = octets
 written_field name (Sized octets) = length octets ∷ octets
 written_field name (Byte b) = b ∷ []

@@ -1,4 +1,5 @@
 -- EDNS records: the root, the number of OPT, and what stands in place of class and time to live (RFC 6891 section 6.1.2).
+use Rattle.dns_record.specs.Types.{opt_number}
 use Rattle.std.specs.Prelude.{◌≡◌, ℕ, List, [], ◌∷◌, ◌++◌, drop, take, Option, Some, None, Bool, nat_eq, if◌then◌else◌}
 use Rattle.std.specs.Cmp.Lexicographic.{pointwise}
 use Rattle.std.specs.Fn.{Shared}
@@ -32,17 +33,17 @@ edns_seen content r = record {
 -- ---- on the wire
 
 -- the root, and the number of OPT
-abbrev pub edns_head : List ℕ
-edns_head = 0 ∷ 0 ∷ 41 ∷ []
+abbrev pub edns_fixed_header : List ℕ
+edns_fixed_header = 0 ∷ 0 ∷ opt_number ∷ []
 
--- what stands behind this head, where the octets begin with it
-abbrev pub behind_head : List ℕ → Option (List ℕ)
-behind_head bytes = if pointwise nat_eq (take 3 bytes) edns_head then Some (drop 3 bytes) else None
+-- what stands after this head, where the octets begin with it
+abbrev pub after_fixed_header : List ℕ → Option (List ℕ)
+after_fixed_header bytes = if pointwise nat_eq (take 3 bytes) edns_fixed_header then Some (drop 3 bytes) else None
 
--- the head, a size of payload, a part of the response code, a version, flags, and data behind the number of their octets
+-- the head, a size of payload, a part of the response code, a version, flags, and data after the number of their octets
 unfoldable pub edns_at : {D : Type 0} → (List ℕ → Option (D × List ℕ)) → List ℕ → Option (EdnsOf D × List ℕ)
 edns_at content bytes = do
-  rest ← behind_head bytes
+  rest ← after_fixed_header bytes
   payload ← number w16 rest
   ext_rcode ← octet payload.1
   version ← octet ext_rcode.1
@@ -53,13 +54,13 @@ edns_at content bytes = do
 -- the octets, where these are those of the data
 abbrev pub edns_octets : {D : Type 0} → EdnsRecord D → List ℕ → List ℕ
 edns_octets r octets =
-    edns_head ++ (to_be_bytes w16 r.max_udp_payload.value ++ ((r.ext_rcode ∷ []) ++ ((r.version ∷ []) ++ (to_be_bytes w16 (flag_bits r.flags) ++ sized w16 octets))))
+    edns_fixed_header ++ (to_be_bytes w16 r.max_udp_payload.value ++ ((r.ext_rcode ∷ []) ++ ((r.version ∷ []) ++ (to_be_bytes w16 (flag_bits r.flags) ++ sized w16 octets))))
 
 -- ---- comparison
 
--- the four fields in front of the data are the same
-abbrev pub SameFront : {D E : Type 0} → EdnsRecord D → EdnsRecord E → Type 0
-SameFront a b = (a.max_udp_payload ≡ b.max_udp_payload) × (a.ext_rcode ≡ b.ext_rcode) × (a.version ≡ b.version) × (a.flags ≡ b.flags)
+-- the four fields before the data are the same
+abbrev pub SamePrefix : {D E : Type 0} → EdnsRecord D → EdnsRecord E → Type 0
+SamePrefix a b = (a.max_udp_payload ≡ b.max_udp_payload) × (a.ext_rcode ≡ b.ext_rcode) × (a.version ≡ b.version) × (a.flags ≡ b.flags)
 
 -- a function may be called at references to these two
 abbrev pub TakesTwo : {F D E : Type 0} → Shared F (Bor D × (Bor E × Unit {0})) Bool → F → D → E → Type 0

@@ -1,4 +1,5 @@
 -- EDNS records in the form of records (RFC 6891 sections 6.1.2 and 6.1.3).
+use Rattle.dns_record.specs.Types.{opt_number}
 use Rattle.std.specs.Prelude.{◌≡◌, ℕ, ◌+◌, ◌*◌, ◌/◌, ◌%◌, ◌^◌, List, [], ◌∷◌, Option, Some, None, Bool, true, false, ◌&&◌, ◌==◌, if◌then◌else◌}
 use Rattle.dns_record.specs.Options.{is_option_data}
 use Rattle.dns_record.specs.declared.record.Record.{Record}
@@ -17,7 +18,7 @@ edns_ttl ext_rcode version flags = ext_rcode * 2 ^ 24 + version * 2 ^ 16 + flags
 -- a record with this owner has the fields and the data of an EDNS record
 pub record IsFormOf {O N : Type 0} (root : O) (edns : EdnsRecord OptData) (form : Record O (RecordData N)) : Type 0 where
   pub owner : form.rname ≡ root
-  pub rtype : form.rtype.code.value ≡ 41
+  pub rtype : form.rtype.code.value ≡ opt_number
   pub class : form.rclass.code ≡ edns.max_udp_payload
   pub ttl : form.ttl.value.value ≡ edns_ttl edns.ext_rcode edns.version (flag_bits edns.flags)
   pub content : form.rdata ≡ Opt edns.content
@@ -25,7 +26,7 @@ pub record IsFormOf {O N : Type 0} (root : O) (edns : EdnsRecord OptData) (form 
 -- the octets of the options that data have: OPT data, and unknown data with the number of OPT that are options
 abbrev pub option_octets : {N : Type 0} → RecordData N → Option (List ℕ)
 option_octets (Opt v) = Some v.slice.now
-option_octets (Unknown rtype v) = if (rtype.code.value == 41) && is_option_data v.octets.now then Some v.octets.now else None
+option_octets (Unknown rtype v) = if (rtype.code.value == opt_number) && is_option_data v.octets.now then Some v.octets.now else None
 option_octets v = None
 
 -- whether a name is the root
@@ -40,5 +41,5 @@ edns_fields class ttl octets = record { payload = class; ext_rcode = ttl / 2 ^ 2
 -- the EDNS record that a record is: its owner is the root, its type is OPT, and its data have options
 abbrev pub edns_in : {N : Type 0} → Record (List (List ℕ)) (RecordData N) → Option (EdnsOf (List ℕ))
 edns_in form = do
-  octets ← if is_root form.rname && (form.rtype.code.value == 41) then option_octets form.rdata else None
+  octets ← if is_root form.rname && (form.rtype.code.value == opt_number) then option_octets form.rdata else None
   Some (edns_fields form.rclass.code.value form.ttl.value.value octets)

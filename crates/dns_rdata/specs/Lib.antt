@@ -4,11 +4,11 @@ pub mod Boxed
 pub mod Data
 pub mod Edns
 pub mod EdnsForms
-pub mod EdnsLeft
-pub mod Kept
+pub mod EdnsRecordLemmas
+pub mod BoxedValue
 pub mod Mapping
 pub mod Plain
-pub mod Sameness
-pub mod Shapes
-pub mod Spelled
-pub mod Written
+pub mod ContentSameness
+pub mod FieldShapes
+pub mod FormatLemmas
+pub mod CanonicalSizes

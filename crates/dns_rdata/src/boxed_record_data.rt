@@ -19,7 +19,7 @@ use std::alloc::{AllocError, Global};
 use std::cmp::Ordering;
 use std::hash::{Hash, Hasher};
 
-/// Whether the row of the type reads all the octets.
+/// Whether the RDATA format of the type reads all the octets.
 fn reads(bytes: &[u8], rtype: RType) -> bool
     ensures { result ≡ is_readable rtype.code.value bytes.now }
 {
@@ -38,7 +38,7 @@ fn write_whole<N: BuildBytes>(content: &RecordData<'_, N>, octets: &mut [u8])
     content.build_at(octets, 0).unwrap();
 }
 
-/// Record data of any type in one piece of memory: at most 65,535 octets, all of which the row of their type reads, with
+/// Record data of any type in one piece of memory: at most 65,535 octets, all of which the RDATA format of their type reads, with
 /// their names whole.
 #[derive(Debug, Drop)]
 pub struct BoxedRecordData {
@@ -50,19 +50,19 @@ pub struct BoxedRecordData {
 }
 
 impl BoxedRecordData {
-    ghost use Rattle.dns_rdata.specs.Kept.{kept_type, kept_octets};
+    ghost use Rattle.dns_rdata.specs.BoxedValue.{boxed_type, boxed_octets};
 
     /// Keeps the octets of these data, names whole. `TooLong` comes exactly above 65,535 octets, before memory is taken.
-    /// `Unreadable` comes where the row of the type doesn't read the octets, as those of NSEC without a type (RFC 4034 section
-    /// 4.1.2), or unknown octets under the number of a type that has others. `Memory` is want of memory.
+    /// `Unreadable` comes where the RDATA format of the type doesn't read the octets, as those of NSEC without a type (RFC 4034 section
+    /// 4.1.2), or unknown octets under the number of a type that has others. `Memory` is lack of memory.
     pub fn make<N: BuildBytes>(
         alloc: Global,
         content: &RecordData<'_, N>,
     ) -> Result<BoxedRecordData, BoxError>
         requires countable { length (written_fields N.octets (data_fields content.now)) < 2 ^ 64 }
         requires fits { NamesFit N.fits content.now }
-        ensures octets { IfOk result (λ kept. kept_octets kept ≡ written_fields N.octets (data_fields content.now)) }
-        ensures typed { IfOk result (λ kept. kept_type kept ≡ type_number content.now) }
+        ensures octets { IfOk result (λ boxed. boxed_octets boxed ≡ written_fields N.octets (data_fields content.now)) }
+        ensures typed { IfOk result (λ boxed. boxed_type boxed ≡ type_number content.now) }
         ensures short { IfOk result (λ _. length (written_fields N.octets (data_fields content.now)) ≤ 65535) }
         ensures readable { IfOk result (λ _. is_readable (type_number content.now) (written_fields N.octets (data_fields content.now)) ≡ true) }
         ensures refused { IfErr result (λ why. IsWhy why (type_number content.now) (written_fields N.octets (data_fields content.now))) }
@@ -81,10 +81,10 @@ impl BoxedRecordData {
     }
 
     /// Keeps these octets under this type. `TooLong` comes exactly above 65,535 octets, before memory is taken. `Unreadable`
-    /// comes where the row of the type doesn't read them. `Memory` is want of memory.
+    /// comes where the RDATA format of the type doesn't read them. `Memory` is lack of memory.
     pub fn parse(alloc: Global, bytes: &[u8], rtype: RType) -> Result<BoxedRecordData, BoxError>
-        ensures octets { IfOk result (λ kept. kept_octets kept ≡ bytes.now) }
-        ensures typed { IfOk result (λ kept. kept_type kept ≡ rtype.code.value) }
+        ensures octets { IfOk result (λ boxed. boxed_octets boxed ≡ bytes.now) }
+        ensures typed { IfOk result (λ boxed. boxed_type boxed ≡ rtype.code.value) }
         ensures short { IfOk result (λ _. length bytes.now ≤ 65535) }
         ensures readable { IfOk result (λ _. is_readable rtype.code.value bytes.now ≡ true) }
         ensures refused { IfErr result (λ why. IsWhy why rtype.code.value bytes.now) }
@@ -101,8 +101,8 @@ impl BoxedRecordData {
 
     /// The same data in memory of their own, from where theirs is.
     pub fn try_clone(&self) -> Result<BoxedRecordData, AllocError>
-        ensures octets { IfOk result (λ copy. kept_octets copy ≡ kept_octets self.now) }
-        ensures typed { IfOk result (λ copy. kept_type copy ≡ kept_type self.now) }
+        ensures octets { IfOk result (λ copy. boxed_octets copy ≡ boxed_octets self.now) }
+        ensures typed { IfOk result (λ copy. boxed_type copy ≡ boxed_type self.now) }
     {
         let octets = self.octets.clone()?;
         Ok(BoxedRecordData {
@@ -113,25 +113,25 @@ impl BoxedRecordData {
 
     /// The type.
     pub fn rtype(&self) -> RType
-        ensures { result.code.value ≡ kept_type self.now }
+        ensures { result.code.value ≡ boxed_type self.now }
     {
         self.rtype
     }
 
     /// The octets, names whole.
     pub fn bytes(&self) -> &[u8]
-        ensures octets { result.now ≡ kept_octets self.now }
+        ensures octets { result.now ≡ boxed_octets self.now }
         ensures short { length result.now < 2 ^ 16 }
-        ensures readable { is_readable (kept_type self.now) result.now ≡ true }
+        ensures readable { is_readable (boxed_type self.now) result.now ≡ true }
     {
         self.octets.as_slice()
     }
 
     /// The data, as they are read from the octets. What they write are these octets.
     pub fn get(&self) -> RecordData<'_, Name<'_>>
-        ensures read { data_as plain_name (kept_type self.now) (kept_octets self.now) ≡ Some (map (named_by (λ name. name_labels name.slice.now)) (data_fields result)) }
-        ensures typed { IsDataOf result (kept_type self.now) }
-        ensures written { written_fields (λ name. wire (name_labels name.slice.now)) (data_fields result) ≡ kept_octets self.now }
+        ensures read { data_as plain_name (boxed_type self.now) (boxed_octets self.now) ≡ Some (map (named_by (λ name. name_labels name.slice.now)) (data_fields result)) }
+        ensures typed { IsDataOf result (boxed_type self.now) }
+        ensures written { written_fields (λ name. wire (name_labels name.slice.now)) (data_fields result) ≡ boxed_octets self.now }
     {
         RecordData::parse_record_data_bytes(self.bytes(), self.rtype).unwrap()
     }
@@ -152,18 +152,18 @@ impl BuildBytes for BoxedRecordData {
 /// As the data that the octets spell: names that pointers may lead through are shared, though they are kept whole.
 impl BuildInMessage for BoxedRecordData {
     ghost use Rattle.std.specs.Prelude.{[], ◌∷◌};
-    ghost use Rattle.dns_wire.specs.Compression.{name_presses};
-    ghost use Rattle.dns_wire.specs.Pieces.Piece.{Pressed};
-    ghost use Rattle.dns_wire.specs.Told.{told_piece};
-    ghost use Rattle.dns_record.specs.InMessage.{fields_press, fields_tell};
-    ghost use Rattle.dns_record.specs.Told.{told_fields};
+    ghost use Rattle.dns_wire.specs.Compression.{compressed_name_writes};
+    ghost use Rattle.dns_wire.specs.Layout.LayoutPart.{NamePart};
+    ghost use Rattle.dns_wire.specs.LayoutLemmas.{part_matches};
+    ghost use Rattle.dns_record.specs.InMessage.{fields_write, fields_layout};
+    ghost use Rattle.dns_record.proofs.FieldLayoutLemmas.{fields_match};
     ghost use Rattle.dns_rdata.specs.Boxed.{spelled};
 
-    ghost presses = { λ v. fields_press name_presses (spelled v.rtype.code.value v.octets.items) };
+    ghost writes = { λ v. fields_write compressed_name_writes (spelled v.rtype.code.value v.octets.items) };
 
-    ghost pieces = { λ v. fields_tell (λ labels. Some (Pressed labels ∷ [])) (spelled v.rtype.code.value v.octets.items) };
+    ghost layout = { λ v. fields_layout (λ labels. Some (NamePart labels ∷ [])) (spelled v.rtype.code.value v.octets.items) };
 
-    ghost told = { λ v. told_fields name_presses (λ labels. Some (Pressed labels ∷ [])) (λ labels. told_piece (Pressed labels)) (spelled v.rtype.code.value v.octets.items) };
+    ghost layout_matches = { λ v. fields_match compressed_name_writes (λ labels. Some (NamePart labels ∷ [])) (λ labels. part_matches (NamePart labels)) (spelled v.rtype.code.value v.octets.items) };
 
     fn build_in_message(
         &self,
@@ -177,7 +177,7 @@ impl BuildInMessage for BoxedRecordData {
 
 /// Those of the fields that the octets spell, by the type.
 impl CanonicalRecordData for BoxedRecordData {
-    ghost use Rattle.dns_rdata.specs.Spelled.{spelled_long};
+    ghost use Rattle.dns_rdata.specs.FormatLemmas.{spelled_long};
 
     ghost canonical = { λ v. canonical_octets v.rtype.code.value (spelled v.rtype.code.value v.octets.items) };
 
@@ -200,7 +200,7 @@ impl PartialEq for BoxedRecordData {
     ghost use Rattle.std.specs.Ordering.{on};
     ghost use Rattle.dns_rdata.specs.Alike.{same_name, same_content};
     ghost use Rattle.dns_rdata.specs.Boxed.{spelled_content};
-    ghost use Rattle.dns_rdata.specs.Sameness.{content_equiv};
+    ghost use Rattle.dns_rdata.specs.ContentSameness.{content_equiv};
 
     ghost eq = { on (λ v. spelled_content v.rtype.code.value v.octets.items) (same_content same_name) };
 
@@ -215,7 +215,7 @@ impl PartialEq for BoxedRecordData {
 impl Eq for BoxedRecordData {
     ghost use Rattle.std.specs.Cmp.{on_equiv};
     ghost use Rattle.dns_rdata.specs.Boxed.{spelled_content};
-    ghost use Rattle.dns_rdata.specs.Sameness.{content_equiv};
+    ghost use Rattle.dns_rdata.specs.ContentSameness.{content_equiv};
 
     ghost laws = { on_equiv (λ v. spelled_content v.rtype.code.value v.octets.items) content_equiv };
 }
@@ -225,7 +225,7 @@ impl Hash for BoxedRecordData {
     ghost use Rattle.dns_name.specs.Hashing.{name_writes};
     ghost use Rattle.dns_rdata.specs.Alike.{content_writes};
     ghost use Rattle.dns_rdata.specs.Boxed.{spelled_content};
-    ghost use Rattle.dns_rdata.specs.Sameness.{spelled_alike};
+    ghost use Rattle.dns_rdata.specs.ContentSameness.{spelled_alike};
 
     ghost hash_input = { λ v. content_writes name_writes (spelled_content v.rtype.code.value v.octets.items) };
 

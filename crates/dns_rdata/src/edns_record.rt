@@ -2,10 +2,10 @@
 
 ghost use Rattle.std.specs.Prelude.{◌≡◌, ◌↔◌, ◌≤◌, ◌<◌, ◌^◌, length, IfOk, IsTrue};
 ghost use Rattle.std.specs.Fn.{FnOnceTakesAt, FnOnceReturnsAt};
-ghost use Rattle.dns_wire.specs.Pieces.{whole_presses};
+ghost use Rattle.dns_wire.specs.Layout.{octets_writes};
 ghost use Rattle.dns_wire.specs.Reading.{Gives};
-ghost use Rattle.dns_rdata.specs.Edns.{EdnsOf, edns_seen, behind_head, edns_at, edns_octets, SameFront, TakesTwo, AnswersTwo};
-ghost use Rattle.dns_rdata.specs.EdnsLeft.{edns_leaves};
+ghost use Rattle.dns_rdata.specs.Edns.{EdnsOf, edns_seen, after_fixed_header, edns_at, edns_octets, SamePrefix, TakesTwo, AnswersTwo};
+ghost use Rattle.dns_rdata.specs.EdnsRecordLemmas.{edns_leaves};
 
 use dns_edns::EdnsFlags;
 use dns_num::{SizePrefixed, U16};
@@ -15,7 +15,7 @@ use dns_wire::{
 };
 
 /// The root, and the number of OPT: with these octets each EDNS record begins (RFC 6891 section 6.1.2).
-const HEAD: [u8; 3] = [0, 0, 41];
+const FIXED_HEADER: [u8; 3] = [0, 0, 41];
 
 /// What a message says of its sender, and of the message as a whole: an OPT record, whose owner is the root, and which has
 /// fields of its own where others have a class and a time to live (RFC 6891 section 6.1.2).
@@ -38,7 +38,7 @@ impl<D> EdnsRecord<D> {
     pub fn transform<ND, F: FnOnce(D) -> ND>(self, data_map: F) -> EdnsRecord<ND>
         requires { F.pre data_map self.content }
         ensures content { F.post data_map self.content result.content }
-        ensures kept { (result.max_udp_payload ≡ self.max_udp_payload) × (result.ext_rcode ≡ self.ext_rcode) × (result.version ≡ self.version) × (result.flags ≡ self.flags) }
+        ensures unchanged { (result.max_udp_payload ≡ self.max_udp_payload) × (result.ext_rcode ≡ self.ext_rcode) × (result.version ≡ self.version) × (result.flags ≡ self.flags) }
     {
         EdnsRecord {
             max_udp_payload: self.max_udp_payload,
@@ -53,7 +53,7 @@ impl<D> EdnsRecord<D> {
     pub fn transform_ref<'a, ND, F: FnOnce(&'a D) -> ND>(&'a self, data_map: F) -> EdnsRecord<ND>
         requires { FnOnceTakesAt F.FnOnce data_map self.now.content }
         ensures content { FnOnceReturnsAt F.FnOnce data_map self.now.content result.content }
-        ensures kept { (result.max_udp_payload ≡ self.now.max_udp_payload) × (result.ext_rcode ≡ self.now.ext_rcode) × (result.version ≡ self.now.version) × (result.flags ≡ self.now.flags) }
+        ensures unchanged { (result.max_udp_payload ≡ self.now.max_udp_payload) × (result.ext_rcode ≡ self.now.ext_rcode) × (result.version ≡ self.now.version) × (result.flags ≡ self.now.flags) }
     {
         EdnsRecord {
             max_udp_payload: self.max_udp_payload,
@@ -66,7 +66,7 @@ impl<D> EdnsRecord<D> {
 }
 
 /// `ParseError` comes exactly where the octets don't begin with the root and the number of OPT, or the fields or the data
-/// behind them are not read.
+/// after them are not read.
 impl<'a, D: ParseBytes<'a>> ReadPlainValue<'a> for EdnsRecord<D> {
     ghost Seen = { EdnsOf D.Seen };
 
@@ -78,7 +78,7 @@ impl<'a, D: ParseBytes<'a>> ReadPlainValue<'a> for EdnsRecord<D> {
 
     #[tactic(auto, unfolding(crate::specs::Edns::edns_at))]
     fn read_plain(bytes: &'a [u8]) -> Result<(EdnsRecord<D>, &'a [u8]), ParseError> {
-        let rest = split_head(bytes)?;
+        let rest = split_fixed_header(bytes)?;
         let (max_udp_payload, rest) = U16::split_bytes(rest)?;
         let (ext_rcode, rest) = u8::split_bytes(rest)?;
         let (version, rest) = u8::split_bytes(rest)?;
@@ -98,16 +98,16 @@ impl<'a, D: ParseBytes<'a>> ReadPlainValue<'a> for EdnsRecord<D> {
     }
 }
 
-/// The octets behind the head of an EDNS record. `ParseError` comes exactly where they don't begin with it.
-fn split_head(bytes: &[u8]) -> Result<&[u8], ParseError>
-    ensures exact { Gives (λ rest. rest.now) result (behind_head bytes.now) }
+/// The octets after the head of an EDNS record. `ParseError` comes exactly where they don't begin with it.
+fn split_fixed_header(bytes: &[u8]) -> Result<&[u8], ParseError>
+    ensures exact { Gives (λ rest. rest.now) result (after_fixed_header bytes.now) }
     ensures within { IfOk result (λ rest. length rest.now ≤ length bytes.now) }
 {
-    if bytes.len() < HEAD.len() {
+    if bytes.len() < FIXED_HEADER.len() {
         return Err(ParseError);
     }
-    let (head, rest) = bytes.split_at(HEAD.len());
-    if head == HEAD.as_slice() {
+    let (head, rest) = bytes.split_at(FIXED_HEADER.len());
+    if head == FIXED_HEADER.as_slice() {
         Ok(rest)
     } else {
         Err(ParseError)
@@ -120,8 +120,12 @@ impl<D: BuildBytes> BuildBytes for EdnsRecord<D> {
     ghost fits = { λ v. (length (D.octets v.content) < 2 ^ 16) × D.fits v.content };
 
     fn build_at(&self, bytes: &mut [u8], start: usize) -> Result<usize, TruncationError> {
-        let behind = (&self.version, (&self.flags, &self.content));
-        (HEAD, (&self.max_udp_payload, (&self.ext_rcode, behind))).build_at(bytes, start)
+        let trailing = (&self.version, (&self.flags, &self.content));
+        (
+            FIXED_HEADER,
+            (&self.max_udp_payload, (&self.ext_rcode, trailing)),
+        )
+            .build_at(bytes, start)
     }
 
     fn built_bytes_size(&self) -> usize {
@@ -131,11 +135,11 @@ impl<D: BuildBytes> BuildBytes for EdnsRecord<D> {
 
 /// Whole, with no name in it that is pointed to.
 impl<D: BuildBytes> BuildInMessage for EdnsRecord<D> {
-    ghost presses = { λ v. whole_presses (edns_octets v (D.octets v.content)) };
+    ghost writes = { λ v. octets_writes (edns_octets v (D.octets v.content)) };
 
     ghost fits_in = { λ v _ _. (length (D.octets v.content) < 2 ^ 16) × D.fits v.content };
 
-    ghost told = { λ _. tt };
+    ghost layout_matches = { λ _. tt };
 
     fn build_in_message(
         &self,
@@ -148,9 +152,9 @@ impl<D: BuildBytes> BuildInMessage for EdnsRecord<D> {
 }
 
 impl<D> EdnsRecord<D> {
-    /// Whether the fields of both in front of their data are the same.
-    fn same_front<E>(&self, that: &EdnsRecord<E>) -> bool
-        ensures { IsTrue result ↔ SameFront self.now that.now }
+    /// Whether the fields of both before their data are the same.
+    fn same_prefix<E>(&self, that: &EdnsRecord<E>) -> bool
+        ensures { IsTrue result ↔ SamePrefix self.now that.now }
     {
         self.max_udp_payload == that.max_udp_payload
             && self.ext_rcode == that.ext_rcode
@@ -161,9 +165,9 @@ impl<D> EdnsRecord<D> {
     /// Whether the fields of both are the same, and the function answers so of their data.
     pub fn eq_record<E, F: Fn(&D, &E) -> bool>(&self, that: &EdnsRecord<E>, same: F) -> bool
         requires { TakesTwo F.Fn same self.now.content that.now.content }
-        ensures fields { IsTrue result → SameFront self.now that.now }
-        ensures content { SameFront self.now that.now → AnswersTwo F.Fn same self.now.content that.now.content result }
+        ensures fields { IsTrue result → SamePrefix self.now that.now }
+        ensures content { SamePrefix self.now that.now → AnswersTwo F.Fn same self.now.content that.now.content result }
     {
-        self.same_front(that) && same(self.content.inner(), that.content.inner())
+        self.same_prefix(that) && same(self.content.inner(), that.content.inner())
     }
 }

@@ -17,8 +17,9 @@ pub use boxed_record_data::BoxedRecordData;
 pub use edns_laws::edns_records_come_back;
 pub use edns_record::EdnsRecord;
 pub use laws::{
-    data_of_any_type_are_equal_by_fields, data_of_any_type_are_hashed_by_fields,
-    edns_records_are_equal_by_fields, kept_data_are_as_read, unknown_data_are_compared_by_octets,
+    boxed_data_are_as_read, data_of_any_type_are_equal_by_fields,
+    data_of_any_type_are_hashed_by_fields, edns_records_are_equal_by_fields,
+    unknown_data_are_compared_by_octets,
 };
 pub use record_data::RecordData;
 pub use typed_record::{old_new, old_new_box};

@@ -8,10 +8,10 @@ ghost use Rattle.std.specs.Ordering.{nat_cmp};
 ghost use Rattle.dns_record.specs.Canonical.{ranked_cmp};
 ghost use Rattle.dns_record.specs.Data.{data_as, data_in};
 ghost use Rattle.dns_record.specs.Fields.{FieldOf, named_by, canonical_octets};
-ghost use Rattle.dns_record.specs.InMessage.{fields_press, fields_fit, fields_tell};
-ghost use Rattle.dns_rdata.specs.Written.{as_many};
-ghost use Rattle.dns_record.specs.Rows.{has_row};
-ghost use Rattle.dns_record.specs.Told.{told_fields};
+ghost use Rattle.dns_record.specs.InMessage.{fields_write, fields_fit, fields_layout};
+ghost use Rattle.dns_rdata.specs.CanonicalSizes.{as_many};
+ghost use Rattle.dns_record.specs.Formats.{has_rdata_format};
+ghost use Rattle.dns_record.proofs.FieldLayoutLemmas.{fields_match};
 ghost use Rattle.std.specs.Fn.{CalledAt, TakesAt};
 ghost use Rattle.dns_rdata.specs.Mapping.{TakesNames, HoldsGiven, without_names};
 ghost use Rattle.dns_rdata.specs.Data.{data_fields, type_number, IsProper, IsDataOf, NamesFit, written_fields};
@@ -32,9 +32,9 @@ use dns_wire::{
 use std::alloc::AllocError;
 use std::cmp::Ordering;
 
-/// Whether the type has a row of its own.
-fn has_row(rtype: RType) -> bool
-    ensures { result ≡ has_row rtype.code.value }
+/// Whether the type has an RDATA format of its own.
+fn has_rdata_format(rtype: RType) -> bool
+    ensures { result ≡ has_rdata_format rtype.code.value }
 {
     matches!(
         rtype,
@@ -110,7 +110,7 @@ pub enum RecordData<'a, N> {
     CDNSKey(CDNSKey<'a>),
     /// The digest of a zone (RFC 8976 section 2.2).
     ZoneMD(ZoneMD<&'a [u8]>),
-    /// Data of a type that has no row of its own (RFC 3597).
+    /// Data of a type that has no RDATA format of its own (RFC 3597).
     Unknown(RType, UnknownRecordData<'a>),
 }
 
@@ -165,12 +165,12 @@ impl<'a, N> RecordData<'a, N> {
         }
     }
 
-    /// Whether the data are not unknown octets under the number of a type that has a row.
+    /// Whether the data are not unknown octets under the number of a type that has an RDATA format.
     pub fn is_proper(&self) -> bool
         ensures { IsTrue result ↔ IsProper self.now }
     {
         match self {
-            RecordData::Unknown(rtype, _) => !has_row(*rtype),
+            RecordData::Unknown(rtype, _) => !has_rdata_format(*rtype),
             _ => true,
         }
     }
@@ -360,13 +360,13 @@ impl<N: BuildBytes> BuildBytes for RecordData<'_, N> {
 
 /// Names that pointers may lead through as their type writes them in a message, all else whole.
 impl<N: BuildInMessage> BuildInMessage for RecordData<'_, N> {
-    ghost presses = { λ v. fields_press N.presses (data_fields v) };
+    ghost writes = { λ v. fields_write N.writes (data_fields v) };
 
-    ghost fits_in = { λ v. fields_fit N.fits_in N.presses (data_fields v) };
+    ghost fits_in = { λ v. fields_fit N.fits_in N.writes (data_fields v) };
 
-    ghost pieces = { λ v. fields_tell N.pieces (data_fields v) };
+    ghost layout = { λ v. fields_layout N.layout (data_fields v) };
 
-    ghost told = { λ v. told_fields N.presses N.pieces N.told (data_fields v) };
+    ghost layout_matches = { λ v. fields_match N.writes N.layout N.layout_matches (data_fields v) };
 
     fn build_in_message(
         &self,
@@ -439,7 +439,7 @@ impl<N: CanonicalName> RecordData<'_, N> {
     }
 }
 
-/// The fields in order, names in small letters where the type is one of the nine.
+/// The fields in order, names in lowercase where the type is one of the nine.
 impl<N: CanonicalName> CanonicalRecordData for RecordData<'_, N> {
     ghost canonical = { λ v. canonical_octets (type_number v) (map (named_by N.name) (data_fields v)) };
 

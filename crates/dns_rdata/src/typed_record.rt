@@ -2,7 +2,7 @@
 
 ghost use Rattle.std.specs.Prelude.{◌≡◌};
 ghost use Rattle.dns_rdata.specs.Data.{type_number};
-ghost use Rattle.dns_rdata.specs.Kept.{kept_type};
+ghost use Rattle.dns_rdata.specs.BoxedValue.{boxed_type};
 
 use crate::boxed_record_data::BoxedRecordData;
 use crate::record_data::RecordData;
@@ -16,7 +16,7 @@ pub fn old_new<'a, N>(
     rdata: RecordData<'a, N>,
 ) -> Record<N, RecordData<'a, N>>
     ensures typed { result.rtype.code.value ≡ type_number rdata.entry }
-    ensures kept { (result.rname ≡ rname) × (result.rclass ≡ rclass) × (result.ttl ≡ ttl) × (result.rdata ≡ rdata.entry) }
+    ensures unchanged { (result.rname ≡ rname) × (result.rclass ≡ rclass) × (result.ttl ≡ ttl) × (result.rdata ≡ rdata.entry) }
 {
     let rtype = rdata.rtype();
     Record::new(rname, rtype, rclass, ttl, rdata)
@@ -29,8 +29,8 @@ pub fn old_new_box<N>(
     ttl: TTL,
     rdata: BoxedRecordData,
 ) -> Record<N, BoxedRecordData>
-    ensures typed { result.rtype.code.value ≡ kept_type rdata }
-    ensures kept { (result.rname ≡ rname) × (result.rclass ≡ rclass) × (result.ttl ≡ ttl) × (result.rdata ≡ rdata) }
+    ensures typed { result.rtype.code.value ≡ boxed_type rdata }
+    ensures unchanged { (result.rname ≡ rname) × (result.rclass ≡ rclass) × (result.ttl ≡ ttl) × (result.rdata ≡ rdata) }
 {
     Record::new(rname, rdata.rtype(), rclass, ttl, rdata)
 }

@@ -1,13 +1,13 @@
-//! Data of types that have no row.
+//! Data of types that have no RDATA format.
 
 ghost use Rattle.std.specs.Prelude.{◌≡◌, ℕ, List, [], ◌∷◌, Some, ⊤};
 ghost use Rattle.std.proofs.Common.{refl};
-ghost use Rattle.dns_wire.specs.Left.{plain_ends};
-ghost use Rattle.dns_wire.specs.Pieces.{whole_presses};
-ghost use Rattle.dns_wire.specs.Pieces.Piece.{Whole};
-ghost use Rattle.dns_wire.specs.Told.{told_piece};
+ghost use Rattle.dns_wire.specs.ReadingLemmas.{plain_ends};
+ghost use Rattle.dns_wire.specs.Layout.{octets_writes};
+ghost use Rattle.dns_wire.specs.Layout.LayoutPart.{OctetsPart};
+ghost use Rattle.dns_wire.specs.LayoutLemmas.{part_matches};
 ghost use Rattle.dns_wire.specs.Reading.{plain_at};
-ghost use Rattle.dns_edns.specs.Left.{everything_leaves};
+ghost use Rattle.dns_edns.specs.OptionsLemmas.{everything_leaves};
 ghost use Rattle.dns_edns.specs.Options.{everything};
 
 use dns_record::CanonicalRecordData;
@@ -17,7 +17,7 @@ use dns_wire::{
 };
 use std::cmp::Ordering;
 
-/// The data of a record whose type has no row here, as they stand (RFC 3597 section 3).
+/// The data of a record whose type has no RDATA format here, as they stand (RFC 3597 section 3).
 #[derive(Clone, Copy, Debug, PartialEq, Eq, Hash)]
 pub struct UnknownRecordData<'a> {
     /// The octets, of any number.
@@ -63,11 +63,11 @@ impl BuildBytes for UnknownRecordData<'_> {
 
 /// Whole, with no name in it.
 impl BuildInMessage for UnknownRecordData<'_> {
-    ghost presses = { λ v. whole_presses v.octets.now };
+    ghost writes = { λ v. octets_writes v.octets.now };
 
-    ghost pieces = { λ v. Some (Whole v.octets.now ∷ []) };
+    ghost layout = { λ v. Some (OctetsPart v.octets.now ∷ []) };
 
-    ghost told = { λ v. told_piece (Whole v.octets.now) };
+    ghost layout_matches = { λ v. part_matches (OctetsPart v.octets.now) };
 
     fn build_in_message(
         &self,

@@ -6,8 +6,8 @@ use Rattle.std.proofs.lemmas.List.{length-append}
 use Rattle.std.proofs.lemmas.Option.{some_pair_parts}
 use Rattle.dns_wire.specs.Steps.{◌>>=◌}
 use Rattle.dns_record.specs.InPlace.{AreBits, AreWindows, WindowsFrom}
-use Rattle.dns_record.specs.Texts.{text}
-use Rattle.dns_record.specs.Windows.{Window, are_bits, window_if, window, windows_within, windows_of, is_some, is_bitmap, windows_octets}
+use Rattle.dns_record.specs.CharacterStrings.{character_string}
+use Rattle.dns_record.specs.TypeBitMaps.{Window, are_bits, window_if, window, windows_within, windows_of, is_some, is_bitmap, windows_octets}
 use Rattle.dns_record.proofs.Places.{text_spelled, text_read}
 
 -- ---- bits
@@ -48,8 +48,8 @@ these number bits = record { number = number; bits = bits }
 
 pub window_is : (least : ℕ) (bytes : List ℕ) (w : Window) (rest : List ℕ) → window least bytes ≡ Some (w, rest) → IsWindow least bytes w rest
 window_is least [] w rest e = absurd cc
-window_is least (number ∷ more) w rest e = by (text more) refl e where
-  good : (bits after : List ℕ) → text more ≡ Some (bits, after) → (b : Bool) → (not (ltb number least) && are_bits bits) ≡ b → cond {A = Option (Window × List ℕ)} b (Some (these number bits, after)) None ≡ Some (w, rest) → IsWindow least (number ∷ more) w rest
+window_is least (number ∷ more) w rest e = by (character_string more) refl e where
+  good : (bits after : List ℕ) → character_string more ≡ Some (bits, after) → (b : Bool) → (not (ltb number least) && are_bits bits) ≡ b → cond {A = Option (Window × List ℕ)} b (Some (these number bits, after)) None ≡ Some (w, rest) → IsWindow least (number ∷ more) w rest
   good bits after read false test h = absurd cc
   good bits after read true test h =
       let same = some_pair_parts (these number bits) w after rest h in
@@ -63,7 +63,7 @@ window_is least (number ∷ more) w rest e = by (text more) refl e where
         few true is h = absurd cc
         few false is h = ltb-false number least is
 
-  by : (read : Option (List ℕ × List ℕ)) → text more ≡ read → window_if least number read ≡ Some (w, rest) → IsWindow least (number ∷ more) w rest
+  by : (read : Option (List ℕ × List ℕ)) → character_string more ≡ read → window_if least number read ≡ Some (w, rest) → IsWindow least (number ∷ more) w rest
   by None is h = absurd cc
   by (Some (bits, after)) is h = good bits after is (not (ltb number least) && are_bits bits) refl h
 

@@ -1,12 +1,13 @@
 -- The crate's own lemmas.
-pub mod Bare
+pub mod UncompressedNames
 pub mod Bitmaps
-pub mod Compared
-pub mod EachRow
-pub mod Named
+pub mod ComparedOctets
+pub mod EachFormat
+pub mod CompressibleNames
 pub mod Opted
 pub mod Places
 pub mod Sizes
 pub mod Stepped
-pub mod Strings
+pub mod CharacterStringLemmas
 pub mod Worded
+pub mod FieldLayoutLemmas

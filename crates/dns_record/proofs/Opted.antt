@@ -143,7 +143,7 @@ are_these_options bytes o =
     let good : are_some (options_of bytes) ≡ true = ap are_some (options_found bytes o) in
     rw (few, good) refl
 
--- what is behind an option is shorter
+-- what is after an option is shorter
 pub option_shorter : (bytes : List ℕ) (found : OptionSeen) (rest : List ℕ) → option bytes ≡ Some (found, rest) → length rest < length bytes
 option_shorter bytes found rest e =
     let o = option_is bytes found rest e in

@@ -6,9 +6,9 @@ use Rattle.std.proofs.lemmas.List.{take_at, drop_at, take-append-drop, length-ap
 use Rattle.std.proofs.lemmas.Option.{some_pair_parts}
 use Rattle.dns_wire.specs.Reading.{octet, octets, number, plain_at, with_end}
 use Rattle.dns_record.specs.InPlace.{OctetsAt, NumberAt}
-use Rattle.dns_record.specs.Texts.{text}
+use Rattle.dns_record.specs.CharacterStrings.{character_string}
 
--- ---- at a place, and at the front
+-- ---- at a place, and at the start
 
 -- what a grammar reads from a place on, and where that ends
 pub record Placed {Y : Type 0} (grammar : List ℕ → Option (Y × List ℕ)) (contents : List ℕ) (at : ℕ) (y : Y) (end : ℕ) : Type 0 where
@@ -34,7 +34,7 @@ read_placed {Y} grammar contents at y end p =
 
 -- ---- octets
 
--- octets at the front from a place on
+-- octets at the start from a place on
 pub octets_stand : (contents : List ℕ) (at : ℕ) (found rest : List ℕ) (end : ℕ) → at ≤ length contents → drop at contents ≡ found ++ rest → end ≡ length contents - length rest → OctetsAt contents at found end
 octets_stand contents at found rest end within is end_is =
     let long : length contents - at ≡ length found + length rest = sym (length-drop at contents) ∙ ap length is ∙ length-append found rest in
@@ -44,13 +44,13 @@ octets_stand contents at found rest end within is end_is =
       stand = sym (ap (take (length found)) is ∙ take_at found rest (length found) refl);
     }
 
-pub record InFront (contents : List ℕ) (at : ℕ) (found : List ℕ) (end : ℕ) : Type 0 where
+pub record InPrefix (contents : List ℕ) (at : ℕ) (found : List ℕ) (end : ℕ) : Type 0 where
   pub within : at ≤ length contents
   pub is : drop at contents ≡ found ++ drop end contents
   pub end_is : end ≡ length contents - length (drop end contents)
 
-pub in_front : (contents : List ℕ) (at : ℕ) (found : List ℕ) (end : ℕ) → OctetsAt contents at found end → InFront contents at found end
-in_front contents at found end o = record {
+pub in_prefix : (contents : List ℕ) (at : ℕ) (found : List ℕ) (end : ℕ) → OctetsAt contents at found end → InPrefix contents at found end
+in_prefix contents at found end o = record {
   within = omega (arith, o.end_is, o.within);
   is = sym (take-append-drop (length found) (drop at contents)) ∙ ap (λ (l : List ℕ). l ++ drop (length found) (drop at contents)) (sym o.stand)
       ∙ ap (λ (l : List ℕ). found ++ l) (drop-drop (length found) at contents ∙ ap (λ (n : ℕ). drop n contents) (sym o.end_is));
@@ -69,7 +69,7 @@ pub read_at : {Y : Type 0} (grammar : List ℕ → Option (Y × List ℕ)) (writ
     → ((rest : List ℕ) → grammar (write y ++ rest) ≡ Some (y, rest))
     → OctetsAt contents at (write y) end → plain_at grammar contents at ≡ Some (y, end)
 read_at grammar write contents at y end reads o =
-    let f = in_front contents at (write y) end o in
+    let f = in_prefix contents at (write y) end o in
     read_placed grammar contents at y end (record { within = f.within; rest = drop end contents; read = ap grammar f.is ∙ reads (drop end contents); end_is = f.end_is })
 
 -- ---- the grammars of kinds
@@ -93,7 +93,7 @@ octets_read n found rest long =
     let fits : ltb (length (found ++ rest)) n ≡ false = le-ltb _ _ (omega (arith, length-append found rest, long)) in
     rw (fits, take_at found rest n long, drop_at found rest n long) refl
 
-pub text_spelled : (bytes found rest : List ℕ) → text bytes ≡ Some (found, rest) → bytes ≡ (length found ∷ found) ++ rest
+pub text_spelled : (bytes found rest : List ℕ) → character_string bytes ≡ Some (found, rest) → bytes ≡ (length found ∷ found) ++ rest
 text_spelled [] found rest e = absurd cc
 text_spelled (size ∷ more) found rest e = by (ltb (length more) size) refl e where
   by : (b : Bool) → ltb (length more) size ≡ b → cond {A = Option (List ℕ × List ℕ)} b None (Some (take size more, drop size more)) ≡ Some (found, rest) → size ∷ more ≡ (length found ∷ found) ++ rest
@@ -104,7 +104,7 @@ text_spelled (size ∷ more) found rest e = by (ltb (length more) size) refl e w
       ap (λ (l : List ℕ). size ∷ l) (sym (take-append-drop size more) ∙ ap (λ (l : List ℕ). l ++ drop size more) same.0 ∙ ap (λ (l : List ℕ). found ++ l) same.1)
       ∙ ap (λ (n : ℕ). n ∷ (found ++ rest)) (sym long)
 
-pub text_read : (found rest : List ℕ) → text ((length found ∷ found) ++ rest) ≡ Some (found, rest)
+pub text_read : (found rest : List ℕ) → character_string ((length found ∷ found) ++ rest) ≡ Some (found, rest)
 text_read found rest =
     let fits : ltb (length (found ++ rest)) (length found) ≡ false = le-ltb _ _ (omega (arith, length-append found rest)) in
     rw (fits, take_at found rest (length found) refl, drop_at found rest (length found) refl) refl

@@ -14,19 +14,19 @@ use Rattle.dns_wire.proofs.Following.{name_at_is, name_at_finds}
 use Rattle.dns_wire.proofs.Spelled.{plain_name_takes, plain_name_again}
 use Rattle.dns_record.specs.Data.{data_in}
 use Rattle.dns_record.specs.Fields.{Field}
-use Rattle.dns_record.specs.Fields.FieldOf.{Named, Bare, Raw, Sized, Byte, Number}
-use Rattle.dns_record.specs.InPlace.{OctetsAt, AreTexts, AreOptions, AreWindows, FieldAt, FieldsAt, DataAt, QuestionAt, RecordAt}
+use Rattle.dns_record.specs.Fields.FieldOf.{Compressible, Uncompressed, Raw, Sized, Byte, Number}
+use Rattle.dns_record.specs.InPlace.{OctetsAt, AreCharacterStrings, AreOptions, AreWindows, FieldAt, FieldsAt, DataAt, QuestionAt, RecordAt}
 use Rattle.dns_record.specs.Kinds.{Kind, field_in, fields_in}
-use Rattle.dns_record.specs.Kinds.Kind.{OneByte, OneNumber, SoMany, Pointed, Plain, Text, Texts, Options, Windows, SomeWindows, Rest}
+use Rattle.dns_record.specs.Kinds.Kind.{OneByte, OneNumber, SoMany, CompressibleName, UncompressedName, CharacterString, CharacterStrings, Options, TypeBitMaps, NonEmptyTypeBitMaps, Rest}
 use Rattle.dns_record.specs.Questions.{QuestionOf, question_in}
 use Rattle.dns_record.specs.Records.{RecordOf, record_in, end_of}
-use Rattle.dns_record.specs.Rows.{row}
+use Rattle.dns_record.specs.Formats.{rdata_format}
 use Rattle.dns_record.specs.Options.{options, is_option_data}
-use Rattle.dns_record.specs.Texts.{text, texts, is_text_data}
-use Rattle.dns_record.specs.Windows.{bitmap, some_bitmap, is_bitmap}
+use Rattle.dns_record.specs.CharacterStrings.{character_string, character_strings, is_text_data}
+use Rattle.dns_record.specs.TypeBitMaps.{bitmap, some_bitmap, is_bitmap}
 use Rattle.dns_record.proofs.Bitmaps.{bitmap_is, is_this_bitmap}
 use Rattle.dns_record.proofs.Opted.{options_are, are_these_options}
-use Rattle.dns_record.proofs.Strings.{are_texts, texts_are}
+use Rattle.dns_record.proofs.CharacterStringLemmas.{are_character_strings, character_strings_are}
 use Rattle.dns_record.proofs.Places.{placed, stands_at, read_at, read_placed, octet_spelled, octets_spelled, octets_read, text_spelled, text_read, number_at, read_number}
 
 -- ---- steps
@@ -128,32 +128,32 @@ field_is (SoMany n) contents at field end e =
     let q = placed (octets n) contents at p.value end p.first in
     subst (λ (f : Field). FieldAt (SoMany n) contents at f end) p.is
     ((octets_spelled n (drop at contents) p.value q.rest q.read).0, stands_at (octets n) (λ o. o) contents at p.value end (λ rest read. (octets_spelled n (drop at contents) p.value rest read).1) p.first)
-field_is Pointed contents at field end e =
-    let p = put_in Named (name_at contents at) field end e in
-    subst (λ (f : Field). FieldAt Pointed contents at f end) p.is (name_at_is contents at p.value end p.first)
-field_is Plain contents at field end e =
-    let p = put_in Bare (plain_at plain_name contents at) field end e in
+field_is CompressibleName contents at field end e =
+    let p = put_in Compressible (name_at contents at) field end e in
+    subst (λ (f : Field). FieldAt CompressibleName contents at f end) p.is (name_at_is contents at p.value end p.first)
+field_is UncompressedName contents at field end e =
+    let p = put_in Uncompressed (plain_at plain_name contents at) field end e in
     let q = placed plain_name contents at p.value end p.first in
-    subst (λ (f : Field). FieldAt Plain contents at f end) p.is
+    subst (λ (f : Field). FieldAt UncompressedName contents at f end) p.is
     (record {
       name = (plain_name_takes (drop at contents) p.value q.rest q.read).0;
       stands = stands_at plain_name wire contents at p.value end (λ rest read. (plain_name_takes (drop at contents) p.value rest read).1) p.first;
     })
-field_is Text contents at field end e =
-    let p = put_in Sized (plain_at text contents at) field end e in
-    subst (λ (f : Field). FieldAt Text contents at f end) p.is (stands_at text (λ o. length o ∷ o) contents at p.value end (λ rest read. text_spelled (drop at contents) p.value rest read) p.first)
-field_is Texts contents at field end e =
-    let p = put_in Raw (plain_at texts contents at) field end e in
-    subst (λ (f : Field). FieldAt Texts contents at f end) p.is (tested_spelled is_text_data AreTexts texts_are contents at p.value end p.first)
+field_is CharacterString contents at field end e =
+    let p = put_in Sized (plain_at character_string contents at) field end e in
+    subst (λ (f : Field). FieldAt CharacterString contents at f end) p.is (stands_at character_string (λ o. length o ∷ o) contents at p.value end (λ rest read. text_spelled (drop at contents) p.value rest read) p.first)
+field_is CharacterStrings contents at field end e =
+    let p = put_in Raw (plain_at character_strings contents at) field end e in
+    subst (λ (f : Field). FieldAt CharacterStrings contents at f end) p.is (tested_spelled is_text_data AreCharacterStrings character_strings_are contents at p.value end p.first)
 field_is Options contents at field end e =
     let p = put_in Raw (plain_at options contents at) field end e in
     subst (λ (f : Field). FieldAt Options contents at f end) p.is (tested_spelled is_option_data AreOptions options_are contents at p.value end p.first)
-field_is Windows contents at field end e =
+field_is TypeBitMaps contents at field end e =
     let p = put_in Raw (plain_at bitmap contents at) field end e in
-    subst (λ (f : Field). FieldAt Windows contents at f end) p.is (tested_spelled is_bitmap AreWindows bitmap_is contents at p.value end p.first)
-field_is SomeWindows contents at field end e =
+    subst (λ (f : Field). FieldAt TypeBitMaps contents at f end) p.is (tested_spelled is_bitmap AreWindows bitmap_is contents at p.value end p.first)
+field_is NonEmptyTypeBitMaps contents at field end e =
     let p = put_in Raw (plain_at some_bitmap contents at) field end e in
-    subst (λ (f : Field). FieldAt SomeWindows contents at f end) p.is (some_spelled contents at p.value end p.first)
+    subst (λ (f : Field). FieldAt NonEmptyTypeBitMaps contents at f end) p.is (some_spelled contents at p.value end p.first)
 field_is Rest contents at field end e =
     let p = put_in Raw (plain_at (λ bytes. Some (bytes, [])) contents at) field end e in
     subst (λ (f : Field). FieldAt Rest contents at f end) p.is (rest_spelled contents at p.value end p.first)
@@ -171,13 +171,13 @@ field_found (OneNumber w) contents at (Number v n) end h =
     let read : first_to (Number w) (plain_at (number w) contents at) ≡ Some (Number w n, end) = ap (first_to (Number w)) (read_number w contents at n end h.1) in
     read ∙ ap (λ (u : Width). Some (Number u n, end)) (sym h.0)
 field_found (SoMany n) contents at (Raw found) end h = ap (first_to Raw) (read_at (octets n) (λ o. o) contents at found end (λ rest. octets_read n found rest h.0) h.1)
-field_found Pointed contents at (Named labels) end h = ap (first_to Named) (name_at_finds contents at labels end h)
-field_found Plain contents at (Bare labels) end h = ap (first_to Bare) (read_at plain_name wire contents at labels end (λ rest. plain_name_again (wire labels ++ rest) labels rest h.name refl) h.stands)
-field_found Text contents at (Sized found) end h = ap (first_to Sized) (read_at text (λ o. length o ∷ o) contents at found end (λ rest. text_read found rest) h)
-field_found Texts contents at (Raw found) end h = ap (first_to Raw) (tested_read is_text_data AreTexts contents at found end h.0 h.1 (are_texts found h.2))
+field_found CompressibleName contents at (Compressible labels) end h = ap (first_to Compressible) (name_at_finds contents at labels end h)
+field_found UncompressedName contents at (Uncompressed labels) end h = ap (first_to Uncompressed) (read_at plain_name wire contents at labels end (λ rest. plain_name_again (wire labels ++ rest) labels rest h.name refl) h.stands)
+field_found CharacterString contents at (Sized found) end h = ap (first_to Sized) (read_at character_string (λ o. length o ∷ o) contents at found end (λ rest. text_read found rest) h)
+field_found CharacterStrings contents at (Raw found) end h = ap (first_to Raw) (tested_read is_text_data AreCharacterStrings contents at found end h.0 h.1 (are_character_strings found h.2))
 field_found Options contents at (Raw found) end h = ap (first_to Raw) (tested_read is_option_data AreOptions contents at found end h.0 h.1 (are_these_options found h.2))
-field_found Windows contents at (Raw found) end h = ap (first_to Raw) (tested_read is_bitmap AreWindows contents at found end h.0 h.1 (is_this_bitmap found h.2))
-field_found SomeWindows contents at (Raw found) end h = ap (first_to Raw) (some_found contents at found end h.0 h.1 h.2 h.3)
+field_found TypeBitMaps contents at (Raw found) end h = ap (first_to Raw) (tested_read is_bitmap AreWindows contents at found end h.0 h.1 (is_this_bitmap found h.2))
+field_found NonEmptyTypeBitMaps contents at (Raw found) end h = ap (first_to Raw) (some_found contents at found end h.0 h.1 h.2 h.3)
 field_found Rest contents at (Raw found) end h = ap (first_to Raw) (rest_read contents at found end h.0 h.1)
 field_found kind contents at field end h = absurd h
 
@@ -208,15 +208,15 @@ fields_found (kind ∷ kinds) contents at fields end (field, next, others, here,
 
 pub data_is : (rtype : ℕ) (contents : List ℕ) (at : ℕ) (fields : List Field) → data_in name_at rtype contents at ≡ Some fields → DataAt rtype contents at fields
 unfolding data_in
-data_is rtype contents at fields e = by (fields_in name_at (row rtype) contents at) refl e where
-  whole : (found : List Field) (end : ℕ) → fields_in name_at (row rtype) contents at ≡ Some (found, end) → (b : Bool) → (end == length contents) ≡ b → cond b (Some found) None ≡ Some fields → DataAt rtype contents at fields
+data_is rtype contents at fields e = by (fields_in name_at (rdata_format rtype) contents at) refl e where
+  whole : (found : List Field) (end : ℕ) → fields_in name_at (rdata_format rtype) contents at ≡ Some (found, end) → (b : Bool) → (end == length contents) ≡ b → cond b (Some found) None ≡ Some fields → DataAt rtype contents at fields
   whole found end is false ends h = absurd cc
   whole found end is true ends h =
       let same : found ≡ fields = cc in
       let last : end ≡ length contents = grind (arith, nat_tests, ends) in
-      subst (λ (l : List Field). FieldsAt (row rtype) contents at l (length contents)) same (subst (λ (n : ℕ). FieldsAt (row rtype) contents at found n) last (fields_are (row rtype) contents at found end is))
+      subst (λ (l : List Field). FieldsAt (rdata_format rtype) contents at l (length contents)) same (subst (λ (n : ℕ). FieldsAt (rdata_format rtype) contents at found n) last (fields_are (rdata_format rtype) contents at found end is))
 
-  by : (read : Option (List Field × ℕ)) → fields_in name_at (row rtype) contents at ≡ read → all_at contents read ≡ Some fields → DataAt rtype contents at fields
+  by : (read : Option (List Field × ℕ)) → fields_in name_at (rdata_format rtype) contents at ≡ read → all_at contents read ≡ Some fields → DataAt rtype contents at fields
   by None is h = absurd cc
   by (Some (found, end)) is h = whole found end is (end == length contents) refl h
 
@@ -224,20 +224,20 @@ pub data_found : (rtype : ℕ) (contents : List ℕ) (at : ℕ) (fields : List F
 unfolding data_in
 data_found rtype contents at fields h =
     let ends : (length contents == length contents) ≡ true = grind (arith, nat_tests) in
-    let read : all_at contents (fields_in name_at (row rtype) contents at) ≡ all_at contents (Some (fields, length contents)) = ap (all_at contents) (fields_found (row rtype) contents at fields (length contents) h) in
+    let read : all_at contents (fields_in name_at (rdata_format rtype) contents at) ≡ all_at contents (Some (fields, length contents)) = ap (all_at contents) (fields_found (rdata_format rtype) contents at fields (length contents) h) in
     read ∙ rw ends refl
 
 -- ---- questions
 
-abbrev Asked : Type 0
-Asked = QuestionOf (List (List ℕ)) × ℕ
+abbrev QuestionItem : Type 0
+QuestionItem = QuestionOf (List (List ℕ)) × ℕ
 
 pub question_is : (contents : List ℕ) (at : ℕ) (question : QuestionOf (List (List ℕ))) (end : ℕ) → question_in name_at contents at ≡ Some (question, end) → QuestionAt contents at question end
 unfolding question_in
 question_is contents at question end e =
-    let s = stepped {B = Asked} (name_at contents at) (λ asked. plain_at (number w16) contents asked.1 >>= (λ qtype. plain_at (number w16) contents qtype.1 >>= (λ class. Some (record { name = asked.0; qtype = qtype.0; class = class.0 }, class.1)))) (question, end) e in
-    let t = stepped {B = Asked} (plain_at (number w16) contents s.value.1) (λ qtype. plain_at (number w16) contents qtype.1 >>= (λ class. Some (record { name = s.value.0; qtype = qtype.0; class = class.0 }, class.1))) (question, end) s.later in
-    let u = stepped {B = Asked} (plain_at (number w16) contents t.value.1) (λ class. Some (record { name = s.value.0; qtype = t.value.0; class = class.0 }, class.1)) (question, end) t.later in
+    let s = stepped {B = QuestionItem} (name_at contents at) (λ asked. plain_at (number w16) contents asked.1 >>= (λ qtype. plain_at (number w16) contents qtype.1 >>= (λ class. Some (record { name = asked.0; qtype = qtype.0; class = class.0 }, class.1)))) (question, end) e in
+    let t = stepped {B = QuestionItem} (plain_at (number w16) contents s.value.1) (λ qtype. plain_at (number w16) contents qtype.1 >>= (λ class. Some (record { name = s.value.0; qtype = qtype.0; class = class.0 }, class.1))) (question, end) s.later in
+    let u = stepped {B = QuestionItem} (plain_at (number w16) contents t.value.1) (λ class. Some (record { name = s.value.0; qtype = t.value.0; class = class.0 }, class.1)) (question, end) t.later in
     let same = some_pair_parts (record { name = s.value.0; qtype = t.value.0; class = u.value.0 }) question u.value.1 end u.later in
     subst (λ (q : QuestionOf (List (List ℕ))). QuestionAt contents at q end) same.0
     (record {
@@ -258,28 +258,28 @@ question_found contents at question end q =
 
 -- ---- records
 
-abbrev Rec : Type 0
-Rec = RecordOf (List (List ℕ)) (List Field)
+abbrev RecordValue : Type 0
+RecordValue = RecordOf (List (List ℕ)) (List Field)
 
--- what is read behind the owner, the type, the class, the time to live, the size, and up to the end
-abbrev to_content : List ℕ → List (List ℕ) → ℕ → ℕ → ℕ → ℕ → ℕ → Option (Rec × ℕ)
+-- what is read after the owner, the type, the class, the time to live, the size, and up to the end
+abbrev to_content : List ℕ → List (List ℕ) → ℕ → ℕ → ℕ → ℕ → ℕ → Option (RecordValue × ℕ)
 to_content contents owner rtype class ttl body end =
-    ◌>>=◌ {A = List Field} {B = Rec × ℕ} (data_in name_at rtype (take end contents) body) (λ content. Some (record { owner = owner; rtype = rtype; class = class; ttl = ttl; content = content }, end))
+    ◌>>=◌ {A = List Field} {B = RecordValue × ℕ} (data_in name_at rtype (take end contents) body) (λ content. Some (record { owner = owner; rtype = rtype; class = class; ttl = ttl; content = content }, end))
 
-abbrev to_end : List ℕ → List (List ℕ) → ℕ → ℕ → ℕ → ℕ × ℕ → Option (Rec × ℕ)
-to_end contents owner rtype class ttl size = ◌>>=◌ {A = ℕ} {B = Rec × ℕ} (end_of contents size.1 size.0) (λ end. to_content contents owner rtype class ttl size.1 end)
+abbrev to_end : List ℕ → List (List ℕ) → ℕ → ℕ → ℕ → ℕ × ℕ → Option (RecordValue × ℕ)
+to_end contents owner rtype class ttl size = ◌>>=◌ {A = ℕ} {B = RecordValue × ℕ} (end_of contents size.1 size.0) (λ end. to_content contents owner rtype class ttl size.1 end)
 
-abbrev to_size : List ℕ → List (List ℕ) → ℕ → ℕ → ℕ × ℕ → Option (Rec × ℕ)
-to_size contents owner rtype class ttl = ◌>>=◌ {A = ℕ × ℕ} {B = Rec × ℕ} (plain_at (number w16) contents ttl.1) (λ size. to_end contents owner rtype class ttl.0 size)
+abbrev to_size : List ℕ → List (List ℕ) → ℕ → ℕ → ℕ × ℕ → Option (RecordValue × ℕ)
+to_size contents owner rtype class ttl = ◌>>=◌ {A = ℕ × ℕ} {B = RecordValue × ℕ} (plain_at (number w16) contents ttl.1) (λ size. to_end contents owner rtype class ttl.0 size)
 
-abbrev to_ttl : List ℕ → List (List ℕ) → ℕ → ℕ × ℕ → Option (Rec × ℕ)
-to_ttl contents owner rtype class = ◌>>=◌ {A = ℕ × ℕ} {B = Rec × ℕ} (plain_at (number w32) contents class.1) (λ ttl. to_size contents owner rtype class.0 ttl)
+abbrev to_ttl : List ℕ → List (List ℕ) → ℕ → ℕ × ℕ → Option (RecordValue × ℕ)
+to_ttl contents owner rtype class = ◌>>=◌ {A = ℕ × ℕ} {B = RecordValue × ℕ} (plain_at (number w32) contents class.1) (λ ttl. to_size contents owner rtype class.0 ttl)
 
-abbrev to_class : List ℕ → List (List ℕ) → ℕ × ℕ → Option (Rec × ℕ)
-to_class contents owner rtype = ◌>>=◌ {A = ℕ × ℕ} {B = Rec × ℕ} (plain_at (number w16) contents rtype.1) (λ class. to_ttl contents owner rtype.0 class)
+abbrev to_class : List ℕ → List (List ℕ) → ℕ × ℕ → Option (RecordValue × ℕ)
+to_class contents owner rtype = ◌>>=◌ {A = ℕ × ℕ} {B = RecordValue × ℕ} (plain_at (number w16) contents rtype.1) (λ class. to_ttl contents owner rtype.0 class)
 
-abbrev to_type : List ℕ → List (List ℕ) × ℕ → Option (Rec × ℕ)
-to_type contents owner = ◌>>=◌ {A = ℕ × ℕ} {B = Rec × ℕ} (plain_at (number w16) contents owner.1) (λ rtype. to_class contents owner.0 rtype)
+abbrev to_type : List ℕ → List (List ℕ) × ℕ → Option (RecordValue × ℕ)
+to_type contents owner = ◌>>=◌ {A = ℕ × ℕ} {B = RecordValue × ℕ} (plain_at (number w16) contents owner.1) (λ rtype. to_class contents owner.0 rtype)
 
 record Ends (contents : List ℕ) (at size end : ℕ) : Type 0 where
   is : end ≡ at + size
@@ -293,19 +293,19 @@ ends contents at size end e = by (ltb (length contents) (at + size)) refl e wher
       let same : at + size ≡ end = cc in
       record { is = sym same; within = subst (λ (n : ℕ). n ≤ length contents) same (ltb-false (length contents) (at + size) le) }
 
-pub record_is : (contents : List ℕ) (at : ℕ) (r : Rec) (end : ℕ) → record_in name_at (data_in name_at) contents at ≡ Some (r, end) → RecordAt contents at r end
+pub record_is : (contents : List ℕ) (at : ℕ) (r : RecordValue) (end : ℕ) → record_in name_at (data_in name_at) contents at ≡ Some (r, end) → RecordAt contents at r end
 unfolding record_in
 record_is contents at r end e =
-    let a = stepped {B = Rec × ℕ} (name_at contents at) (to_type contents) (r, end) e in
-    let b = stepped {B = Rec × ℕ} (plain_at (number w16) contents a.value.1) (to_class contents a.value.0) (r, end) a.later in
-    let c = stepped {B = Rec × ℕ} (plain_at (number w16) contents b.value.1) (to_ttl contents a.value.0 b.value.0) (r, end) b.later in
-    let d = stepped {B = Rec × ℕ} (plain_at (number w32) contents c.value.1) (to_size contents a.value.0 b.value.0 c.value.0) (r, end) c.later in
-    let f = stepped {B = Rec × ℕ} (plain_at (number w16) contents d.value.1) (to_end contents a.value.0 b.value.0 c.value.0 d.value.0) (r, end) d.later in
-    let g = stepped {B = Rec × ℕ} (end_of contents f.value.1 f.value.0) (to_content contents a.value.0 b.value.0 c.value.0 d.value.0 f.value.1) (r, end) f.later in
-    let h = stepped {A = List Field} {B = Rec × ℕ} (data_in name_at b.value.0 (take g.value contents) f.value.1) (λ content. Some (record { owner = a.value.0; rtype = b.value.0; class = c.value.0; ttl = d.value.0; content = content }, g.value)) (r, end) g.later in
+    let a = stepped {B = RecordValue × ℕ} (name_at contents at) (to_type contents) (r, end) e in
+    let b = stepped {B = RecordValue × ℕ} (plain_at (number w16) contents a.value.1) (to_class contents a.value.0) (r, end) a.later in
+    let c = stepped {B = RecordValue × ℕ} (plain_at (number w16) contents b.value.1) (to_ttl contents a.value.0 b.value.0) (r, end) b.later in
+    let d = stepped {B = RecordValue × ℕ} (plain_at (number w32) contents c.value.1) (to_size contents a.value.0 b.value.0 c.value.0) (r, end) c.later in
+    let f = stepped {B = RecordValue × ℕ} (plain_at (number w16) contents d.value.1) (to_end contents a.value.0 b.value.0 c.value.0 d.value.0) (r, end) d.later in
+    let g = stepped {B = RecordValue × ℕ} (end_of contents f.value.1 f.value.0) (to_content contents a.value.0 b.value.0 c.value.0 d.value.0 f.value.1) (r, end) f.later in
+    let h = stepped {A = List Field} {B = RecordValue × ℕ} (data_in name_at b.value.0 (take g.value contents) f.value.1) (λ content. Some (record { owner = a.value.0; rtype = b.value.0; class = c.value.0; ttl = d.value.0; content = content }, g.value)) (r, end) g.later in
     let same = some_pair_parts (record { owner = a.value.0; rtype = b.value.0; class = c.value.0; ttl = d.value.0; content = h.value }) r g.value end h.later in
     let last = ends contents f.value.1 f.value.0 g.value g.first in
-    subst (λ (found : Rec). RecordAt contents at found end) same.0
+    subst (λ (found : RecordValue). RecordAt contents at found end) same.0
     (subst (λ (n : ℕ). RecordAt contents at (record { owner = a.value.0; rtype = b.value.0; class = c.value.0; ttl = d.value.0; content = h.value }) n) same.1
     (record {
       owner_end = a.value.1;
@@ -324,7 +324,7 @@ record_is contents at r end e =
       content = data_is b.value.0 (take g.value contents) f.value.1 h.value h.first;
     }))
 
-pub record_found : (contents : List ℕ) (at : ℕ) (r : Rec) (end : ℕ) → RecordAt contents at r end → record_in name_at (data_in name_at) contents at ≡ Some (r, end)
+pub record_found : (contents : List ℕ) (at : ℕ) (r : RecordValue) (end : ℕ) → RecordAt contents at r end → record_in name_at (data_in name_at) contents at ≡ Some (r, end)
 unfolding record_in
 record_found contents at r end q =
     let owner = name_at_finds contents at r.owner q.owner_end q.owner in

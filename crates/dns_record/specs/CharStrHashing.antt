@@ -1,11 +1,11 @@
--- What a character string feeds a hasher. Strings that are the same, ASCII case aside, feed it the same octets.
+-- What a character string feeds a hasher. Strings that are the same, ignoring ASCII case, feed it the same octets.
 use Rattle.std.specs.Prelude.{◌≡◌, ℕ, List, [], ◌∷◌, true}
 use Rattle.std.specs.Cmp.Lexicographic.{bytes_decides}
 use Rattle.std.specs.Str.{str_to_ascii_lowercase}
 use Rattle.std.proofs.Common.{ap}
 use Rattle.dns_record.specs.CharStrs.{charstr_wire, same_charstr}
 
--- one write: the number of the octets, and the octets in small letters
+-- one write: the number of the octets, and the octets in lowercase
 abbrev pub charstr_writes : List ℕ → List (List ℕ)
 charstr_writes octets = charstr_wire (str_to_ascii_lowercase octets) ∷ []
 

@@ -1,4 +1,4 @@
--- Character strings: at most 255 octets, which stand on the wire behind an octet with their number (RFC 1035 section 3.3).
+-- Character strings: at most 255 octets, which stand on the wire after an octet with their number (RFC 1035 section 3.3).
 -- `text` of `Kinds` reads them.
 use Rattle.std.specs.Prelude.{ℕ, ◌<◌, Bool, List, ◌∷◌, length, drop, nat_eq}
 use Rattle.std.specs.Cmp.Lexicographic.{pointwise}
@@ -16,6 +16,6 @@ charstr_wire octets = length octets ∷ octets
 abbrev pub octets_of : List ℕ → List ℕ
 octets_of wire = drop 1 wire
 
--- octet by octet the same, in small letters (RFC 1035 section 2.3.3)
+-- octet by octet the same, in lowercase (RFC 1035 section 2.3.3)
 abbrev pub same_charstr : List ℕ → List ℕ → Bool
 same_charstr a b = pointwise nat_eq (str_to_ascii_lowercase a) (str_to_ascii_lowercase b)

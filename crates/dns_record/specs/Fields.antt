@@ -5,10 +5,10 @@ use Rattle.dns_wire.specs.Names.{wire, lowered}
 use Rattle.dns_record.specs.Types.{is_lowercased}
 
 -- A name that in a message may have pointers, which is seen as its type sees it; a name without pointers, by its labels;
--- octets, octets behind an octet with their number, one octet, or a number of so many bits.
+-- octets, octets after an octet with their number, one octet, or a number of that many bits.
 pub data FieldOf (N : Type 0) : Type 0 where
-  Named : N → FieldOf N
-  Bare : List (List ℕ) → FieldOf N
+  Compressible : N → FieldOf N
+  Uncompressed : List (List ℕ) → FieldOf N
   Raw : List ℕ → FieldOf N
   Sized : List ℕ → FieldOf N
   Byte : ℕ → FieldOf N
@@ -20,8 +20,8 @@ Field = FieldOf (List (List ℕ))
 
 -- the field with what is seen of its name
 abbrev pub named_by : {N S : Type 0} → (N → S) → FieldOf N → FieldOf S
-named_by name (Named n) = Named (name n)
-named_by name (Bare labels) = Bare labels
+named_by name (Compressible n) = Compressible (name n)
+named_by name (Uncompressed labels) = Uncompressed labels
 named_by name (Raw octets) = Raw octets
 named_by name (Sized octets) = Sized octets
 named_by name (Byte b) = Byte b
@@ -31,8 +31,8 @@ named_by name (Number w n) = Number w n
 
 -- a field's octets, a name whole
 abbrev pub field_octets : Field → List ℕ
-field_octets (Named labels) = wire labels
-field_octets (Bare labels) = wire labels
+field_octets (Compressible labels) = wire labels
+field_octets (Uncompressed labels) = wire labels
 field_octets (Raw octets) = octets
 field_octets (Sized octets) = length octets ∷ octets
 field_octets (Byte b) = b ∷ []
@@ -45,18 +45,18 @@ fields_octets (field ∷ fields) = field_octets field ++ fields_octets fields
 
 -- ---- in canonical form (RFC 4034 section 6.2, RFC 6840 section 5.1)
 
--- a name in small letters; any other field stays
-abbrev pub folded_field : Field → Field
-folded_field (Named labels) = Named (lowered labels)
-folded_field (Bare labels) = Bare (lowered labels)
-folded_field (Raw octets) = Raw octets
-folded_field (Sized octets) = Sized octets
-folded_field (Byte b) = Byte b
-folded_field (Number w n) = Number w n
+-- a name in lowercase; any other field stays
+abbrev pub lowercased_field : Field → Field
+lowercased_field (Compressible labels) = Compressible (lowered labels)
+lowercased_field (Uncompressed labels) = Uncompressed (lowered labels)
+lowercased_field (Raw octets) = Raw octets
+lowercased_field (Sized octets) = Sized octets
+lowercased_field (Byte b) = Byte b
+lowercased_field (Number w n) = Number w n
 
--- the fields, with names in small letters where the type is one of the nine
+-- the fields, with names in lowercase where the type is one of the nine
 abbrev pub canonical_fields : ℕ → List Field → List Field
-canonical_fields rtype fields = if is_lowercased rtype then map folded_field fields else fields
+canonical_fields rtype fields = if is_lowercased rtype then map lowercased_field fields else fields
 
 -- the canonical octets of data of a type
 abbrev pub canonical_octets : ℕ → List Field → List ℕ

@@ -1,19 +1,19 @@
 -- Questions, records and their data in place, in the words of the standard (RFC 1035 sections 3.2.1, 3.3 and 4.1). Contents
--- are a message's octets behind its header. Each relation says what stands from a place up to an end.
+-- are a message's octets after its header. Each relation says what stands from a place up to an end.
 use Rattle.std.specs.Prelude.{◌≡◌, ℕ, suc, ◌+◌, ◌-◌, ◌≤◌, ◌<◌, ◌^◌, List, [], ◌∷◌, ◌++◌, length, take, drop, slice_index, ⊤}
 use Rattle.std.specs.Int.{Width, w16, w32, byte_len, from_be_bytes}
 use Rattle.dns_wire.specs.Names.{IsName, wire}
 use Rattle.dns_wire.specs.Pointers.{NameAt}
 use Rattle.dns_record.specs.Fields.{Field}
-use Rattle.dns_record.specs.Fields.FieldOf.{Named, Bare, Raw, Sized, Byte, Number}
+use Rattle.dns_record.specs.Fields.FieldOf.{Compressible, Uncompressed, Raw, Sized, Byte, Number}
 use Rattle.dns_record.specs.Kinds.{Kind}
-use Rattle.dns_record.specs.Kinds.Kind.{OneByte, OneNumber, SoMany, Pointed, Plain, Text, Texts, Options, Windows, SomeWindows, Rest}
+use Rattle.dns_record.specs.Kinds.Kind.{OneByte, OneNumber, SoMany, CompressibleName, UncompressedName, CharacterString, CharacterStrings, Options, TypeBitMaps, NonEmptyTypeBitMaps, Rest}
 use Rattle.dns_record.specs.Questions.{QuestionOf}
 use Rattle.dns_record.specs.Records.{RecordOf}
-use Rattle.dns_record.specs.Rows.{row}
+use Rattle.dns_record.specs.Formats.{rdata_format}
 use Rattle.dns_record.specs.Options.{OptionSeen}
-use Rattle.dns_record.specs.Texts.{texts_octets}
-use Rattle.dns_record.specs.Windows.{Window, windows_octets}
+use Rattle.dns_record.specs.CharacterStrings.{character_strings_octets}
+use Rattle.dns_record.specs.TypeBitMaps.{Window, windows_octets}
 
 -- ---- octets, numbers and names
 
@@ -23,7 +23,7 @@ pub record OctetsAt (contents : List ℕ) (at : ℕ) (octets : List ℕ) (end : 
   pub within : end ≤ length contents
   pub stand : octets ≡ take (length octets) (drop at contents)
 
--- a number of so many bits, the most significant octet first
+-- a number of that many bits, the most significant octet first
 pub record NumberAt (contents : List ℕ) (at : ℕ) (w : Width) (n : ℕ) (end : ℕ) : Type 0 where
   pub end_is : end ≡ at + byte_len w
   pub within : end ≤ length contents
@@ -34,14 +34,14 @@ pub record PlainNameAt (contents : List ℕ) (at : ℕ) (labels : List (List ℕ
   pub name : IsName labels
   pub stands : OctetsAt contents at (wire labels) end
 
--- these octets are strings, at least one, each behind an octet with their number, and no more than a size can say
-pub record AreTexts (octets : List ℕ) : Type 0 where
+-- these octets are strings, at least one, each after an octet with their number, and no more than a size can say
+pub record AreCharacterStrings (octets : List ℕ) : Type 0 where
   pub first : List ℕ
   pub others : List (List ℕ)
-  pub is : octets ≡ texts_octets (first ∷ others)
+  pub is : octets ≡ character_strings_octets (first ∷ others)
   pub short : length octets < 2 ^ 16
 
--- these octets are options one after another: two octets of a code, two of a size, and so many
+-- these octets are options one after another: two octets of a code, two of a size, and that many
 abbrev pub FilledBy : List OptionSeen → List ℕ → Type 0
 FilledBy [] octets = octets ≡ []
 FilledBy (option ∷ others) octets =
@@ -78,13 +78,13 @@ abbrev pub FieldAt : Kind → List ℕ → ℕ → Field → ℕ → Type 0
 FieldAt OneByte contents at (Byte b) end = OctetsAt contents at (b ∷ []) end
 FieldAt (OneNumber w) contents at (Number v n) end = (v ≡ w) × NumberAt contents at w n end
 FieldAt (SoMany n) contents at (Raw octets) end = (length octets ≡ n) × OctetsAt contents at octets end
-FieldAt Pointed contents at (Named labels) end = NameAt contents at labels end
-FieldAt Plain contents at (Bare labels) end = PlainNameAt contents at labels end
-FieldAt Text contents at (Sized octets) end = OctetsAt contents at (length octets ∷ octets) end
-FieldAt Texts contents at (Raw octets) end = (end ≡ length contents) × OctetsAt contents at octets end × AreTexts octets
+FieldAt CompressibleName contents at (Compressible labels) end = NameAt contents at labels end
+FieldAt UncompressedName contents at (Uncompressed labels) end = PlainNameAt contents at labels end
+FieldAt CharacterString contents at (Sized octets) end = OctetsAt contents at (length octets ∷ octets) end
+FieldAt CharacterStrings contents at (Raw octets) end = (end ≡ length contents) × OctetsAt contents at octets end × AreCharacterStrings octets
 FieldAt Options contents at (Raw octets) end = (end ≡ length contents) × OctetsAt contents at octets end × AreOptions octets
-FieldAt Windows contents at (Raw octets) end = (end ≡ length contents) × OctetsAt contents at octets end × AreWindows octets
-FieldAt SomeWindows contents at (Raw octets) end = (end ≡ length contents) × OctetsAt contents at octets end × AreWindows octets × (1 ≤ length octets)
+FieldAt TypeBitMaps contents at (Raw octets) end = (end ≡ length contents) × OctetsAt contents at octets end × AreWindows octets
+FieldAt NonEmptyTypeBitMaps contents at (Raw octets) end = (end ≡ length contents) × OctetsAt contents at octets end × AreWindows octets × (1 ≤ length octets)
 FieldAt Rest contents at (Raw octets) end = (end ≡ length contents) × OctetsAt contents at octets end
 FieldAt kind contents at field end = ⊥
 
@@ -94,9 +94,9 @@ FieldsAt [] contents at fields end = (fields ≡ []) × (end ≡ at)
 FieldsAt (kind ∷ kinds) contents at fields end =
     (field : Field) × (next : ℕ) × (others : List Field) × FieldAt kind contents at field next × (fields ≡ field ∷ others) × FieldsAt kinds contents next others end
 
--- the data of a type: the fields of its row, of which the last ends with the contents
+-- the data of a type: the fields of its RDATA format, of which the last ends with the contents
 abbrev pub DataAt : ℕ → List ℕ → ℕ → List Field → Type 0
-DataAt rtype contents at fields = FieldsAt (row rtype) contents at fields (length contents)
+DataAt rtype contents at fields = FieldsAt (rdata_format rtype) contents at fields (length contents)
 
 -- ---- questions and records
 
@@ -108,7 +108,7 @@ pub record QuestionAt (contents : List ℕ) (at : ℕ) (question : QuestionOf (L
   pub qtype : NumberAt contents name_end w16 question.qtype type_end
   pub class : NumberAt contents type_end w16 question.class end
 
--- An owner, a type, a class, a time to live and a size, and then data of exactly that size: they see nothing behind the
+-- An owner, a type, a class, a time to live and a size, and then data of exactly that size: they see nothing after the
 -- record's end.
 pub record RecordAt (contents : List ℕ) (at : ℕ) (r : RecordOf (List (List ℕ)) (List Field)) (end : ℕ) : Type 0 where
   pub owner_end : ℕ

@@ -5,41 +5,41 @@ use Rattle.std.specs.Int.{Width}
 use Rattle.dns_wire.specs.Names.{plain_name}
 use Rattle.dns_wire.specs.Reading.{octet, octets, number, plain_at}
 use Rattle.dns_record.specs.Fields.{FieldOf}
-use Rattle.dns_record.specs.Fields.FieldOf.{Named, Bare, Raw, Sized, Byte, Number}
+use Rattle.dns_record.specs.Fields.FieldOf.{Compressible, Uncompressed, Raw, Sized, Byte, Number}
 use Rattle.dns_record.specs.Options.{options}
-use Rattle.dns_record.specs.Texts.{text, texts}
-use Rattle.dns_record.specs.Windows.{bitmap, some_bitmap}
+use Rattle.dns_record.specs.CharacterStrings.{character_string, character_strings}
+use Rattle.dns_record.specs.TypeBitMaps.{bitmap, some_bitmap}
 use Rattle.dns_wire.specs.Steps.{◌>>=◌, first_to}
 
 pub data Kind : Type 0 where
   OneByte : Kind
   OneNumber : Width → Kind
-  SoMany : ℕ → Kind  -- so many octets
-  Pointed : Kind  -- a name, which in a message may have pointers
-  Plain : Kind  -- a name without pointers
-  Text : Kind  -- octets behind an octet with their number
-  Texts : Kind  -- such strings, at least one, up to the end
+  SoMany : ℕ → Kind  -- that many octets
+  CompressibleName : Kind  -- a name, which in a message may have pointers
+  UncompressedName : Kind  -- a name without pointers
+  CharacterString : Kind  -- octets after an octet with their number
+  CharacterStrings : Kind  -- such strings, at least one, up to the end
   Options : Kind  -- options, perhaps none, up to the end
-  Windows : Kind  -- a bitmap of types, up to the end
-  SomeWindows : Kind  -- the same with one window at least
+  TypeBitMaps : Kind  -- a bitmap of types, up to the end
+  NonEmptyTypeBitMaps : Kind  -- the same with one window at least
   Rest : Kind  -- all that remains
 
--- ---- at the front of octets
+-- ---- at the start of octets
 
 abbrev pub field_of : {N : Type 0} → (List ℕ → Option (N × List ℕ)) → Kind → List ℕ → Option (FieldOf N × List ℕ)
 field_of name OneByte bytes = first_to Byte (octet bytes)
 field_of name (OneNumber w) bytes = first_to (Number w) (number w bytes)
 field_of name (SoMany n) bytes = first_to Raw (octets n bytes)
-field_of name Pointed bytes = first_to Named (name bytes)
-field_of name Plain bytes = first_to Bare (plain_name bytes)
-field_of name Text bytes = first_to Sized (text bytes)
-field_of name Texts bytes = first_to Raw (texts bytes)
+field_of name CompressibleName bytes = first_to Compressible (name bytes)
+field_of name UncompressedName bytes = first_to Uncompressed (plain_name bytes)
+field_of name CharacterString bytes = first_to Sized (character_string bytes)
+field_of name CharacterStrings bytes = first_to Raw (character_strings bytes)
 field_of name Options bytes = first_to Raw (options bytes)
-field_of name Windows bytes = first_to Raw (bitmap bytes)
-field_of name SomeWindows bytes = first_to Raw (some_bitmap bytes)
+field_of name TypeBitMaps bytes = first_to Raw (bitmap bytes)
+field_of name NonEmptyTypeBitMaps bytes = first_to Raw (some_bitmap bytes)
 field_of name Rest bytes = Some (Raw bytes, [])
 
--- the fields of these kinds, one after another, and the octets behind them
+-- the fields of these kinds, one after another, and the octets after them
 abbrev pub fields_of : {N : Type 0} → (List ℕ → Option (N × List ℕ)) → List Kind → List ℕ → Option (List (FieldOf N) × List ℕ)
 fields_of name [] bytes = Some ([], bytes)
 fields_of name (kind ∷ kinds) bytes = do
@@ -53,13 +53,13 @@ abbrev pub field_in : {N : Type 0} → (List ℕ → ℕ → Option (N × ℕ)) 
 field_in name OneByte contents at = first_to Byte (plain_at octet contents at)
 field_in name (OneNumber w) contents at = first_to (Number w) (plain_at (number w) contents at)
 field_in name (SoMany n) contents at = first_to Raw (plain_at (octets n) contents at)
-field_in name Pointed contents at = first_to Named (name contents at)
-field_in name Plain contents at = first_to Bare (plain_at plain_name contents at)
-field_in name Text contents at = first_to Sized (plain_at text contents at)
-field_in name Texts contents at = first_to Raw (plain_at texts contents at)
+field_in name CompressibleName contents at = first_to Compressible (name contents at)
+field_in name UncompressedName contents at = first_to Uncompressed (plain_at plain_name contents at)
+field_in name CharacterString contents at = first_to Sized (plain_at character_string contents at)
+field_in name CharacterStrings contents at = first_to Raw (plain_at character_strings contents at)
 field_in name Options contents at = first_to Raw (plain_at options contents at)
-field_in name Windows contents at = first_to Raw (plain_at bitmap contents at)
-field_in name SomeWindows contents at = first_to Raw (plain_at some_bitmap contents at)
+field_in name TypeBitMaps contents at = first_to Raw (plain_at bitmap contents at)
+field_in name NonEmptyTypeBitMaps contents at = first_to Raw (plain_at some_bitmap contents at)
 field_in name Rest contents at = first_to Raw (plain_at (λ bytes. Some (bytes, [])) contents at)
 
 -- the fields of these kinds, one after another, and where the last ends

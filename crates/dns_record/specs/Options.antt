@@ -1,4 +1,4 @@
--- Options one after another (RFC 6891 section 6.1.2): each a code and a size, of two octets each, and so many octets.
+-- Options one after another (RFC 6891 section 6.1.2): each a code and a size, of two octets each, and that many octets.
 use Rattle.std.specs.Prelude.{ℕ, zero, suc, List, [], ◌∷◌, length, Bool, true, false, not, Option, Some, None, nat_lt, ◌&&◌, if◌then◌else◌}
 use Rattle.std.specs.Int.{w16}
 use Rattle.dns_wire.specs.Reading.{number, octets}
@@ -8,7 +8,7 @@ pub record OptionSeen : Type 0 where
   pub code : ℕ
   pub content : List ℕ
 
--- an option at the front, and the octets behind it
+-- an option at the start, and the octets after it
 abbrev pub option : List ℕ → Option (OptionSeen × List ℕ)
 option bytes = do
   code ← number w16 bytes

@@ -9,7 +9,7 @@ pub record QuestionOf (N : Type 0) : Type 0 where
   pub qtype : ℕ
   pub class : ℕ
 
--- a name, a type and a class at the front, and what follows them
+-- a name, a type and a class at the start, and what follows them
 unfoldable pub question_at : {N : Type 0} → (List ℕ → Option (N × List ℕ)) → List ℕ → Option (QuestionOf N × List ℕ)
 question_at name bytes = do
   asked ← name bytes

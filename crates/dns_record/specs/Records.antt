@@ -11,8 +11,8 @@ pub record RecordOf (N D : Type 0) : Type 0 where
   pub ttl : ℕ
   pub content : D
 
--- An owner, a type, a class, a time to live, a size, and exactly so many octets of data, which are read for the type; and
--- what follows them. Nothing behind the data is seen when they are read.
+-- An owner, a type, a class, a time to live, a size, and exactly that many octets of data, which are read for the type; and
+-- what follows them. Nothing after the data is seen when they are read.
 unfoldable pub record_at : {N D : Type 0} → (List ℕ → Option (N × List ℕ)) → (ℕ → List ℕ → Option D) → List ℕ → Option (RecordOf N D × List ℕ)
 record_at name data_as bytes = do
   owner ← name bytes
@@ -24,7 +24,7 @@ record_at name data_as bytes = do
   content ← data_as rtype.0 body.0
   Some (record { owner = owner.0; rtype = rtype.0; class = class.0; ttl = ttl.0; content = content }, body.1)
 
--- where so many octets end
+-- where that many octets end
 abbrev pub end_of : List ℕ → ℕ → ℕ → Option ℕ
 end_of contents at size = if nat_lt (length contents) (at + size) then None else Some (at + size)
 

@@ -1,18 +1,18 @@
--- Data that are written whole in a message tell a piece for each field.
+-- Data that are written whole in a message tell a part for each field.
 use Rattle.std.specs.Prelude.{ℕ, List, [], ◌∷◌, ◌++◌, Some}
 use Rattle.std.proofs.Common.{refl, ap}
-use Rattle.dns_wire.specs.Pieces.{Piece, whole_presses, list_presses, IsTold}
-use Rattle.dns_wire.specs.Pieces.Piece.{Whole}
+use Rattle.dns_wire.specs.Layout.{LayoutPart, octets_writes, list_writes, LayoutMatches}
+use Rattle.dns_wire.specs.Layout.LayoutPart.{OctetsPart}
 use Rattle.dns_record.specs.Fields.{Field, field_octets, fields_octets}
 
--- the pieces of fields, whole
-abbrev pub whole_pieces : List Field → List Piece
-whole_pieces [] = []
-whole_pieces (field ∷ fields) = Whole (field_octets field) ∷ whole_pieces fields
+-- the parts of fields, whole
+abbrev pub octets_layout : List Field → List LayoutPart
+octets_layout [] = []
+octets_layout (field ∷ fields) = OctetsPart (field_octets field) ∷ octets_layout fields
 
 -- what they write is the fields' octets
-pub told_whole : (fields : List Field) → IsTold (Some (whole_pieces fields)) (whole_presses (fields_octets fields))
-unfolding list_presses
-told_whole [] contents places = refl
-told_whole (field ∷ fields) contents places =
-    ap (λ (r : List ℕ × List ℕ). (field_octets field ++ r.0, r.1)) (told_whole fields (contents ++ field_octets field) places)
+pub octets_match : (fields : List Field) → LayoutMatches (Some (octets_layout fields)) (octets_writes (fields_octets fields))
+unfolding list_writes
+octets_match [] contents places = refl
+octets_match (field ∷ fields) contents places =
+    ap (λ (r : List ℕ × List ℕ). (field_octets field ++ r.0, r.1)) (octets_match fields (contents ++ field_octets field) places)

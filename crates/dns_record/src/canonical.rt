@@ -12,7 +12,7 @@ use std::rc::Rc;
 /// Record data that have a canonical form (RFC 4034 section 6.2, RFC 6840 section 5.1) and the order of
 /// RFC 4034 section 6.3.
 pub trait CanonicalRecordData: BuildBytes {
-    /// The canonical octets: the fields in order, names whole, and in small letters where the type is one
+    /// The canonical octets: the fields in order, names whole, and in lowercase where the type is one
     /// of the nine that `RType::uses_lowercase_canonical_form` names.
     ghost canonical: { Self → List ℕ };
 
@@ -36,7 +36,7 @@ pub trait CanonicalRecordData: BuildBytes {
         requires { is_proper self.now × is_proper other.now }
         ensures { result ≡ ranked_cmp (rank self.now) (rank other.now) (canonical self.now) (canonical other.now) };
 
-    /// Writes the canonical octets to the beginning of the buffer. What is behind them is lent back as it
+    /// Writes the canonical octets to the beginning of the buffer. What is after them is borrowed back as it
     /// was. `TruncationError` comes exactly where they are more than the buffer's; what the buffer holds
     /// then is open.
     final fn build_canonical_bytes<'b>(
@@ -54,7 +54,7 @@ pub trait CanonicalRecordData: BuildBytes {
         }
     }
 
-    /// The canonical octets are as many as those that `build_at` writes, since small letters are as many: a
+    /// The canonical octets are as many as those that `build_at` writes, since lowercase letters are as many: a
     /// buffer of `built_bytes_size` octets takes either.
     ghost as_long: { (v : Self) → length (canonical v) ≡ length (Self.octets v) };
 }

@@ -6,12 +6,12 @@ ghost use Rattle.std.specs.Cmp.{on_equiv, partial_equiv_from_equiv};
 ghost use Rattle.std.specs.Cmp.Lexicographic.{on_texts_equal, slice_cmp};
 ghost use Rattle.std.specs.Ordering.{nat_cmp, on};
 ghost use Rattle.std.specs.Str.{str_to_ascii_lowercase};
-ghost use Rattle.dns_record.specs.Left.{text_leaves};
-ghost use Rattle.dns_wire.specs.Pieces.{whole_presses};
+ghost use Rattle.dns_record.specs.DataLemmas.{text_leaves};
+ghost use Rattle.dns_wire.specs.Layout.{octets_writes};
 ghost use Rattle.dns_wire.specs.Reading.{all_of};
 ghost use Rattle.dns_record.specs.CharStrs.{charstr_wire, octets_of, same_charstr};
 ghost use Rattle.dns_record.specs.CharStrHashing.{charstr_writes, same_charstrs_alike};
-ghost use Rattle.dns_record.specs.Texts.{text};
+ghost use Rattle.dns_record.specs.CharacterStrings.{character_string};
 
 use crate::charstr_buf::CharStrBuf;
 use dns_wire::{
@@ -21,13 +21,13 @@ use dns_wire::{
 use std::cmp::Ordering;
 use std::hash::{Hash, Hasher};
 
-/// A character string: an octet with the number of the others, and so many octets (RFC 1035 section 3.3).
-/// What contracts see of it are the octets behind that number.
+/// A character string: an octet with the number of the others, and that many octets (RFC 1035 section 3.3).
+/// What contracts see of it are the octets after that number.
 #[derive(Clone, Copy, Debug)]
 pub struct CharStr<'a> {
     /// The length octet and the octets.
     pub slice: &'a [u8],
-    ghost is_charstr: { all_of (text slice.now) ≡ Some (octets_of slice.now) } by { Prim.hlevel props },
+    ghost is_charstr: { all_of (character_string slice.now) ≡ Some (octets_of slice.now) } by { Prim.hlevel props },
 }
 
 impl<'a> CharStr<'a> {
@@ -76,16 +76,16 @@ impl<'a> ReadPlainValue<'a> for CharStr<'a> {
 
     ghost seen = { λ v. octets_of v.slice.now };
 
-    ghost reads = { text };
+    ghost reads = { character_string };
 
     ghost leaves_rest = { text_leaves };
 
     fn read_plain(bytes: &'a [u8]) -> Result<(CharStr<'a>, &'a [u8]), ParseError> {
-        let [size, behind @ ..] = bytes else {
+        let [size, trailing @ ..] = bytes else {
             return Err(ParseError);
         };
         let size = *size as usize;
-        if behind.len() < size {
+        if trailing.len() < size {
             return Err(ParseError);
         }
         let (slice, rest) = bytes.split_at(1 + size);
@@ -111,9 +111,9 @@ impl BuildBytes for CharStr<'_> {
 
 /// Whole, with no name in it.
 impl BuildInMessage for CharStr<'_> {
-    ghost presses = { λ v. whole_presses (charstr_wire (octets_of v.slice.now)) };
+    ghost writes = { λ v. octets_writes (charstr_wire (octets_of v.slice.now)) };
 
-    ghost told = { λ _. tt };
+    ghost layout_matches = { λ _. tt };
 
     fn build_in_message(
         &self,
@@ -130,7 +130,7 @@ impl PartialEq for CharStr<'_> {
 
     ghost laws = { partial_equiv_from_equiv (on_equiv (λ v. octets_of v.slice.now) (on_texts_equal str_to_ascii_lowercase)) };
 
-    /// Whether the octets are the same, ASCII case aside (RFC 1035 section 2.3.3). Equal strings may have
+    /// Whether the octets are the same, ignoring ASCII case (RFC 1035 section 2.3.3). Equal strings may have
     /// unequal canonical octets, which keep the case (RFC 4034 section 6.2).
     fn eq(&self, other: &Self) -> bool {
         self.octets().eq_ignore_ascii_case(other.octets())
@@ -146,7 +146,7 @@ impl Hash for CharStr<'_> {
 
     ghost respects_eq = { λ a b same. same_charstrs_alike (octets_of a.slice.now) (octets_of b.slice.now) same };
 
-    /// Feeds the length octet and the octets in small letters, in one write.
+    /// Feeds the length octet and the octets in lowercase, in one write.
     fn hash<H: Hasher>(&self, state: &mut H) {
         let mut lowered = CharStrBuf::copy_from(*self);
         lowered.octets_mut().make_ascii_lowercase();

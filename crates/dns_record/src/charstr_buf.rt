@@ -1,15 +1,15 @@
 //! A character string with its octets.
 
-ghost use Rattle.dns_record.specs.Left.{text_leaves};
+ghost use Rattle.dns_record.specs.DataLemmas.{text_leaves};
 ghost use Rattle.std.specs.Prelude.{◌≡◌, ◌≤◌, ℕ, List, [], length, None, ⊤};
 ghost use Rattle.std.specs.Borrow.{sem};
 ghost use Rattle.std.specs.Cmp.{partial_equiv_from_equiv};
 ghost use Rattle.std.specs.Cmp.Lexicographic.{on_texts_equal};
 ghost use Rattle.std.specs.Str.{str_to_ascii_lowercase};
-ghost use Rattle.dns_wire.specs.Pieces.{whole_presses};
+ghost use Rattle.dns_wire.specs.Layout.{octets_writes};
 ghost use Rattle.dns_record.specs.CharStrs.{IsShort, charstr_wire, octets_of, same_charstr};
 ghost use Rattle.dns_record.specs.CharStrTexts.{charstr_of};
-ghost use Rattle.dns_record.specs.Texts.{text};
+ghost use Rattle.dns_record.specs.CharacterStrings.{character_string};
 
 use crate::charstr::CharStr;
 use crate::charstr_error::CharStrParseError;
@@ -129,7 +129,7 @@ impl<'a> ReadPlainValue<'a> for CharStrBuf {
 
     ghost seen = { λ v. v };
 
-    ghost reads = { text };
+    ghost reads = { character_string };
 
     ghost leaves_rest = { text_leaves };
 
@@ -157,9 +157,9 @@ impl BuildBytes for CharStrBuf {
 
 /// Whole, with no name in it.
 impl BuildInMessage for CharStrBuf {
-    ghost presses = { λ v. whole_presses (charstr_wire v) };
+    ghost writes = { λ v. octets_writes (charstr_wire v) };
 
-    ghost told = { λ _. tt };
+    ghost layout_matches = { λ _. tt };
 
     fn build_in_message(
         &self,
@@ -176,7 +176,7 @@ impl PartialEq for CharStrBuf {
 
     ghost laws = { partial_equiv_from_equiv (on_texts_equal str_to_ascii_lowercase) };
 
-    /// Whether the octets are the same, ASCII case aside (RFC 1035 section 2.3.3).
+    /// Whether the octets are the same, ignoring ASCII case (RFC 1035 section 2.3.3).
     fn eq(&self, other: &Self) -> bool {
         self.as_charstr() == other.as_charstr()
     }

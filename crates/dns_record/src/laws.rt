@@ -12,7 +12,7 @@ ghost use Rattle.dns_record.specs.Records.{RecordOf, record_in};
 ghost use Rattle.dns_record.specs.Serials.{serial_cmp};
 
 /// What is read in a message, its names with their pointers followed, is what stands there: fields of the
-/// kinds of a row, one after another; the data of a type, which end where the record does; a question, and a
+/// kinds of an RDATA format, one after another; the data of a type, which end where the record does; a question, and a
 /// record (RFC 1035 sections 3.3, 4.1.2 and 4.1.3).
 pub fn items_in_words()
     ensures fields { (kinds : List Kind) (contents : List ℕ) (at : ℕ) (fields : List Field) (end : ℕ) →

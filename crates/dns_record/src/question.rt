@@ -1,10 +1,10 @@
 //! Questions.
 
-ghost use Rattle.dns_record.specs.Left.{question_leaves, question_ends};
+ghost use Rattle.dns_record.specs.DataLemmas.{question_leaves, question_ends};
 ghost use Rattle.std.specs.Prelude.{◌≡◌, [], ◌++◌, length};
 ghost use Rattle.std.specs.Int.{w16, to_be_bytes};
 ghost use Rattle.std.specs.Fn.{FnOnceTakesAt, FnOnceReturnsAt};
-ghost use Rattle.dns_record.specs.InMessage.{question_presses};
+ghost use Rattle.dns_record.specs.InMessage.{question_writes};
 ghost use Rattle.dns_record.specs.Questions.{QuestionOf, question_at, question_in};
 ghost use Rattle.dns_record.specs.Seen.{question_seen};
 
@@ -16,6 +16,11 @@ use dns_wire::{
 };
 
 /// A question of a message: a name, a type and a class (RFC 1035 section 4.1.2).
+///
+/// ```
+/// let name = NameBuf::from_str("www.example.org.")?;
+/// let question = Question::new(&name, QType::AAAA, QClass::IN);
+/// ```
 #[derive(Clone, Debug, PartialEq, Eq, Hash, Drop)]
 pub struct Question<N> {
     /// The name that is asked for.
@@ -42,7 +47,7 @@ impl<N> Question<N> {
     pub fn transform<NN, F: FnOnce(N) -> NN>(self, name_map: F) -> Question<NN>
         requires { F.pre name_map self.qname }
         ensures name { F.post name_map self.qname result.qname }
-        ensures kept { (result.qtype ≡ self.qtype) × (result.qclass ≡ self.qclass) }
+        ensures unchanged { (result.qtype ≡ self.qtype) × (result.qclass ≡ self.qclass) }
     {
         Question {
             qname: name_map(self.qname),
@@ -55,7 +60,7 @@ impl<N> Question<N> {
     pub fn transform_ref<'a, NN, F: FnOnce(&'a N) -> NN>(&'a self, name_map: F) -> Question<NN>
         requires { FnOnceTakesAt F.FnOnce name_map self.now.qname }
         ensures name { FnOnceReturnsAt F.FnOnce name_map self.now.qname result.qname }
-        ensures kept { (result.qtype ≡ self.now.qtype) × (result.qclass ≡ self.now.qclass) }
+        ensures unchanged { (result.qtype ≡ self.now.qtype) × (result.qclass ≡ self.now.qclass) }
     {
         Question {
             qname: name_map(&self.qname),
@@ -136,13 +141,13 @@ impl<N: BuildBytes> BuildBytes for Question<N> {
     }
 }
 
-/// The name as its type writes it in a message, and behind it the type and the class.
+/// The name as its type writes it in a message, and after it the type and the class.
 impl<N: BuildInMessage> BuildInMessage for Question<N> {
-    ghost presses = { λ v. question_presses (N.presses v.qname) v.qtype.code.value v.qclass.code.value };
+    ghost writes = { λ v. question_writes (N.writes v.qname) v.qtype.code.value v.qclass.code.value };
 
     ghost fits_in = { λ v. N.fits_in v.qname };
 
-    ghost told = { λ _. tt };
+    ghost layout_matches = { λ _. tt };
 
     fn build_in_message(
         &self,

@@ -1,10 +1,10 @@
 //! Records.
 
-ghost use Rattle.dns_record.specs.Left.{record_leaves, record_ends};
+ghost use Rattle.dns_record.specs.DataLemmas.{record_leaves, record_ends};
 ghost use Rattle.std.specs.Prelude.{◌≡◌, ◌≤◌, ◌<◌, ◌^◌, [], length, IfOk};
 ghost use Rattle.std.specs.Fn.{FnOnceTakesAt, FnOnceReturnsAt};
 ghost use Rattle.dns_wire.specs.Reading.{Gives};
-ghost use Rattle.dns_record.specs.InMessage.{record_numbers, record_presses, record_fits};
+ghost use Rattle.dns_record.specs.InMessage.{record_numbers, record_writes, record_fits};
 ghost use Rattle.dns_record.specs.Records.{RecordOf, record_at, record_in, record_octets, SizedData, SizedDataIn};
 ghost use Rattle.dns_record.specs.Seen.{record_seen};
 
@@ -19,6 +19,12 @@ use dns_wire::{
 };
 
 /// A record: an owner, a type, a class, a time to live, and data (RFC 1035 section 4.1.3).
+///
+/// ```
+/// let owner = NameBuf::from_str("www.example.org.")?;
+/// let address = A::from_str("192.0.2.80")?;
+/// let record = Record::new(&owner, RType::A, RClass::IN, TTL::from(300), address);
+/// ```
 #[derive(Clone, Debug, PartialEq, Eq, Hash, Drop)]
 pub struct Record<N, D> {
     /// The owner.
@@ -57,7 +63,7 @@ impl<N, D> Record<N, D> {
         requires content { G.pre data_map self.rdata }
         ensures name { F.post name_map self.rname result.rname }
         ensures content { G.post data_map self.rdata result.rdata }
-        ensures kept { (result.rtype ≡ self.rtype) × (result.rclass ≡ self.rclass) × (result.ttl ≡ self.ttl) }
+        ensures unchanged { (result.rtype ≡ self.rtype) × (result.rclass ≡ self.rclass) × (result.ttl ≡ self.ttl) }
     {
         Record {
             rname: name_map(self.rname),
@@ -78,7 +84,7 @@ impl<N, D> Record<N, D> {
         requires content { FnOnceTakesAt G.FnOnce data_map self.now.rdata }
         ensures name { FnOnceReturnsAt F.FnOnce name_map self.now.rname result.rname }
         ensures content { FnOnceReturnsAt G.FnOnce data_map self.now.rdata result.rdata }
-        ensures kept { (result.rtype ≡ self.now.rtype) × (result.rclass ≡ self.now.rclass) × (result.ttl ≡ self.now.ttl) }
+        ensures unchanged { (result.rtype ≡ self.now.rtype) × (result.rclass ≡ self.now.rclass) × (result.ttl ≡ self.now.ttl) }
     {
         Record {
             rname: name_map(&self.rname),
@@ -109,7 +115,7 @@ impl<'a, N: SplitBytes<'a>, D: ParseRecordDataBytes<'a>> ParseBytes<'a> for Reco
 }
 
 impl<'a, N: SplitBytes<'a>, D: ParseRecordDataBytes<'a>> SplitBytes<'a> for Record<N, D> {
-    /// Reads the record at the front, and gives the octets behind it. `ParseError` comes exactly where none
+    /// Reads the record at the start, and gives the octets after it. `ParseError` comes exactly where none
     /// stands there. The data are those that `D` reads from at most 65,535 octets.
     #[tactic(auto, unfolding(crate::specs::Records::record_at))]
     fn split_bytes(bytes: &'a [u8]) -> Result<(Record<N, D>, &'a [u8]), ParseError>
@@ -177,7 +183,7 @@ impl<'a, N: SplitMessageBytes<'a>, D: ParseRecordData<'a>> SplitMessageBytes<'a>
     }
 }
 
-/// The size and the data stand as data behind their size do: the data are at most 65,535 octets.
+/// The size and the data stand as data after their size do: the data are at most 65,535 octets.
 impl<N: BuildBytes, D: BuildBytes> BuildBytes for Record<N, D> {
     ghost octets = { λ v. record_octets (N.octets v.rname) v.rtype.code.value v.rclass.code.value v.ttl.value.value (D.octets v.rdata) };
 
@@ -196,11 +202,11 @@ impl<N: BuildBytes, D: BuildBytes> BuildBytes for Record<N, D> {
 
 /// The owner and the data as their types write them in a message. The data are at most 65,535 octets there.
 impl<N: BuildInMessage, D: BuildInMessage> BuildInMessage for Record<N, D> {
-    ghost presses = { λ v. record_presses (N.presses v.rname) (record_numbers v.rtype.code.value v.rclass.code.value v.ttl.value.value) (D.presses v.rdata) };
+    ghost writes = { λ v. record_writes (N.writes v.rname) (record_numbers v.rtype.code.value v.rclass.code.value v.ttl.value.value) (D.writes v.rdata) };
 
-    ghost fits_in = { λ v. record_fits (N.fits_in v.rname) (N.presses v.rname) (record_numbers v.rtype.code.value v.rclass.code.value v.ttl.value.value) (D.fits_in v.rdata) (D.presses v.rdata) };
+    ghost fits_in = { λ v. record_fits (N.fits_in v.rname) (N.writes v.rname) (record_numbers v.rtype.code.value v.rclass.code.value v.ttl.value.value) (D.fits_in v.rdata) (D.writes v.rdata) };
 
-    ghost told = { λ _. tt };
+    ghost layout_matches = { λ _. tt };
 
     fn build_in_message(
         &self,

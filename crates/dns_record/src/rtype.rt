@@ -1,9 +1,9 @@
 //! Types of records.
 
-ghost use Rattle.dns_wire.specs.Left.{number_leaves};
+ghost use Rattle.dns_wire.specs.ReadingLemmas.{number_leaves};
 ghost use Rattle.std.specs.Prelude.{◌≡◌, ℕ, [], None, Some, ⊤, length};
 ghost use Rattle.std.specs.Int.{w16, to_be_bytes};
-ghost use Rattle.dns_wire.specs.Pieces.{whole_presses};
+ghost use Rattle.dns_wire.specs.Layout.{octets_writes};
 ghost use Rattle.dns_wire.specs.Reading.{number};
 ghost use Rattle.dns_record.specs.CodeTexts.{type_text};
 ghost use Rattle.dns_record.specs.Types.{is_lowercased};
@@ -138,7 +138,7 @@ impl RType {
         code: U16 { value: 250 },
     };
 
-    /// Whether the names in data of this type are in small letters in canonical form (RFC 4034 section 6.2,
+    /// Whether the names in data of this type are in lowercase in canonical form (RFC 4034 section 6.2,
     /// RFC 6840 section 5.1): those of NS, CNAME, SOA, PTR, MX, RP, SRV, DNAME and RRSIG are.
     pub const fn uses_lowercase_canonical_form(&self) -> bool
         ensures { result ≡ is_lowercased self.now.code.value }
@@ -197,9 +197,9 @@ impl BuildBytes for RType {
 
 /// Whole, with no name in it.
 impl BuildInMessage for RType {
-    ghost presses = { λ v. whole_presses (to_be_bytes w16 v.code.value) };
+    ghost writes = { λ v. octets_writes (to_be_bytes w16 v.code.value) };
 
-    ghost told = { λ _. tt };
+    ghost layout_matches = { λ _. tt };
 
     fn build_in_message(
         &self,

@@ -1,10 +1,10 @@
 //! Serial numbers.
 
-ghost use Rattle.dns_wire.specs.Left.{number_leaves};
+ghost use Rattle.dns_wire.specs.ReadingLemmas.{number_leaves};
 ghost use Rattle.std.specs.Prelude.{◌≡◌, ◌≤ℤ◌, ◌+◌, ◌%◌, ◌^◌, ℕ, pos, [], Some, None, ⊤, length};
 ghost use Rattle.std.specs.Int.{w32, to_be_bytes};
 ghost use Rattle.std.specs.Fmt.{decimal};
-ghost use Rattle.dns_wire.specs.Pieces.{whole_presses};
+ghost use Rattle.dns_wire.specs.Layout.{octets_writes};
 ghost use Rattle.dns_wire.specs.Reading.{number};
 ghost use Rattle.dns_record.specs.Serials.{serial_cmp};
 
@@ -36,7 +36,7 @@ impl Serial {
         self.0.get()
     }
 
-    /// The serial number that is so many ahead; 2^32 of them are none (RFC 1982 section 3.1).
+    /// The serial number that is that many ahead; 2^32 of them are none (RFC 1982 section 3.1).
     pub fn inc(self, num: i32) -> Serial
         requires { pos 0 ≤ℤ num }
         ensures { (n : ℕ) → num ≡ pos n → result.0.value ≡ (self.0.value + n) % 2 ^ 32 }
@@ -45,7 +45,7 @@ impl Serial {
     }
 
     /// How two serial numbers compare: less where the other is at most 2^31 - 1 ahead, greater where it is
-    /// at most as much behind, and not at all where it is 2^31 away (RFC 1982 section 3.2).
+    /// at most as much after, and not at all where it is 2^31 away (RFC 1982 section 3.2).
     pub fn partial_cmp(&self, other: &Serial) -> Option<Ordering>
         ensures { result ≡ serial_cmp self.now.0.value other.now.0.value }
     {
@@ -106,9 +106,9 @@ impl BuildBytes for Serial {
 
 /// Whole, with no name in it.
 impl BuildInMessage for Serial {
-    ghost presses = { λ v. whole_presses (to_be_bytes w32 v.0.value) };
+    ghost writes = { λ v. octets_writes (to_be_bytes w32 v.0.value) };
 
-    ghost told = { λ _. tt };
+    ghost layout_matches = { λ _. tt };
 
     fn build_in_message(
         &self,

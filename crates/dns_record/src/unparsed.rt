@@ -2,9 +2,9 @@
 
 ghost use Rattle.std.specs.Prelude.{◌≡◌, ◌<◌, ◌^◌, ℕ, List, [], ◌∷◌, length, Some, ⊤};
 ghost use Rattle.std.proofs.Props.{props};
-ghost use Rattle.dns_wire.specs.Pieces.{whole_presses};
-ghost use Rattle.dns_wire.specs.Pieces.Piece.{Whole};
-ghost use Rattle.dns_wire.specs.Told.{told_piece};
+ghost use Rattle.dns_wire.specs.Layout.{octets_writes};
+ghost use Rattle.dns_wire.specs.Layout.LayoutPart.{OctetsPart};
+ghost use Rattle.dns_wire.specs.LayoutLemmas.{part_matches};
 ghost use Rattle.dns_record.specs.Unparsed.{few, few_in};
 
 use crate::record_data::{ParseRecordData, ParseRecordDataBytes};
@@ -56,7 +56,7 @@ impl<'a> ParseRecordDataBytes<'a> for UnparsedRecordData<'a> {
 }
 
 /// `ParseError` comes exactly where more than 65,535 octets stand from the place on, and from a place
-/// behind the end.
+/// after the end.
 impl<'a> ParseRecordData<'a> for UnparsedRecordData<'a> {
     fn parse_record_data(
         contents: &'a [u8],
@@ -90,11 +90,11 @@ impl BuildBytes for UnparsedRecordData<'_> {
 
 /// Whole, with no name in it.
 impl BuildInMessage for UnparsedRecordData<'_> {
-    ghost presses = { λ v. whole_presses (v.octets.now) };
+    ghost writes = { λ v. octets_writes (v.octets.now) };
 
-    ghost pieces = { λ v. Some (Whole v.octets.now ∷ []) };
+    ghost layout = { λ v. Some (OctetsPart v.octets.now ∷ []) };
 
-    ghost told = { λ v. told_piece (Whole v.octets.now) };
+    ghost layout_matches = { λ v. part_matches (OctetsPart v.octets.now) };
 
     fn build_in_message(
         &self,

@@ -7,7 +7,7 @@ use Rattle.dns_wire.specs.Names.{IsName, name_labels}
 use Rattle.dns_name.specs.Composed.{lowercase_composed_cmp}
 use Rattle.dns_record.specs.Canonical.{ranked_cmp}
 use Rattle.dns_record.specs.Fields.{canonical_octets}
-use Rattle.dns_record.proofs.Compared.{fields_compared, then_assoc}
+use Rattle.dns_record.proofs.ComparedOctets.{fields_compared, then_assoc}
 use Rattle.dns_sec.specs.Types.{rrsig_fields}
 use Rattle.dns_sec.specs.declared.rrsig.Rrsig.{Rrsig}
 

@@ -1,5 +1,5 @@
 -- What the contracts of the types of DNSSEC cite.
 pub mod Flags
 pub mod Moments
-pub mod Rows
+pub mod Formats
 pub mod Types

@@ -3,7 +3,7 @@ use Rattle.std.specs.Prelude.{ℕ, List, [], ◌∷◌}
 use Rattle.std.specs.Int.{w16, w32}
 use Rattle.dns_wire.specs.Names.{name_labels}
 use Rattle.dns_record.specs.Fields.{Field}
-use Rattle.dns_record.specs.Fields.FieldOf.{Bare, Raw, Byte, Number}
+use Rattle.dns_record.specs.Fields.FieldOf.{Uncompressed, Raw, Byte, Number}
 use Rattle.dns_sec.specs.Flags.{key_flag_bits}
 use Rattle.dns_sec.specs.declared.cdnskey.CDNSKey.{CDNSKey}
 use Rattle.dns_sec.specs.declared.cds.Cds.{Cds}
@@ -42,7 +42,7 @@ abbrev pub rrsig_fields : Rrsig → List Field
 rrsig_fields v =
     Number w16 v.rtype.code.value ∷ Byte v.algorithm.code ∷ Byte v.labels ∷ Number w32 v.ttl.value.value
     ∷ Number w32 v.expiration.0.value ∷ Number w32 v.inception.0.value ∷ Number w16 v.keytag.value
-    ∷ Bare (name_labels v.signer.slice.now) ∷ Raw v.signature.now ∷ []
+    ∷ Uncompressed (name_labels v.signer.slice.now) ∷ Raw v.signature.now ∷ []
 
 -- the digest by its octets
 abbrev pub zonemd_fields : {D : Type 0} → (D → List ℕ) → ZoneMD D → List Field

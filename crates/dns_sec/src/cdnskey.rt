@@ -4,14 +4,14 @@ ghost use Rattle.std.specs.Prelude.{◌≡◌, ◌≤◌, ◌<◌, ◌^◌, ℕ,
 ghost use Rattle.dns_wire.specs.Building.{Builds};
 ghost use Rattle.dns_wire.specs.Compression.{FitsIn};
 ghost use Rattle.dns_wire.specs.InMessage.{BuildsIn};
-ghost use Rattle.dns_wire.specs.Pieces.{whole_presses};
+ghost use Rattle.dns_wire.specs.Layout.{octets_writes};
 ghost use Rattle.dns_wire.specs.Reading.{Gives, all_of, all_at, plain_at};
 ghost use Rattle.dns_record.specs.Canonical.{ranked_cmp};
 ghost use Rattle.dns_record.specs.Fields.{Field, fields_octets, canonical_octets};
 ghost use Rattle.dns_record.specs.Kinds.{fields_of, no_name};
-ghost use Rattle.dns_record.specs.Left.{bare_leave, bare_end};
-ghost use Rattle.dns_record.specs.Rows.{row};
-ghost use Rattle.dns_record.specs.Whole.{whole_pieces, told_whole};
+ghost use Rattle.dns_record.specs.DataLemmas.{uncompressed_leave, uncompressed_end};
+ghost use Rattle.dns_record.specs.Formats.{rdata_format};
+ghost use Rattle.dns_record.specs.Whole.{octets_layout, octets_match};
 ghost use Rattle.dns_record.proofs.Sizes.{canonical_long};
 ghost use Rattle.dns_sec.specs.Types.{cdnskey_fields, as_dnskey, as_cdnskey};
 
@@ -26,7 +26,7 @@ use dns_wire::{
 use std::cmp::Ordering;
 
 /// A key that a child zone asks its parent to digest and publish as DS, of the fields of DNSKEY (RFC 7344 section 3.2). The
-/// parent is asked to remove all its DS by the data `0 3 0 00` (RFC 8078 section 4).
+/// parent is asked to remove all its DS by the data `0 3 0 AA==` (RFC 8078 section 4).
 #[derive(Clone, Copy, Debug, PartialEq, Eq, Hash)]
 pub struct CDNSKey<'a> {
     /// What the key is for.
@@ -72,13 +72,13 @@ impl<'a> ParseBytes<'a> for CDNSKey<'a> {
 
     ghost seen = { cdnskey_fields };
 
-    ghost reads = { fields_of no_name (row 60) };
+    ghost reads = { fields_of no_name (rdata_format 60) };
 
-    ghost reads_at = { plain_at (fields_of no_name (row 60)) };
+    ghost reads_at = { plain_at (fields_of no_name (rdata_format 60)) };
 
-    ghost leaves_rest = { bare_leave (row 60) };
+    ghost leaves_rest = { uncompressed_leave (rdata_format 60) };
 
-    ghost ends_within = { bare_end (row 60) };
+    ghost ends_within = { uncompressed_end (rdata_format 60) };
 
     fn parse_bytes(bytes: &'a [u8]) -> Result<CDNSKey<'a>, ParseError> {
         Ok(CDNSKey::from(DNSKey::parse_bytes(bytes)?))
@@ -113,13 +113,13 @@ impl BuildBytes for CDNSKey<'_> {
     }
 }
 
-/// Whole, a piece for each field.
+/// Uncompressed, with a part for each field.
 impl BuildInMessage for CDNSKey<'_> {
-    ghost presses = { λ v. whole_presses (fields_octets (cdnskey_fields v)) };
+    ghost writes = { λ v. octets_writes (fields_octets (cdnskey_fields v)) };
 
-    ghost pieces = { λ v. Some (whole_pieces (cdnskey_fields v)) };
+    ghost layout = { λ v. Some (octets_layout (cdnskey_fields v)) };
 
-    ghost told = { λ v. told_whole (cdnskey_fields v) };
+    ghost layout_matches = { λ v. octets_match (cdnskey_fields v) };
 
     fn build_in_message(
         &self,

@@ -1,10 +1,10 @@
 //! What a key is for.
 
-ghost use Rattle.dns_wire.specs.Left.{number_leaves};
+ghost use Rattle.dns_wire.specs.ReadingLemmas.{number_leaves};
 ghost use Rattle.std.specs.Prelude.{◌≡◌, ◌≢◌, ◌<◌, ◌^◌, ◌↔◌, ℕ, [], None, IsTrue, if◌then◌else◌, ⊤};
 ghost use Rattle.std.specs.Int.{w16, bit_at, to_be_bytes};
 ghost use Rattle.std.specs.Ordering.{nat_cmp};
-ghost use Rattle.dns_wire.specs.Pieces.{whole_presses};
+ghost use Rattle.dns_wire.specs.Layout.{octets_writes};
 ghost use Rattle.dns_wire.specs.Reading.{number};
 ghost use Rattle.dns_sec.specs.Flags.{key_flag_bits};
 
@@ -50,9 +50,9 @@ impl DNSKeyFlags {
         self.bits.get() >> SECURE_ENTRY_POINT & 1 == 1
     }
 
-    /// The flags with the bit that counts 256 as told. Every other bit stays.
+    /// The flags with the bit that counts 256 as given. Every other bit stays.
     pub fn set_zone_key(self, value: bool) -> DNSKeyFlags
-        ensures told { bit_at (key_flag_bits result) 8 ≡ (if value then 1 else 0) }
+        ensures set { bit_at (key_flag_bits result) 8 ≡ (if value then 1 else 0) }
         ensures others { (i : ℕ) → i ≢ 8 → bit_at (key_flag_bits result) i ≡ bit_at (key_flag_bits self) i }
     {
         DNSKeyFlags {
@@ -60,9 +60,9 @@ impl DNSKeyFlags {
         }
     }
 
-    /// The flags with the bit that counts 1 as told. Every other bit stays.
+    /// The flags with the bit that counts 1 as given. Every other bit stays.
     pub fn set_secure_entry_point(self, value: bool) -> DNSKeyFlags
-        ensures told { bit_at (key_flag_bits result) 0 ≡ (if value then 1 else 0) }
+        ensures set { bit_at (key_flag_bits result) 0 ≡ (if value then 1 else 0) }
         ensures others { (i : ℕ) → i ≢ 0 → bit_at (key_flag_bits result) i ≡ bit_at (key_flag_bits self) i }
     {
         DNSKeyFlags {
@@ -102,9 +102,9 @@ impl BuildBytes for DNSKeyFlags {
 
 /// Whole, with no name in it.
 impl BuildInMessage for DNSKeyFlags {
-    ghost presses = { λ v. whole_presses (to_be_bytes w16 (key_flag_bits v)) };
+    ghost writes = { λ v. octets_writes (to_be_bytes w16 (key_flag_bits v)) };
 
-    ghost told = { λ _. tt };
+    ghost layout_matches = { λ _. tt };
 
     fn build_in_message(
         &self,

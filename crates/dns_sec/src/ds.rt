@@ -4,14 +4,14 @@ ghost use Rattle.std.specs.Prelude.{◌≡◌, ◌≤◌, ◌<◌, ◌^◌, ℕ,
 ghost use Rattle.dns_wire.specs.Building.{Builds};
 ghost use Rattle.dns_wire.specs.Compression.{FitsIn};
 ghost use Rattle.dns_wire.specs.InMessage.{BuildsIn};
-ghost use Rattle.dns_wire.specs.Pieces.{whole_presses};
+ghost use Rattle.dns_wire.specs.Layout.{octets_writes};
 ghost use Rattle.dns_wire.specs.Reading.{Gives, all_of, all_at, plain_at};
 ghost use Rattle.dns_record.specs.Canonical.{ranked_cmp};
 ghost use Rattle.dns_record.specs.Fields.{Field, fields_octets, canonical_octets};
 ghost use Rattle.dns_record.specs.Kinds.{fields_of, no_name};
-ghost use Rattle.dns_record.specs.Left.{bare_leave, bare_end};
-ghost use Rattle.dns_record.specs.Rows.{row};
-ghost use Rattle.dns_record.specs.Whole.{whole_pieces, told_whole};
+ghost use Rattle.dns_record.specs.DataLemmas.{uncompressed_leave, uncompressed_end};
+ghost use Rattle.dns_record.specs.Formats.{rdata_format};
+ghost use Rattle.dns_record.specs.Whole.{octets_layout, octets_match};
 ghost use Rattle.dns_record.proofs.Sizes.{canonical_long};
 ghost use Rattle.dns_sec.specs.Types.{ds_fields};
 
@@ -43,13 +43,13 @@ impl<'a> ParseBytes<'a> for Ds<'a> {
 
     ghost seen = { ds_fields };
 
-    ghost reads = { fields_of no_name (row 43) };
+    ghost reads = { fields_of no_name (rdata_format 43) };
 
-    ghost reads_at = { plain_at (fields_of no_name (row 43)) };
+    ghost reads_at = { plain_at (fields_of no_name (rdata_format 43)) };
 
-    ghost leaves_rest = { bare_leave (row 43) };
+    ghost leaves_rest = { uncompressed_leave (rdata_format 43) };
 
-    ghost ends_within = { bare_end (row 43) };
+    ghost ends_within = { uncompressed_end (rdata_format 43) };
 
     fn parse_bytes(bytes: &'a [u8]) -> Result<Ds<'a>, ParseError> {
         let (keytag, rest) = U16::split_bytes(bytes)?;
@@ -94,13 +94,13 @@ impl BuildBytes for Ds<'_> {
     }
 }
 
-/// Whole, a piece for each field.
+/// Uncompressed, with a part for each field.
 impl BuildInMessage for Ds<'_> {
-    ghost presses = { λ v. whole_presses (fields_octets (ds_fields v)) };
+    ghost writes = { λ v. octets_writes (fields_octets (ds_fields v)) };
 
-    ghost pieces = { λ v. Some (whole_pieces (ds_fields v)) };
+    ghost layout = { λ v. Some (octets_layout (ds_fields v)) };
 
-    ghost told = { λ v. told_whole (ds_fields v) };
+    ghost layout_matches = { λ v. octets_match (ds_fields v) };
 
     fn build_in_message(
         &self,

@@ -35,7 +35,7 @@ pub fn data_are_equal_by_fields()
     ensures zonemd { (a b : _) → ⟦<ZoneMD<&'static [u8]> as PartialEq>⟧.eq a b ≡ fields_eq (eq_by_cmp (on key key_cmp)) (eq_by_cmp (on key key_cmp)) same_charstr (zonemd_fields (λ d. d.now) a) (zonemd_fields (λ d. d.now) b) }
 {}
 
-/// Data feed a hasher their fields one after another, names in small letters.
+/// Data feed a hasher their fields one after another, names in lowercase.
 pub fn data_are_hashed_by_fields()
     ensures ds { (v : _) → ⟦<Ds<'static> as Hash>⟧.hash_input v ≡ fields_writes name_writes name_writes charstr_writes (ds_fields v) }
     ensures cds { (v : _) → ⟦<Cds<'static> as Hash>⟧.hash_input v ≡ fields_writes name_writes name_writes charstr_writes (cds_fields v) }
@@ -69,7 +69,7 @@ pub fn default_flags()
 {}
 
 /// A ZONEMD with a digest of a known length is compared as one with the same octets, and feeds a hasher the digest with its
-/// length behind the other fields (RFC 8976 section 2.2).
+/// length after the other fields (RFC 8976 section 2.2).
 pub fn digests_of_known_length<const N: usize>()
     ensures equal { (a b : _) → ⟦<ZoneMD<[u8; N]> as PartialEq>⟧.eq a b
         ≡ fields_eq (eq_by_cmp (on key key_cmp)) (eq_by_cmp (on key key_cmp)) same_charstr (zonemd_fields (λ d. d) a) (zonemd_fields (λ d. d) b) }

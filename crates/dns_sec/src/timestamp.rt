@@ -37,7 +37,7 @@ impl Timestamp {
     }
 
     /// How two times compare, as serial numbers do: less where the other is at most 2^31 - 1 seconds ahead,
-    /// greater where it is at most as much behind, and not at all where it is 2^31 away (RFC 1982 section 3.2).
+    /// greater where it is at most as much after, and not at all where it is 2^31 away (RFC 1982 section 3.2).
     pub fn partial_cmp(&self, other: &Timestamp) -> Option<Ordering>
         ensures { result ≡ serial_cmp self.now other.now }
     {

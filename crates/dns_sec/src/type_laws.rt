@@ -1,4 +1,4 @@
-//! The types of this crate by the one table: what is read and written for the number of each is what its row says.
+//! The types of this crate by the one table: what is read and written for the number of each is what its RDATA format says.
 
 ghost use Rattle.std.specs.Prelude.{◌≡◌, ℕ, List};
 ghost use Rattle.dns_wire.specs.Names.{plain_name};
@@ -15,7 +15,7 @@ use crate::rrsig::Rrsig;
 use crate::zonemd::ZoneMD;
 use dns_record::{CanonicalRecordData, ParseRecordDataBytes};
 
-/// Of all the octets, each type reads the fields of its number's row, and for any other number nothing (RFC 4034
+/// Of all the octets, each type reads the fields of its number's RDATA format, and for any other number nothing (RFC 4034
 /// sections 2.1, 3.1 and 5.1, RFC 7344 sections 3.1 and 3.2, RFC 8976 section 2.2).
 pub fn types_are_read_by_number()
     ensures ds { (rtype : ℕ) (bytes : List ℕ) → ⟦<Ds<'static> as ParseRecordDataBytes<'static>>⟧.reads_as rtype bytes ≡ of_type 43 rtype (data_as plain_name 43 bytes) }

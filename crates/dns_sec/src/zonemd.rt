@@ -4,16 +4,16 @@ ghost use Rattle.std.specs.Prelude.{◌≡◌, ◌≤◌, ◌<◌, ◌^◌, ℕ,
 ghost use Rattle.dns_wire.specs.Building.{Builds};
 ghost use Rattle.dns_wire.specs.Compression.{FitsIn};
 ghost use Rattle.dns_wire.specs.InMessage.{BuildsIn};
-ghost use Rattle.dns_wire.specs.Pieces.{whole_presses};
+ghost use Rattle.dns_wire.specs.Layout.{octets_writes};
 ghost use Rattle.dns_wire.specs.Reading.{Gives, all_of, all_at, plain_at};
 ghost use Rattle.dns_record.specs.Canonical.{ranked_cmp};
 ghost use Rattle.dns_record.specs.Fields.{Field, fields_octets, canonical_octets};
 ghost use Rattle.dns_record.specs.Kinds.{fields_of, no_name};
-ghost use Rattle.dns_record.specs.Left.{bare_leave, bare_end};
-ghost use Rattle.dns_record.specs.Rows.{row};
-ghost use Rattle.dns_record.specs.Whole.{whole_pieces, told_whole};
+ghost use Rattle.dns_record.specs.DataLemmas.{uncompressed_leave, uncompressed_end};
+ghost use Rattle.dns_record.specs.Formats.{rdata_format};
+ghost use Rattle.dns_record.specs.Whole.{octets_layout, octets_match};
 ghost use Rattle.dns_record.proofs.Sizes.{canonical_long};
-ghost use Rattle.dns_sec.specs.Rows.{row_zonemd_of};
+ghost use Rattle.dns_sec.specs.Formats.{format_zonemd_of};
 ghost use Rattle.dns_sec.specs.Types.{zonemd_fields};
 
 use crate::zonemd_hash_alg::ZoneMDHashAlg;
@@ -46,13 +46,13 @@ impl<'a> ParseBytes<'a> for ZoneMD<&'a [u8]> {
 
     ghost seen = { zonemd_fields (λ d. d.now) };
 
-    ghost reads = { fields_of no_name (row 63) };
+    ghost reads = { fields_of no_name (rdata_format 63) };
 
-    ghost reads_at = { plain_at (fields_of no_name (row 63)) };
+    ghost reads_at = { plain_at (fields_of no_name (rdata_format 63)) };
 
-    ghost leaves_rest = { bare_leave (row 63) };
+    ghost leaves_rest = { uncompressed_leave (rdata_format 63) };
 
-    ghost ends_within = { bare_end (row 63) };
+    ghost ends_within = { uncompressed_end (rdata_format 63) };
 
     fn parse_bytes(bytes: &'a [u8]) -> Result<ZoneMD<&'a [u8]>, ParseError> {
         let (serial, rest) = Serial::split_bytes(bytes)?;
@@ -73,13 +73,13 @@ impl<'a, const N: usize> ParseBytes<'a> for ZoneMD<[u8; N]> {
 
     ghost seen = { zonemd_fields (λ d. d) };
 
-    ghost reads = { fields_of no_name (row_zonemd_of N) };
+    ghost reads = { fields_of no_name (format_zonemd_of N) };
 
-    ghost reads_at = { plain_at (fields_of no_name (row_zonemd_of N)) };
+    ghost reads_at = { plain_at (fields_of no_name (format_zonemd_of N)) };
 
-    ghost leaves_rest = { bare_leave (row_zonemd_of N) };
+    ghost leaves_rest = { uncompressed_leave (format_zonemd_of N) };
 
-    ghost ends_within = { bare_end (row_zonemd_of N) };
+    ghost ends_within = { uncompressed_end (format_zonemd_of N) };
 
     fn parse_bytes(bytes: &'a [u8]) -> Result<ZoneMD<[u8; N]>, ParseError> {
         let (serial, rest) = Serial::split_bytes(bytes)?;
@@ -145,13 +145,13 @@ impl<D: AsSlice<u8>> BuildBytes for ZoneMD<D> {
     }
 }
 
-/// Whole, a piece for each field.
+/// Uncompressed, with a part for each field.
 impl<D: AsSlice<u8>> BuildInMessage for ZoneMD<D> {
-    ghost presses = { λ v. whole_presses (fields_octets (zonemd_fields D.items v)) };
+    ghost writes = { λ v. octets_writes (fields_octets (zonemd_fields D.items v)) };
 
-    ghost pieces = { λ v. Some (whole_pieces (zonemd_fields D.items v)) };
+    ghost layout = { λ v. Some (octets_layout (zonemd_fields D.items v)) };
 
-    ghost told = { λ v. told_whole (zonemd_fields D.items v) };
+    ghost layout_matches = { λ v. octets_match (zonemd_fields D.items v) };
 
     fn build_in_message(
         &self,

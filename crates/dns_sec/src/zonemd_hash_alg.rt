@@ -1,8 +1,8 @@
 //! Digests of zones.
 
-ghost use Rattle.dns_wire.specs.Left.{octet_leaves};
+ghost use Rattle.dns_wire.specs.ReadingLemmas.{octet_leaves};
 ghost use Rattle.std.specs.Prelude.{◌≡◌, ℕ, [], ◌∷◌, None, ⊤};
-ghost use Rattle.dns_wire.specs.Pieces.{whole_presses};
+ghost use Rattle.dns_wire.specs.Layout.{octets_writes};
 ghost use Rattle.dns_wire.specs.Reading.{octet};
 
 use dns_wire::{
@@ -56,9 +56,9 @@ impl BuildBytes for ZoneMDHashAlg {
 
 /// Whole, with no name in it.
 impl BuildInMessage for ZoneMDHashAlg {
-    ghost presses = { λ v. whole_presses (v.code ∷ []) };
+    ghost writes = { λ v. octets_writes (v.code ∷ []) };
 
-    ghost told = { λ _. tt };
+    ghost layout_matches = { λ _. tt };
 
     fn build_in_message(
         &self,

@@ -44,19 +44,19 @@ table_is c within =
     let same : 0 + c ≡ c = omega arith in
     right_at VALUES 0 c all_right within ∙ ap digit_value same
 
--- ---- octets that are spelled behind others
+-- ---- octets that are spelled after others
 
 abbrev pub joined : List ℕ → Option (List ℕ) → Option (List ℕ)
-joined front None = None
-joined front (Some octets) = Some (front ++ octets)
+joined prefix None = None
+joined prefix (Some octets) = Some (prefix ++ octets)
 
 pub joined_none : (read : Option (List ℕ)) → joined [] read ≡ read
 joined_none None = refl
 joined_none (Some octets) = refl
 
-joined_pair : (front : List ℕ) (high low : ℕ) (read : Option (List ℕ)) → joined front (pair_before (Some high) (Some low) read) ≡ joined (front ++ (high * 16 + low) ∷ []) read
-joined_pair front high low None = refl
-joined_pair front high low (Some octets) = ap Some (sym (append_assoc front ((high * 16 + low) ∷ []) octets))
+joined_pair : (prefix : List ℕ) (high low : ℕ) (read : Option (List ℕ)) → joined prefix (pair_before (Some high) (Some low) read) ≡ joined (prefix ++ (high * 16 + low) ∷ []) read
+joined_pair prefix high low None = refl
+joined_pair prefix high low (Some octets) = ap Some (sym (append_assoc prefix ((high * 16 + low) ∷ []) octets))
 
 digit_of : (c : ℕ) → c < 256 → get_or VALUES c 0 < 16 → digit_value c ≡ Some (get_or VALUES c 0)
 digit_of c within small = sym (table_is c within) ∙ some (get_or VALUES c 0) small where

@@ -7,50 +7,50 @@ use Rattle.std.proofs.Math.Seq.{take-add, take-append-add}
 use Rattle.std.proofs.lemmas.List.{take-append-le}
 use Rattle.std.proofs.lemmas.List.Concat.{flat_map-cons}
 use Rattle.std.proofs.lemmas.Grind.{flat_map-append}
-use Rattle.dns_wire.specs.Outside.{ReadsAll, WritesFront, Puts}
+use Rattle.dns_wire.specs.Outside.{ReadsAll, WritesPrefix, Puts}
 use Rattle.dns_text.specs.Notes.{spaced, note_line}
 use Rattle.dns_text.specs.Taken.{TakesAtMost}
 use Rattle.std.specs.Io.KnownBytes.{Appends, Consumes}
 use Rattle.dns_wire.specs.Outside.{WriteFlag}
-use Rattle.dns_wire.specs.declared.outside.Failed.{Failed}
+use Rattle.dns_wire.specs.declared.io.traits.Failed.{Failed}
 
 -- the rest of a text from i on, as a slice gives it
 rest_of : (text : List ℕ) (i : ℕ) → take (length text - i) (drop i text) ≡ drop i text
 rest_of text i = take_all (length text - i) (drop i text) (omega (arith, length-drop i text))
 
--- a write behind the first i octets leaves the first i + n
+-- a write after the first i octets leaves the first i + n
 pub appends_next : (a b c : Option (List ℕ)) (text : List ℕ) (i n : ℕ) → Appends a b (take i text)
     → Appends b c (take n (take (length text - i) (drop i text))) → Appends a c (take (i + n) text)
 appends_next a b c text i n p q =
     let q' : Appends b c (take n (drop i text)) = subst (λ (l : List ℕ). Appends b c (take n l)) (rest_of text i) q in
     subst (Appends a c) (sym (take-add i n text)) (Appends-trans a b c _ _ p q')
 
--- a piece that was taken behind others
+-- a piece that was taken after others
 pub taken_more : (a b c : Option (List ℕ)) (text buffer : List ℕ) (n limit : ℕ) → Consumes a b text → Consumes b c (take n buffer) → length text ≤ limit → length buffer ≡ 4096
     → TakesAtMost a c (limit + 4096)
 taken_more a b c text buffer n limit p q within room =
     (text ++ take n buffer, Consumes-trans a b c text (take n buffer) p q, omega (arith, length-append text (take n buffer), length-take n buffer))
 
 -- a flag that was told is told still after a write
-pub flag_told : (a b c : Option Bool) (n : ℕ) → IfSome a (λ _. IsSome b) → WriteFlag b c (let r : Result ℕ Failed = Ok n in r) → IfSome a (λ _. IsSome c)
-flag_told None b c n p q = tt
-flag_told (Some x) None c n p q = cc
-flag_told (Some x) (Some y) c n p q = rw q refl
+pub flag_known : (a b c : Option Bool) (n : ℕ) → IfSome a (λ _. IsSome b) → WriteFlag b c (let r : Result ℕ Failed = Ok n in r) → IfSome a (λ _. IsSome c)
+flag_known None b c n p q = tt
+flag_known (Some x) None c n p q = cc
+flag_known (Some x) (Some y) c n p q = rw q refl
 
--- a front of a text is one of a longer text
-pub front_longer : (a b : Option (List ℕ)) (x y : List ℕ) → WritesFront a b x → WritesFront a b (x ++ y)
-front_longer a b x y h =
+-- a prefix of a text is one of a longer text
+pub prefix_longer : (a b : Option (List ℕ)) (x y : List ℕ) → WritesPrefix a b x → WritesPrefix a b (x ++ y)
+prefix_longer a b x y h =
     (h.0, omega (arith, h.1, length-append x y), subst (Appends a b) (sym (take-append-le h.0 x y h.1)) h.2)
 
--- a front behind a text that was written
-pub front_behind : (a b c : Option (List ℕ)) (x y : List ℕ) → Appends a b x → WritesFront b c y → WritesFront a c (x ++ y)
-front_behind a b c x y h j =
+-- a prefix after a text that was written
+pub prefix_after : (a b c : Option (List ℕ)) (x y : List ℕ) → Appends a b x → WritesPrefix b c y → WritesPrefix a c (x ++ y)
+prefix_after a b c x y h j =
     (length x + j.0, omega (arith, j.1, length-append x y), subst (Appends a c) (sym (take-append-add x y j.0)) (Appends-trans a b c x (take j.0 y) h j.2))
 
--- a text behind a text that was written
-pub puts_behind : (a b c : Option (List ℕ)) (x y : List ℕ) (r : Result (Unit {0}) Failed) → Appends a b x → Puts b c y r → Puts a c (x ++ y) r
-puts_behind a b c x y (Ok u) h j = Appends-trans a b c x y h j
-puts_behind a b c x y (Err e) h j = front_behind a b c x y h j
+-- a text after a text that was written
+pub puts_after : (a b c : Option (List ℕ)) (x y : List ℕ) (r : Result (Unit {0}) Failed) → Appends a b x → Puts b c y r → Puts a c (x ++ y) r
+puts_after a b c x y (Ok u) h j = Appends-trans a b c x y h j
+puts_after a b c x y (Err e) h j = prefix_after a b c x y h j
 
 -- the numbers, around the one at i
 numbers_around : (nums : List ℕ) (i : ℕ) → i < length nums
@@ -60,13 +60,13 @@ numbers_around nums i lt =
     ∙ ap (λ (l : List ℕ). flat_map spaced (take i nums) ++ l) (ap (flat_map spaced) (drop-cons nums i 0 lt) ∙ flat_map-cons spaced (get_or nums i 0) (drop (suc i) nums))
 
 -- a line that stops at a number
-pub front_line : (a b c : Option (List ℕ)) (word nums : List ℕ) (i : ℕ) → i < length nums → Appends a b (word ++ flat_map spaced (take i nums))
-    → WritesFront b c (spaced (get_or nums i 0)) → WritesFront a c (note_line word nums)
-front_line a b c word nums i lt h j =
+pub prefix_line : (a b c : Option (List ℕ)) (word nums : List ℕ) (i : ℕ) → i < length nums → Appends a b (word ++ flat_map spaced (take i nums))
+    → WritesPrefix b c (spaced (get_or nums i 0)) → WritesPrefix a c (note_line word nums)
+prefix_line a b c word nums i lt h j =
     let rest = flat_map spaced (drop (suc i) nums) ++ 10 ∷ [] in
     let whole : (word ++ flat_map spaced (take i nums)) ++ (spaced (get_or nums i 0) ++ rest) ≡ note_line word nums =
     simp (append_assoc, numbers_around nums i lt) in
-    subst (WritesFront a c) whole (front_behind a b c _ _ h (front_longer b c (spaced (get_or nums i 0)) rest j))
+    subst (WritesPrefix a c) whole (prefix_after a b c _ _ h (prefix_longer b c (spaced (get_or nums i 0)) rest j))
 
 -- a line to its end
 pub puts_line : (a b c : Option (List ℕ)) (word nums : List ℕ) (i : ℕ) (r : Result (Unit {0}) Failed) → length nums ≤ i → Appends a b (word ++ flat_map spaced (take i nums))
@@ -74,9 +74,9 @@ pub puts_line : (a b c : Option (List ℕ)) (word nums : List ℕ) (i : ℕ) (r 
 puts_line a b c word nums i r le h j =
     let whole : (word ++ flat_map spaced (take i nums)) ++ 10 ∷ [] ≡ note_line word nums =
     ap (λ (l : List ℕ). (word ++ flat_map spaced l) ++ 10 ∷ []) (take_all i nums le) ∙ append_assoc word (flat_map spaced nums) (10 ∷ []) in
-    subst (λ (l : List ℕ). Puts a c l r) whole (puts_behind a b c _ _ r h j)
+    subst (λ (l : List ℕ). Puts a c l r) whole (puts_after a b c _ _ r h j)
 
--- what was written is a front, at `Ok` the whole
-pub front_of_puts : (a b : Option (List ℕ)) (x : List ℕ) (r : Result (Unit {0}) Failed) → Puts a b x r → WritesFront a b x
-front_of_puts a b x (Ok u) h = (length x, omega arith, subst (Appends a b) (sym (take_all (length x) x (omega arith))) h)
-front_of_puts a b x (Err e) h = h
+-- what was written is a prefix, at `Ok` the whole
+pub prefix_of_puts : (a b : Option (List ℕ)) (x : List ℕ) (r : Result (Unit {0}) Failed) → Puts a b x r → WritesPrefix a b x
+prefix_of_puts a b x (Ok u) h = (length x, omega arith, subst (Appends a b) (sym (take_all (length x) x (omega arith))) h)
+prefix_of_puts a b x (Err e) h = h

@@ -16,20 +16,20 @@ trim-solid [] b h = rw h refl
 trim-solid (x ∷ []) b h = ap (trim_cons x) (trim-solid [] b h)
 trim-solid (x ∷ y ∷ xs) b h = ap (trim_cons x) (trim-solid (y ∷ xs) b h)
 
--- the front before the last octet
-front : (xs : List ℕ) (e : ℕ) → 0 < e → e ≤ length xs → take e xs ≡ take (e - 1) xs ++ get_or xs (e - 1) 0 ∷ []
-front xs e h k =
+-- the prefix before the last octet
+prefix : (xs : List ℕ) (e : ℕ) → 0 < e → e ≤ length xs → take e xs ≡ take (e - 1) xs ++ get_or xs (e - 1) 0 ∷ []
+prefix xs e h k =
     let one : e - 1 + 1 ≡ e = omega arith in
     let within : e - 1 < length xs = omega arith in
     ap (λ n. take n xs) (sym one) ∙ take_more xs (e - 1) 0 within
 
-pub trim-front_blank : (xs : List ℕ) (e : ℕ) → 0 < e → e ≤ length xs → is_blank (get_or xs (e - 1) 0) ≡ true
+pub trim-prefix_blank : (xs : List ℕ) (e : ℕ) → 0 < e → e ≤ length xs → is_blank (get_or xs (e - 1) 0) ≡ true
     → trim (take (e - 1) xs) ≡ trim (take e xs)
-trim-front_blank xs e h k blank = sym (ap trim (front xs e h k) ∙ trim-blank _ _ blank)
+trim-prefix_blank xs e h k blank = sym (ap trim (prefix xs e h k) ∙ trim-blank _ _ blank)
 
-pub trim-front_solid : (xs : List ℕ) (e : ℕ) → 0 < e → e ≤ length xs → is_blank (get_or xs (e - 1) 0) ≡ false
+pub trim-prefix_solid : (xs : List ℕ) (e : ℕ) → 0 < e → e ≤ length xs → is_blank (get_or xs (e - 1) 0) ≡ false
     → take e xs ≡ trim (take e xs)
-trim-front_solid xs e h k solid = sym (ap trim (front xs e h k) ∙ trim-solid _ _ solid ∙ sym (front xs e h k))
+trim-prefix_solid xs e h k solid = sym (ap trim (prefix xs e h k) ∙ trim-solid _ _ solid ∙ sym (prefix xs e h k))
 
 -- nothing of the text is left
 pub trim-none : (xs : List ℕ) (e : ℕ) → e ≤ 0 → take e xs ≡ trim (take e xs)

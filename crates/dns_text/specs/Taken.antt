@@ -2,6 +2,6 @@
 use Rattle.std.specs.Prelude.{ℕ, ◌≤◌, List, length, Option}
 use Rattle.std.specs.Io.KnownBytes.{Consumes}
 
--- no more octets than so many have been taken of what was told
+-- no more octets than that many have been taken of what was told
 abbrev pub TakesAtMost : Option (List ℕ) → Option (List ℕ) → ℕ → Type 0
 TakesAtMost old new most = (taken : List ℕ) × Consumes old new taken × (length taken ≤ most)

@@ -25,7 +25,7 @@ pub fn trimmed(text: &[u8]) -> &[u8]
     &text[..end]
 }
 
-/// The octets that the text spells, blanks at its end aside.
+/// The octets that the text spells, except for blanks at its end.
 pub fn octets_of(alloc: Global, text: &[u8]) -> Result<Vec<u8>, HexError>
     ensures ok { IfOk result (λ octets. Spells text.now octets.items) }
     ensures bad_hex { IsErrOf result HexError.BadHex → SpellsNothing text.now }

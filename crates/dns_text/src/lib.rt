@@ -8,4 +8,4 @@ mod transfer;
 
 pub use error::{HexError, TextError};
 pub use hexadecimal::{octets_of, trimmed};
-pub use transfer::{PIECE, put_all, put_line, put_text, read_text};
+pub use transfer::{READ_CHUNK, put_all, put_line, put_text, read_text};

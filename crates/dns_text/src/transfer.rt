@@ -11,7 +11,7 @@ use itoa::Buffer;
 use std::alloc::Global;
 
 /// The most octets that one read gives.
-pub const PIECE: usize = 4096;
+pub const READ_CHUNK: usize = 4096;
 
 /// Reads all that is left, if that is at most `limit` octets. No read comes once the limit is passed.
 pub fn read_text<S: Source>(
@@ -24,10 +24,10 @@ pub fn read_text<S: Source>(
     ensures too_long { IsErrOf result TextError.TooLong → IfSome (S.left source.old) (λ all. limit < length all) }
     ensures read_fault { IsErrOf result TextError.ReadFault → Rose (S.faults source.old) (S.faults source.new) }
     ensures steady { (result ≢ Err TextError.ReadFault) → S.faults source.new ≡ S.faults source.old }
-    ensures taken { TakesAtMost (S.left source.old) (S.left source.new) (limit + PIECE) }
+    ensures taken { TakesAtMost (S.left source.old) (S.left source.new) (limit + READ_CHUNK) }
 {
     let mut text = Vec::with_capacity(alloc, limit)?;
-    let mut buffer = [0u8; PIECE];
+    let mut buffer = [0u8; READ_CHUNK];
     loop {
         let count = source.read(&mut buffer)?;
         if count == 0 {
@@ -73,7 +73,7 @@ fn put_number<K: Sink>(sink: &mut K, number: u16) -> Result<(), Failed>
     put_all(sink, buffer.format(number).as_bytes())
 }
 
-/// Writes a word, the numbers in decimal digits behind it, and LF. It takes no memory.
+/// Writes a word, the numbers in decimal digits after it, and LF. It takes no memory.
 pub fn put_line<K: Sink>(sink: &mut K, word: &[u8], numbers: &[u16]) -> Result<(), Failed>
     ensures puts { Puts (K.written sink.old) (K.written sink.new) (note_line word.now numbers.now) result }
     ensures cause { HasCause (K.faults sink.old) (K.faults sink.new) result }

@@ -12,34 +12,34 @@ use Rattle.std.specs.declared.cmp.Ordering.{Ordering}
 use Rattle.std.specs.declared.cmp.Ordering.TheVariants.{Less, Equal, Greater}
 use Rattle.std.proofs.lemmas.Bool.{eq-eqb, ne_eqb, eqb-true, eqb-false, cases_order}
 use Rattle.std.proofs.lemmas.Bool.Decides.{nat_tests}
-use Rattle.std.proofs.lemmas.List.{get_or-reverse, get_or-take, reverse-append, length-map, length-reverse, append_assoc, take_at, drop_at, take-append-drop, take-take, map-id}
+use Rattle.std.proofs.lemmas.List.{get_or-reverse, get_or-take, reverse-append, reverse-reverse, map-append, length-map, length-reverse, append_assoc, take_at, drop_at, take-append-drop, take-take, map-id}
 use Rattle.std.proofs.lemmas.List.Sums.{prefix_len-le-length, common_prefix_len-drop_no}
 use Rattle.std.proofs.lemmas.Slice.Eq.{bytes_eq-Decides}
 use Rattle.std.specs.Cmp.Lexicographic.{pointwise}
 use Rattle.std.proofs.lemmas.Simd.{tops_compared, mask_l-mod, first_set_mask_l, length-zip2}
-use Rattle.dns_wire.specs.Agreement.{agreeing_front, agreeing_end}
+use Rattle.dns_wire.specs.Agreement.{agreeing_prefix, agreeing_end, EndAlike}
 
 -- ---- octets that are equal are passed over
 
 letter_same : (x : ℕ) → eq_ignore_ascii_case x x ≡ true
 letter_same x = eq-eqb (to_ascii_lowercase x) (to_ascii_lowercase x) refl
 
-front_same : (p xs ys : List ℕ) → agreeing_front (p ++ xs) (p ++ ys) ≡ length p + agreeing_front xs ys
-front_same [] xs ys = omega arith
-front_same (x ∷ p) xs ys = ap (λ s. cond s (1 + agreeing_front (p ++ xs) (p ++ ys)) 0) (letter_same x) ∙ omega (arith, front_same p xs ys)
+prefix_same : (p xs ys : List ℕ) → agreeing_prefix (p ++ xs) (p ++ ys) ≡ length p + agreeing_prefix xs ys
+prefix_same [] xs ys = omega arith
+prefix_same (x ∷ p) xs ys = ap (λ s. cond s (1 + agreeing_prefix (p ++ xs) (p ++ ys)) 0) (letter_same x) ∙ omega (arith, prefix_same p xs ys)
 
-pub front_from : (n : ℕ) (xs ys : List ℕ) → n ≤ length xs → take n xs ≡ take n ys → agreeing_front xs ys ≡ n + agreeing_front (drop n xs) (drop n ys)
-front_from n xs ys within same =
-    ap (λ l. agreeing_front l ys) (sym (take-append-drop n xs))
-    ∙ ap (λ l. agreeing_front (take n xs ++ drop n xs) l) (sym (take-append-drop n ys) ∙ ap (λ l. l ++ drop n ys) (sym same))
-    ∙ front_same (take n xs) (drop n xs) (drop n ys)
-    ∙ ap (λ k. k + agreeing_front (drop n xs) (drop n ys)) (length-take-le n xs within)
+pub prefix_from : (n : ℕ) (xs ys : List ℕ) → n ≤ length xs → take n xs ≡ take n ys → agreeing_prefix xs ys ≡ n + agreeing_prefix (drop n xs) (drop n ys)
+prefix_from n xs ys within same =
+    ap (λ l. agreeing_prefix l ys) (sym (take-append-drop n xs))
+    ∙ ap (λ l. agreeing_prefix (take n xs ++ drop n xs) l) (sym (take-append-drop n ys) ∙ ap (λ l. l ++ drop n ys) (sym same))
+    ∙ prefix_same (take n xs) (drop n xs) (drop n ys)
+    ∙ ap (λ k. k + agreeing_prefix (drop n xs) (drop n ys)) (length-take-le n xs within)
 
 end_same : (xs ys p : List ℕ) → agreeing_end (xs ++ p) (ys ++ p) ≡ length p + agreeing_end xs ys
 end_same xs ys p =
-    ap (λ l. agreeing_front l (reverse (ys ++ p))) (reverse-append xs p)
-    ∙ ap (agreeing_front (reverse p ++ reverse xs)) (reverse-append ys p)
-    ∙ front_same (reverse p) (reverse xs) (reverse ys)
+    ap (λ l. agreeing_prefix l (reverse (ys ++ p))) (reverse-append xs p)
+    ∙ ap (agreeing_prefix (reverse p ++ reverse xs)) (reverse-append ys p)
+    ∙ prefix_same (reverse p) (reverse xs) (reverse ys)
     ∙ ap (λ k. k + agreeing_end xs ys) (length-reverse p)
 
 pub end_from : (m n : ℕ) (xs ys : List ℕ) → m ≤ length xs → drop m xs ≡ drop n ys → agreeing_end xs ys ≡ (length xs - m) + agreeing_end (take m xs) (take n ys)
@@ -63,7 +63,7 @@ mask_differing xs ys long short =
     ap (λ ms. mask_l ms % 18446744073709551616) (tops_compared w8 differ xs ys ∙ sym (map-id (zip2 differ xs ys)))
     ∙ mask_l-mod (map (λ b. b) (zip2 differ xs ys)) 64 (omega (arith, length-map (zip2 differ xs ys) (λ b. b), length-zip2 differ xs ys (long ∙ sym short), long))
 
--- so many lanes before the first that differ are the same
+-- that many lanes before the first that differ are the same
 abbrev lanes : List ℕ → List ℕ → ℕ
 lanes xs ys = prefix_len (λ (x : Bool). not x) (zip2 differ xs ys)
 
@@ -112,17 +112,17 @@ some_in_block at xs ys n (few, same) = sym (take-take n 16 (drop at xs) few) ∙
 
 -- ---- eight octets at once, from the last back
 
-split_back : (a left front x : List ℕ) → take (length left) a ≡ left → left ≡ front ++ x → a ≡ front ++ (x ++ drop (length left) a)
-split_back a left front x e split = sym (take-append-drop (length left) a) ∙ ap (λ l. l ++ drop (length left) a) (e ∙ split) ∙ append_assoc front x (drop (length left) a)
+split_back : (a left prefix x : List ℕ) → take (length left) a ≡ left → left ≡ prefix ++ x → a ≡ prefix ++ (x ++ drop (length left) a)
+split_back a left prefix x e split = sym (take-append-drop (length left) a) ∙ ap (λ l. l ++ drop (length left) a) (e ∙ split) ∙ append_assoc prefix x (drop (length left) a)
 
-front_left : (a front rest : List ℕ) → a ≡ front ++ rest → (drop (length front) a ≡ rest) × (take (length front) a ≡ front)
-front_left a front rest e = (ap (drop (length front)) e ∙ drop_at front rest (length front) refl, ap (take (length front)) e ∙ take_at front rest (length front) refl)
+prefix_left : (a prefix rest : List ℕ) → a ≡ prefix ++ rest → (drop (length prefix) a ≡ rest) × (take (length prefix) a ≡ prefix)
+prefix_left a prefix rest e = (ap (drop (length prefix)) e ∙ drop_at prefix rest (length prefix) refl, ap (take (length prefix)) e ∙ take_at prefix rest (length prefix) refl)
 
-pub back_left : (a left front x : List ℕ) → take (length left) a ≡ left → left ≡ front ++ x → (drop (length front) a ≡ x ++ drop (length left) a) × (take (length front) a ≡ front)
-back_left a left front x e split = front_left a front (x ++ drop (length left) a) (split_back a left front x e split)
+pub back_left : (a left prefix x : List ℕ) → take (length left) a ≡ left → left ≡ prefix ++ x → (drop (length prefix) a ≡ x ++ drop (length left) a) × (take (length prefix) a ≡ prefix)
+back_left a left prefix x e split = prefix_left a prefix (x ++ drop (length left) a) (split_back a left prefix x e split)
 
-pub cut_back : (left front x : List ℕ) (at : ℕ) → front ≡ take at left → x ≡ drop at left → left ≡ front ++ x
-cut_back left front x at e d = sym (take-append-drop at left) ∙ ap (λ l. l ++ drop at left) (sym e) ∙ ap (λ l. front ++ l) (sym d)
+pub cut_back : (left prefix x : List ℕ) (at : ℕ) → prefix ≡ take at left → x ≡ drop at left → left ≡ prefix ++ x
+cut_back left prefix x at e d = sym (take-append-drop at left) ∙ ap (λ l. l ++ drop at left) (sym e) ∙ ap (λ l. prefix ++ l) (sym d)
 
 pub equal_chunks : (xs ys : List ℕ) → false ≡ not (pointwise nat_eq xs ys) → xs ≡ ys
 equal_chunks xs ys e = (bytes_eq-Decides xs ys).0 (is (pointwise nat_eq xs ys) e) where
@@ -137,7 +137,7 @@ end_left xs ys m e = ap (λ k. agreeing_end (take k xs) ys) e
 
 pub end_right : (xs ys : List ℕ) (n : ℕ) → n ≡ 0 → agreeing_end xs (take n ys) ≡ 0
 end_right xs ys n e = ap (λ k. agreeing_end xs (take k ys)) e ∙ none (reverse xs) where
-  none : (l : List ℕ) → agreeing_front l [] ≡ 0
+  none : (l : List ℕ) → agreeing_prefix l [] ≡ 0
   none [] = refl
   none (x ∷ l) = refl
 
@@ -152,9 +152,9 @@ end_differs m n xs ys some within more fits differ =
     common_prefix_len-drop_no eq_ignore_ascii_case (reverse (take m xs)) (reverse (take n ys)) 0 0 0 (omega (arith, some, length-reverse (take m xs), length-take-le m xs within)) (omega (arith, more, length-reverse (take n ys), length-take-le n ys fits))
     (ap (λ k. eq_ignore_ascii_case k (get_or (reverse (take n ys)) 0 0)) (last_of m xs some within) ∙ ap (eq_ignore_ascii_case (get_or xs (m - 1) 0)) (last_of n ys more fits) ∙ differ)
 
-pub front_ended : (at : ℕ) (xs ys : List ℕ) → at ≤ length xs → length ys ≤ at → agreeing_front (drop at xs) (drop at ys) ≡ 0
-front_ended at xs ys within past = none (drop at xs) (drop at ys) (omega (arith, length-drop at ys, past)) where
-  none : (l k : List ℕ) → length k ≡ 0 → agreeing_front l k ≡ 0
+pub prefix_ended : (at : ℕ) (xs ys : List ℕ) → at ≤ length xs → length ys ≤ at → agreeing_prefix (drop at xs) (drop at ys) ≡ 0
+prefix_ended at xs ys within past = none (drop at xs) (drop at ys) (omega (arith, length-drop at ys, past)) where
+  none : (l k : List ℕ) → length k ≡ 0 → agreeing_prefix l k ≡ 0
   none [] k e = refl
   none (x ∷ l) [] e = refl
   none (x ∷ l) (y ∷ k) e = absurd (omega (arith, e))
@@ -177,15 +177,15 @@ differ_then a b rest ne = elim (cases_order a b) [ inl e ↦ absurd (ne e) | inr
   step : (o : Ordering) → ordering_then o rest ≡ o → nat_cmp a b ≡ o → ordering_then (nat_cmp a b) rest ≡ nat_cmp a b
   step o d e = ap (λ t. ordering_then t rest) e ∙ d ∙ sym e
 
-pub decided : (xs ys : List ℕ) (at : ℕ) → at ≡ agreeing_front xs ys → at < length xs → at < length ys → slice_cmp nat_cmp (str_to_ascii_lowercase xs) (str_to_ascii_lowercase ys) ≡ nat_cmp (to_ascii_lowercase (get_or xs at 0)) (to_ascii_lowercase (get_or ys at 0))
+pub decided : (xs ys : List ℕ) (at : ℕ) → at ≡ agreeing_prefix xs ys → at < length xs → at < length ys → slice_cmp nat_cmp (str_to_ascii_lowercase xs) (str_to_ascii_lowercase ys) ≡ nat_cmp (to_ascii_lowercase (get_or xs at 0)) (to_ascii_lowercase (get_or ys at 0))
 decided [] ys at e l r = absurd (omega (arith, l))
 decided (x ∷ xs) [] at e l r = absurd (omega (arith, r))
 decided (x ∷ xs) (y ∷ ys) at e l r = by (eq_ignore_ascii_case x y) refl (decided xs ys) e where
-  by : (s : Bool) → eq_ignore_ascii_case x y ≡ s → ((at : ℕ) → at ≡ agreeing_front xs ys → at < length xs → at < length ys → slice_cmp nat_cmp (str_to_ascii_lowercase xs) (str_to_ascii_lowercase ys) ≡ nat_cmp (to_ascii_lowercase (get_or xs at 0)) (to_ascii_lowercase (get_or ys at 0))) → at ≡ cond s (1 + agreeing_front xs ys) 0 → slice_cmp nat_cmp (str_to_ascii_lowercase (x ∷ xs)) (str_to_ascii_lowercase (y ∷ ys)) ≡ nat_cmp (to_ascii_lowercase (get_or (x ∷ xs) at 0)) (to_ascii_lowercase (get_or (y ∷ ys) at 0))
+  by : (s : Bool) → eq_ignore_ascii_case x y ≡ s → ((at : ℕ) → at ≡ agreeing_prefix xs ys → at < length xs → at < length ys → slice_cmp nat_cmp (str_to_ascii_lowercase xs) (str_to_ascii_lowercase ys) ≡ nat_cmp (to_ascii_lowercase (get_or xs at 0)) (to_ascii_lowercase (get_or ys at 0))) → at ≡ cond s (1 + agreeing_prefix xs ys) 0 → slice_cmp nat_cmp (str_to_ascii_lowercase (x ∷ xs)) (str_to_ascii_lowercase (y ∷ ys)) ≡ nat_cmp (to_ascii_lowercase (get_or (x ∷ xs) at 0)) (to_ascii_lowercase (get_or (y ∷ ys) at 0))
   by true same ih d =
-      let next : at ≡ suc (agreeing_front xs ys) = omega (arith, d) in
+      let next : at ≡ suc (agreeing_prefix xs ys) = omega (arith, d) in
       equal_then (to_ascii_lowercase x) (to_ascii_lowercase y) _ (eqb-true _ _ same)
-      ∙ ih (agreeing_front xs ys) refl (omega (arith, l, next)) (omega (arith, r, next))
+      ∙ ih (agreeing_prefix xs ys) refl (omega (arith, l, next)) (omega (arith, r, next))
       ∙ ap (λ k. nat_cmp (to_ascii_lowercase (get_or (x ∷ xs) k 0)) (to_ascii_lowercase (get_or (y ∷ ys) k 0))) (sym next)
   by false other ih d =
       differ_then (to_ascii_lowercase x) (to_ascii_lowercase y) _ (eqb-false _ _ other)
@@ -194,7 +194,7 @@ decided (x ∷ xs) (y ∷ ys) at e l r = by (eq_ignore_ascii_case x y) refl (dec
 same_less : (n m : ℕ) → nat_cmp n m ≡ nat_cmp (suc n) (suc m)
 same_less n m = grind (arith, nat_tests)
 
-pub undecided : (xs ys : List ℕ) (at : ℕ) → at ≡ agreeing_front xs ys → (length xs ≤ at) ⊎ (length ys ≤ at) → slice_cmp nat_cmp (str_to_ascii_lowercase xs) (str_to_ascii_lowercase ys) ≡ nat_cmp (length xs) (length ys)
+pub undecided : (xs ys : List ℕ) (at : ℕ) → at ≡ agreeing_prefix xs ys → (length xs ≤ at) ⊎ (length ys ≤ at) → slice_cmp nat_cmp (str_to_ascii_lowercase xs) (str_to_ascii_lowercase ys) ≡ nat_cmp (length xs) (length ys)
 undecided [] [] at e past = refl
 undecided [] (y ∷ ys) at e past = sym (below 0 (length (y ∷ ys)) (omega arith)) where
   below : (n m : ℕ) → n < m → nat_cmp n m ≡ Less
@@ -203,11 +203,78 @@ undecided (x ∷ xs) [] at e past = sym (above 0 (length (x ∷ xs)) (omega arit
   above : (n m : ℕ) → n < m → nat_cmp m n ≡ Greater
   above n m h = grind (arith, nat_tests)
 undecided (x ∷ xs) (y ∷ ys) at e past = by (eq_ignore_ascii_case x y) refl (undecided xs ys) e where
-  by : (s : Bool) → eq_ignore_ascii_case x y ≡ s → ((at : ℕ) → at ≡ agreeing_front xs ys → (length xs ≤ at) ⊎ (length ys ≤ at) → slice_cmp nat_cmp (str_to_ascii_lowercase xs) (str_to_ascii_lowercase ys) ≡ nat_cmp (length xs) (length ys)) → at ≡ cond s (1 + agreeing_front xs ys) 0 → slice_cmp nat_cmp (str_to_ascii_lowercase (x ∷ xs)) (str_to_ascii_lowercase (y ∷ ys)) ≡ nat_cmp (length (x ∷ xs)) (length (y ∷ ys))
+  by : (s : Bool) → eq_ignore_ascii_case x y ≡ s → ((at : ℕ) → at ≡ agreeing_prefix xs ys → (length xs ≤ at) ⊎ (length ys ≤ at) → slice_cmp nat_cmp (str_to_ascii_lowercase xs) (str_to_ascii_lowercase ys) ≡ nat_cmp (length xs) (length ys)) → at ≡ cond s (1 + agreeing_prefix xs ys) 0 → slice_cmp nat_cmp (str_to_ascii_lowercase (x ∷ xs)) (str_to_ascii_lowercase (y ∷ ys)) ≡ nat_cmp (length (x ∷ xs)) (length (y ∷ ys))
   by true same ih d =
       equal_then (to_ascii_lowercase x) (to_ascii_lowercase y) _ (eqb-true _ _ same)
-      ∙ ih (agreeing_front xs ys) refl (elim past [ inl p ↦ inl (omega (arith, p, d)) | inr p ↦ inr (omega (arith, p, d)) ])
+      ∙ ih (agreeing_prefix xs ys) refl (elim past [ inl p ↦ inl (omega (arith, p, d)) | inr p ↦ inr (omega (arith, p, d)) ])
       ∙ same_less (length xs) (length ys)
   by false other ih d = absurd (elim past [ inl p ↦ some xs (omega (arith, p, d)) | inr p ↦ some ys (omega (arith, p, d)) ]) where
     some : (l : List ℕ) → 1 + length l ≤ 0 → ⊥
     some l h = omega (arith, h)
+
+-- ---- the octets that agree, in words
+
+abbrev low : List ℕ → List ℕ
+low = str_to_ascii_lowercase
+
+prefix_step : (x y : ℕ) (xs ys : List ℕ) (b : Bool) → eq_ignore_ascii_case x y ≡ b → agreeing_prefix (x ∷ xs) (y ∷ ys) ≡ cond b (1 + agreeing_prefix xs ys) 0
+prefix_step x y xs ys b e = ap (λ (s : Bool). cond s (1 + agreeing_prefix xs ys) 0) e
+
+low_prefix : (xs ys : List ℕ) → (agreeing_prefix xs ys ≤ length xs) × (low (take (agreeing_prefix xs ys) xs) ≡ low (take (agreeing_prefix xs ys) ys))
+low_prefix [] ys = (omega arith, nothing ys) where
+  nothing : (ys : List ℕ) → low (take (agreeing_prefix [] ys) []) ≡ low (take (agreeing_prefix [] ys) ys)
+  nothing [] = refl
+  nothing (y ∷ ys) = refl
+low_prefix (x ∷ xs) [] = (omega arith, refl)
+low_prefix (x ∷ xs) (y ∷ ys) = by (eq_ignore_ascii_case x y) refl (low_prefix xs ys) where
+  by : (b : Bool) → eq_ignore_ascii_case x y ≡ b → (agreeing_prefix xs ys ≤ length xs) × (low (take (agreeing_prefix xs ys) xs) ≡ low (take (agreeing_prefix xs ys) ys)) → (agreeing_prefix (x ∷ xs) (y ∷ ys) ≤ length (x ∷ xs)) × (low (take (agreeing_prefix (x ∷ xs) (y ∷ ys)) (x ∷ xs)) ≡ low (take (agreeing_prefix (x ∷ xs) (y ∷ ys)) (y ∷ ys)))
+  by false e later = let none = prefix_step x y xs ys false e in (omega (arith, none), ap (λ (n : ℕ). low (take n (x ∷ xs))) none ∙ sym (ap (λ (n : ℕ). low (take n (y ∷ ys))) none))
+  by true e later =
+      let more : agreeing_prefix (x ∷ xs) (y ∷ ys) ≡ suc (agreeing_prefix xs ys) = prefix_step x y xs ys true e ∙ omega arith in (
+        omega (arith, more, later.0),
+        ap (λ (n : ℕ). low (take n (x ∷ xs))) more
+            ∙ ap (λ (l : List ℕ). to_ascii_lowercase x ∷ l) later.1
+            ∙ ap (λ (o : ℕ). o ∷ low (take (agreeing_prefix xs ys) ys)) (eqb-true (to_ascii_lowercase x) (to_ascii_lowercase y) e)
+            ∙ sym (ap (λ (n : ℕ). low (take n (y ∷ ys))) more),
+      )
+
+no_longer : (p q xs ys : List ℕ) → low p ≡ low q → length p ≤ agreeing_prefix (p ++ xs) (q ++ ys)
+no_longer [] q xs ys e = omega arith
+no_longer (x ∷ p) [] xs ys e = absurd (omega (arith, ap length e))
+no_longer (x ∷ p) (y ∷ q) xs ys e =
+    let first : to_ascii_lowercase x ≡ to_ascii_lowercase y = cc in
+    let others : low p ≡ low q = cc in
+    omega (arith, prefix_step x y (p ++ xs) (q ++ ys) true (eq-eqb (to_ascii_lowercase x) (to_ascii_lowercase y) first), no_longer p q xs ys others)
+
+low_back : (xs : List ℕ) → low (reverse xs) ≡ reverse (low xs)
+low_back [] = refl
+low_back (x ∷ xs) =
+    ap low (reverse-append (x ∷ []) xs) ∙ map-append to_ascii_lowercase (reverse xs) (x ∷ [])
+    ∙ ap (λ (l : List ℕ). l ++ to_ascii_lowercase x ∷ []) (low_back xs) ∙ sym (reverse-append (to_ascii_lowercase x ∷ []) (low xs))
+
+turned_parts : (xs : List ℕ) (n : ℕ) → xs ≡ reverse (drop n (reverse xs)) ++ reverse (take n (reverse xs))
+turned_parts xs n =
+    sym (reverse-reverse xs) ∙ ap reverse (sym (take-append-drop n (reverse xs))) ∙ reverse-append (take n (reverse xs)) (drop n (reverse xs))
+
+pub end_common : (xs ys : List ℕ) → EndAlike xs ys (agreeing_end xs ys)
+end_common xs ys =
+    let n : ℕ = agreeing_end xs ys in
+    let l = low_prefix (reverse xs) (reverse ys) in
+    record {
+      before = reverse (drop n (reverse xs));
+      before_other = reverse (drop n (reverse ys));
+      end = reverse (take n (reverse xs));
+      other = reverse (take n (reverse ys));
+      first_is = turned_parts xs n;
+      second_is = turned_parts ys n;
+      long = length-reverse (take n (reverse xs)) ∙ length-take-le n (reverse xs) l.0;
+      alike = low_back (take n (reverse xs)) ∙ ap reverse l.1 ∙ sym (low_back (take n (reverse ys)));
+    }
+
+pub end_longest : (xs ys : List ℕ) (count : ℕ) → EndAlike xs ys count → count ≤ agreeing_end xs ys
+end_longest xs ys count a =
+    let first : reverse xs ≡ reverse a.end ++ reverse a.before = ap reverse a.first_is ∙ reverse-append a.before a.end in
+    let second : reverse ys ≡ reverse a.other ++ reverse a.before_other = ap reverse a.second_is ∙ reverse-append a.before_other a.other in
+    let same : low (reverse a.end) ≡ low (reverse a.other) = low_back a.end ∙ ap reverse a.alike ∙ sym (low_back a.other) in
+    let long : length (reverse a.end) ≤ agreeing_prefix (reverse a.end ++ reverse a.before) (reverse a.other ++ reverse a.before_other) = no_longer (reverse a.end) (reverse a.other) (reverse a.before) (reverse a.before_other) same in
+    omega (arith, a.long, length-reverse a.end, long, ap (λ (l : List ℕ). agreeing_prefix l (reverse ys)) first, ap (λ (l : List ℕ). agreeing_prefix (reverse a.end ++ reverse a.before) l) second)

@@ -8,46 +8,46 @@ use Rattle.std.proofs.lemmas.List.{length-append, take-append-drop}
 use Rattle.std.proofs.Math.Seq.{take-suc}
 use Rattle.std.proofs.lemmas.List.Folds.{find-append}
 use Rattle.std.proofs.lemmas.Option.{some_pair_parts}
-use Rattle.dns_wire.specs.Compression.{are_alike, reads_as, stands_at, or_shorter, longest_kept}
-use Rattle.dns_wire.specs.Names.{heads}
+use Rattle.dns_wire.specs.Compression.{are_alike, reads_as, stands_at, or_shorter, longest_recorded}
+use Rattle.dns_wire.specs.Names.{labels_wire}
 use Rattle.dns_wire.specs.Pointers.{segment_within, name_at}
 use Rattle.dns_wire.specs.Searching.{count_more, count_at, else_later, suffix_at, before_limit}
-use Rattle.dns_wire.proofs.Alike.{Found, alike_count, short_differs}
+use Rattle.dns_wire.proofs.AlikeLabels.{Found, alike_count, short_differs}
 
 -- ---- where suffixes begin
 
 -- from low on, and before high
 abbrev Within : ℕ → ℕ → Option ℕ → Type 0
 Within low high None = Unit {0}
-Within low high (Some front) = (low ≤ front) × (front < high)
+Within low high (Some prefix) = (low ≤ prefix) × (prefix < high)
 
 abbrev From : ℕ → Option (ℕ × ℕ) → Type 0
 From low None = Unit {0}
-From low (Some (front, place)) = low ≤ front
+From low (Some (prefix, place)) = low ≤ prefix
 
 within_wider : (lower low high : ℕ) (o : Option ℕ) → lower ≤ low → Within low high o → Within lower high o
 within_wider lower low high None h w = tt
-within_wider lower low high (Some front) h w = (omega arith, w.1)
+within_wider lower low high (Some prefix) h w = (omega arith, w.1)
 
 from_lower : (lower low : ℕ) (o : Option (ℕ × ℕ)) → lower ≤ low → From low o → From lower o
 from_lower lower low None h f = tt
-from_lower lower low (Some (front, place)) h f = omega arith
+from_lower lower low (Some (prefix, place)) h f = omega arith
 
-pub suffix_within : (contents : List ℕ) (place at high : ℕ) (labels : List (List ℕ)) → at + length (heads labels) ≤ high → Within at high (suffix_at contents place at labels)
+pub suffix_within : (contents : List ℕ) (place at high : ℕ) (labels : List (List ℕ)) → at + length (labels_wire labels) ≤ high → Within at high (suffix_at contents place at labels)
 unfolding suffix_at
 suffix_within contents place at high [] h = tt
 suffix_within contents place at high (label ∷ labels) h =
-    by (stands_at contents (label ∷ labels) place) (suffix_at contents place (at + 1 + length label) labels) (suffix_within contents place (at + 1 + length label) high labels (omega (arith, h, length-append label (heads labels)))) where
+    by (stands_at contents (label ∷ labels) place) (suffix_at contents place (at + 1 + length label) labels) (suffix_within contents place (at + 1 + length label) high labels (omega (arith, h, length-append label (labels_wire labels)))) where
       by : (stands : Bool) (later : Option ℕ) → Within (at + 1 + length label) high later → Within at high (else_later at stands later)
-      by true later w = (omega arith, omega (arith, h, length-append label (heads labels)))
+      by true later w = (omega arith, omega (arith, h, length-append label (labels_wire labels)))
       by false later w = within_wider at (at + 1 + length label) high later (omega arith) w
 
-longest_from : (contents places : List ℕ) (at : ℕ) (labels : List (List ℕ)) → From at (longest_kept contents places at labels)
-unfolding longest_kept
+longest_from : (contents places : List ℕ) (at : ℕ) (labels : List (List ℕ)) → From at (longest_recorded contents places at labels)
+unfolding longest_recorded
 longest_from contents places at [] = tt
 longest_from contents places at (label ∷ labels) =
-    by (find (stands_at contents (label ∷ labels)) places) (longest_kept contents places (at + 1 + length label) labels) (longest_from contents places (at + 1 + length label) labels) where
-      by : (kept : Option ℕ) (later : Option (ℕ × ℕ)) → From (at + 1 + length label) later → From at (or_shorter at kept later)
+    by (find (stands_at contents (label ∷ labels)) places) (longest_recorded contents places (at + 1 + length label) labels) (longest_from contents places (at + 1 + length label) labels) where
+      by : (recorded : Option ℕ) (later : Option (ℕ × ℕ)) → From (at + 1 + length label) later → From at (or_shorter at recorded later)
       by None later f = from_lower at (at + 1 + length label) later (omega arith) f
       by (Some place) later f = omega arith
 
@@ -56,12 +56,12 @@ longest_from contents places at (label ∷ labels) =
 -- the better of what is known so far and of what is read at one more place
 abbrev pub better : Option (ℕ × ℕ) → ℕ → Option ℕ → Option (ℕ × ℕ)
 better best place None = best
-better None place (Some front) = Some (front, place)
-better (Some (least, first)) place (Some front) = if nat_le least front then Some (least, first) else Some (front, place)
+better None place (Some prefix) = Some (prefix, place)
+better (Some (least, first)) place (Some prefix) = if nat_le least prefix then Some (least, first) else Some (prefix, place)
 
-kept_first : (at place first high : ℕ) (o : Option ℕ) → Within at high o → better (Some (at, first)) place o ≡ Some (at, first)
-kept_first at place first high None w = refl
-kept_first at place first high (Some front) w = let t : nat_le at front ≡ true = grind (arith, nat_tests) in rw t refl
+recorded_first : (at place first high : ℕ) (o : Option ℕ) → Within at high o → better (Some (at, first)) place o ≡ Some (at, first)
+recorded_first at place first high None w = refl
+recorded_first at place first high (Some prefix) w = let t : nat_le at prefix ≡ true = grind (arith, nat_tests) in rw t refl
 
 found_new : (at place : ℕ) (o : Option (ℕ × ℕ)) → From (at + 1) o → better o place (Some at) ≡ Some (at, place)
 found_new at place None f = refl
@@ -71,96 +71,96 @@ find_more : (p : ℕ → Bool) (places : List ℕ) (place : ℕ) → find p (pla
 find_more p places place = find-append p places (place ∷ [])
 
 -- one more place
-pub longest_more : (contents places : List ℕ) (place at : ℕ) (labels : List (List ℕ)) → longest_kept contents (places ++ place ∷ []) at labels ≡ better (longest_kept contents places at labels) place (suffix_at contents place at labels)
-unfolding longest_kept suffix_at
+pub longest_more : (contents places : List ℕ) (place at : ℕ) (labels : List (List ℕ)) → longest_recorded contents (places ++ place ∷ []) at labels ≡ better (longest_recorded contents places at labels) place (suffix_at contents place at labels)
+unfolding longest_recorded suffix_at
 longest_more contents places place at [] = refl
 longest_more contents places place at (label ∷ labels) =
     let next : ℕ = at + 1 + length label in
     let stands : ℕ → Bool = stands_at contents (label ∷ labels) in
-    ap (λ (o : Option ℕ). or_shorter at o (longest_kept contents (places ++ place ∷ []) next labels)) (find_more stands places place)
+    ap (λ (o : Option ℕ). or_shorter at o (longest_recorded contents (places ++ place ∷ []) next labels)) (find_more stands places place)
     ∙ ap (or_shorter at (option_or (find stands places) (cond (stands place) (Some place) None))) (longest_more contents places place next labels)
-    ∙ by (find stands places) (stands place) (longest_kept contents places next labels) (longest_from contents places next labels) (suffix_at contents place next labels) (suffix_within contents place next (next + length (heads labels)) labels (omega arith)) where
-      by : (kept : Option ℕ) (new : Bool) (later : Option (ℕ × ℕ)) → From (at + 1 + length label) later → (other : Option ℕ) → Within (at + 1 + length label) (at + 1 + length label + length (heads labels)) other → or_shorter at (option_or kept (cond new (Some place) None)) (better later place other) ≡ better (or_shorter at kept later) place (else_later at new other)
-      by (Some first) true later f other w = sym (kept_first at place first (at + 1) (Some at) (omega arith, omega arith))
-      by (Some first) false later f other w = sym (kept_first at place first (at + 1 + length label + length (heads labels)) other (within_wider at (at + 1 + length label) (at + 1 + length label + length (heads labels)) other (omega arith) w))
+    ∙ by (find stands places) (stands place) (longest_recorded contents places next labels) (longest_from contents places next labels) (suffix_at contents place next labels) (suffix_within contents place next (next + length (labels_wire labels)) labels (omega arith)) where
+      by : (recorded : Option ℕ) (new : Bool) (later : Option (ℕ × ℕ)) → From (at + 1 + length label) later → (other : Option ℕ) → Within (at + 1 + length label) (at + 1 + length label + length (labels_wire labels)) other → or_shorter at (option_or recorded (cond new (Some place) None)) (better later place other) ≡ better (or_shorter at recorded later) place (else_later at new other)
+      by (Some first) true later f other w = sym (recorded_first at place first (at + 1) (Some at) (omega arith, omega arith))
+      by (Some first) false later f other w = sym (recorded_first at place first (at + 1 + length label + length (labels_wire labels)) other (within_wider at (at + 1 + length label) (at + 1 + length label + length (labels_wire labels)) other (omega arith) w))
       by None true later f other w = sym (found_new at place later (from_lower (at + 1) (at + 1 + length label) later (omega arith) f))
       by None false later f other w = refl
 
-pub longest_none : (contents : List ℕ) (at : ℕ) (labels : List (List ℕ)) → longest_kept contents [] at labels ≡ None
-unfolding longest_kept
+pub longest_none : (contents : List ℕ) (at : ℕ) (labels : List (List ℕ)) → longest_recorded contents [] at labels ≡ None
+unfolding longest_recorded
 longest_none contents at [] = refl
 longest_none contents at (label ∷ labels) = longest_none contents (at + 1 + length label) labels
 
 -- where the whole name is known, later places change nothing
-longest_stays : (contents places more : List ℕ) (at first : ℕ) (labels : List (List ℕ)) → longest_kept contents places at labels ≡ Some (at, first) → longest_kept contents (places ++ more) at labels ≡ Some (at, first)
-unfolding longest_kept
+longest_stays : (contents places more : List ℕ) (at first : ℕ) (labels : List (List ℕ)) → longest_recorded contents places at labels ≡ Some (at, first) → longest_recorded contents (places ++ more) at labels ≡ Some (at, first)
+unfolding longest_recorded
 longest_stays contents places more at first [] e = absurd cc
 longest_stays contents places more at first (label ∷ labels) e =
-    ap (λ (o : Option ℕ). or_shorter at o (longest_kept contents (places ++ more) (at + 1 + length label) labels)) (find-append (stands_at contents (label ∷ labels)) places more)
-    ∙ by (find (stands_at contents (label ∷ labels)) places) (longest_kept contents places (at + 1 + length label) labels) (longest_from contents places (at + 1 + length label) labels) e where
-      by : (kept : Option ℕ) (later : Option (ℕ × ℕ)) → From (at + 1 + length label) later → or_shorter at kept later ≡ Some (at, first) → or_shorter at (option_or kept (find (stands_at contents (label ∷ labels)) more)) (longest_kept contents (places ++ more) (at + 1 + length label) labels) ≡ Some (at, first)
+    ap (λ (o : Option ℕ). or_shorter at o (longest_recorded contents (places ++ more) (at + 1 + length label) labels)) (find-append (stands_at contents (label ∷ labels)) places more)
+    ∙ by (find (stands_at contents (label ∷ labels)) places) (longest_recorded contents places (at + 1 + length label) labels) (longest_from contents places (at + 1 + length label) labels) e where
+      by : (recorded : Option ℕ) (later : Option (ℕ × ℕ)) → From (at + 1 + length label) later → or_shorter at recorded later ≡ Some (at, first) → or_shorter at (option_or recorded (find (stands_at contents (label ∷ labels)) more)) (longest_recorded contents (places ++ more) (at + 1 + length label) labels) ≡ Some (at, first)
       by None None f e = absurd cc
-      by None (Some (front, place)) f e = absurd (let p = some_pair_parts front at place first e in omega (arith, p.0, f))
+      by None (Some (prefix, place)) f e = absurd (let p = some_pair_parts prefix at place first e in omega (arith, p.0, f))
       by (Some place) later f e = e
 
-pub longest_whole : (contents places : List ℕ) (n first : ℕ) (labels : List (List ℕ)) → longest_kept contents (take n places) 0 labels ≡ Some (0, first) → longest_kept contents places 0 labels ≡ Some (0, first)
+pub longest_whole : (contents places : List ℕ) (n first : ℕ) (labels : List (List ℕ)) → longest_recorded contents (take n places) 0 labels ≡ Some (0, first) → longest_recorded contents places 0 labels ≡ Some (0, first)
 longest_whole contents places n first labels e =
-    ap (λ (k : List ℕ). longest_kept contents k 0 labels) (sym (take-append-drop n places))
+    ap (λ (k : List ℕ). longest_recorded contents k 0 labels) (sym (take-append-drop n places))
     ∙ longest_stays contents (take n places) (drop n places) 0 first labels e
 
 -- ---- the loop over the places
 
 -- where the best suffix so far begins, or else the end of the name
-abbrev pub front_of : ℕ → Option (ℕ × ℕ) → ℕ
-front_of size None = size
-front_of size (Some (front, place)) = front
+abbrev pub prefix_of : ℕ → Option (ℕ × ℕ) → ℕ
+prefix_of size None = size
+prefix_of size (Some (prefix, place)) = prefix
 
-pub limit_before : (limit front : ℕ) → front < limit → before_limit limit (Some front) ≡ Some front
-limit_before limit front before = let t : nat_lt front limit ≡ true = lt-ltb front limit before in rw t refl
+pub limit_before : (limit prefix : ℕ) → prefix < limit → before_limit limit (Some prefix) ≡ Some prefix
+limit_before limit prefix before = let t : nat_lt prefix limit ≡ true = lt-ltb prefix limit before in rw t refl
 
-pub limit_reached : (limit front : ℕ) (stands : Bool) → limit ≤ front → before_limit limit (else_later front stands None) ≡ None
-limit_reached limit front true past = let t : nat_lt front limit ≡ false = le-ltb front limit past in rw t refl
-limit_reached limit front false past = refl
+pub limit_reached : (limit prefix : ℕ) (stands : Bool) → limit ≤ prefix → before_limit limit (else_later prefix stands None) ≡ None
+limit_reached limit prefix true past = let t : nat_lt prefix limit ≡ false = le-ltb prefix limit past in rw t refl
+limit_reached limit prefix false past = refl
 
 -- what is found before the best so far is better
-pub step_found : (best : Option (ℕ × ℕ)) (size place found : ℕ) (o : Option ℕ) → Some found ≡ before_limit (front_of size best) o → Some (found, place) ≡ better best place o
+pub step_found : (best : Option (ℕ × ℕ)) (size place found : ℕ) (o : Option ℕ) → Some found ≡ before_limit (prefix_of size best) o → Some (found, place) ≡ better best place o
 step_found None size place found None e = absurd cc
-step_found None size place found (Some front) e = by (nat_lt front size) e where
-  by : (b : Bool) → Some found ≡ cond b (Some front) None → ◌≡◌ {A = Option (ℕ × ℕ)} (Some (found, place)) (Some (front, place))
-  by true e = let same : found ≡ front = cc in rw same refl
+step_found None size place found (Some prefix) e = by (nat_lt prefix size) e where
+  by : (b : Bool) → Some found ≡ cond b (Some prefix) None → ◌≡◌ {A = Option (ℕ × ℕ)} (Some (found, place)) (Some (prefix, place))
+  by true e = let same : found ≡ prefix = cc in rw same refl
   by false e = absurd cc
 step_found (Some (least, first)) size place found None e = absurd cc
-step_found (Some (least, first)) size place found (Some front) e = by (nat_lt front least) refl e where
-  by : (b : Bool) → nat_lt front least ≡ b → Some found ≡ cond b (Some front) None → ◌≡◌ {A = Option (ℕ × ℕ)} (Some (found, place)) (if nat_le least front then Some (least, first) else Some (front, place))
-  by true t e = let u : nat_le least front ≡ false = grind (arith, nat_tests, t) in let same : found ≡ front = cc in rw (u, same) refl
+step_found (Some (least, first)) size place found (Some prefix) e = by (nat_lt prefix least) refl e where
+  by : (b : Bool) → nat_lt prefix least ≡ b → Some found ≡ cond b (Some prefix) None → ◌≡◌ {A = Option (ℕ × ℕ)} (Some (found, place)) (if nat_le least prefix then Some (least, first) else Some (prefix, place))
+  by true t e = let u : nat_le least prefix ≡ false = grind (arith, nat_tests, t) in let same : found ≡ prefix = cc in rw (u, same) refl
   by false t e = absurd cc
 
 -- and else nothing is
-pub step_missed : (best : Option (ℕ × ℕ)) (size place : ℕ) (o : Option ℕ) → Within 0 size o → None ≡ before_limit (front_of size best) o → best ≡ better best place o
+pub step_missed : (best : Option (ℕ × ℕ)) (size place : ℕ) (o : Option ℕ) → Within 0 size o → None ≡ before_limit (prefix_of size best) o → best ≡ better best place o
 step_missed best size place None w e = refl
-step_missed None size place (Some front) w e =
-    let t : nat_lt front size ≡ true = lt-ltb front size w.1 in
-    absurd (let h : ◌≡◌ {A = Option ℕ} None (Some front) = rw t at e in cc)
-step_missed (Some (least, first)) size place (Some front) w e = by (nat_lt front least) refl e where
-  by : (b : Bool) → nat_lt front least ≡ b → None ≡ cond b (Some front) None → ◌≡◌ {A = Option (ℕ × ℕ)} (Some (least, first)) (if nat_le least front then Some (least, first) else Some (front, place))
+step_missed None size place (Some prefix) w e =
+    let t : nat_lt prefix size ≡ true = lt-ltb prefix size w.1 in
+    absurd (let h : ◌≡◌ {A = Option ℕ} None (Some prefix) = rw t at e in cc)
+step_missed (Some (least, first)) size place (Some prefix) w e = by (nat_lt prefix least) refl e where
+  by : (b : Bool) → nat_lt prefix least ≡ b → None ≡ cond b (Some prefix) None → ◌≡◌ {A = Option (ℕ × ℕ)} (Some (least, first)) (if nat_le least prefix then Some (least, first) else Some (prefix, place))
   by true t e = absurd cc
-  by false t e = let u : nat_le least front ≡ true = grind (arith, nat_tests, t) in rw u refl
+  by false t e = let u : nat_le least prefix ≡ true = grind (arith, nat_tests, t) in rw u refl
 
-module _ (contents places : List ℕ) (labels : List (List ℕ)) (size i front : ℕ) (best : Option (ℕ × ℕ)) (within : i < length places) (best_is : best ≡ longest_kept contents (take i places) 0 labels) (front_is : front ≡ front_of size best) where
-  one_more : longest_kept contents (take (i + 1) places) 0 labels ≡ better best (get_or places i 0) (suffix_at contents (get_or places i 0) 0 labels)
+module _ (contents places : List ℕ) (labels : List (List ℕ)) (size i prefix : ℕ) (best : Option (ℕ × ℕ)) (within : i < length places) (best_is : best ≡ longest_recorded contents (take i places) 0 labels) (prefix_is : prefix ≡ prefix_of size best) where
+  one_more : longest_recorded contents (take (i + 1) places) 0 labels ≡ better best (get_or places i 0) (suffix_at contents (get_or places i 0) 0 labels)
   one_more =
       let more : take (i + 1) places ≡ take i places ++ get_or places i 0 ∷ [] = rw add-one (take-suc places i 0 within) in
-      ap (λ (k : List ℕ). longest_kept contents k 0 labels) more
+      ap (λ (k : List ℕ). longest_recorded contents k 0 labels) more
       ∙ longest_more contents (take i places) (get_or places i 0) 0 labels
       ∙ ap (λ (b : Option (ℕ × ℕ)). better b (get_or places i 0) (suffix_at contents (get_or places i 0) 0 labels)) (sym best_is)
 
-  pub more_found : (found : ℕ) → Some found ≡ before_limit front (suffix_at contents (get_or places i 0) 0 labels) → Some (found, get_or places i 0) ≡ longest_kept contents (take (i + 1) places) 0 labels
+  pub more_found : (found : ℕ) → Some found ≡ before_limit prefix (suffix_at contents (get_or places i 0) 0 labels) → Some (found, get_or places i 0) ≡ longest_recorded contents (take (i + 1) places) 0 labels
   more_found found e =
-      step_found best size (get_or places i 0) found (suffix_at contents (get_or places i 0) 0 labels) (rw front_is at e) ∙ sym one_more
+      step_found best size (get_or places i 0) found (suffix_at contents (get_or places i 0) 0 labels) (rw prefix_is at e) ∙ sym one_more
 
-  pub more_missed : length (heads labels) ≤ size → None ≡ before_limit front (suffix_at contents (get_or places i 0) 0 labels) → best ≡ longest_kept contents (take (i + 1) places) 0 labels
+  pub more_missed : length (labels_wire labels) ≤ size → None ≡ before_limit prefix (suffix_at contents (get_or places i 0) 0 labels) → best ≡ longest_recorded contents (take (i + 1) places) 0 labels
   more_missed room e =
-      step_missed best size (get_or places i 0) (suffix_at contents (get_or places i 0) 0 labels) (suffix_within contents (get_or places i 0) 0 size labels (omega arith)) (rw front_is at e) ∙ sym one_more
+      step_missed best size (get_or places i 0) (suffix_at contents (get_or places i 0) 0 labels) (suffix_within contents (get_or places i 0) 0 size labels (omega arith)) (rw prefix_is at e) ∙ sym one_more
 
 -- ---- the one suffix that may be the name at a place
 

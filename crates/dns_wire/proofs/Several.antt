@@ -4,16 +4,16 @@ use Rattle.std.specs.List.{flat_map}
 use Rattle.std.proofs.lemmas.List.{take_more, take-append-drop, flat_map_more}
 use Rattle.std.proofs.lemmas.List.Folds.{length-flat_map-take}
 use Rattle.dns_wire.specs.Building.{Stands, Builds}
-use Rattle.dns_wire.proofs.Standing.{stands_long, kept_front}
+use Rattle.dns_wire.proofs.BuildingLemmas.{stands_long, prefix_unchanged}
 
 -- the values up to one of them, and that one
 module _ {X : Type 0} (values : List X) (i : ℕ) (x : X) (within : i < length values) (is : x ≡ get_or values i x) where
   pub taken : take (i + 1) values ≡ take i values ++ x ∷ []
   taken = take_more values i x within ∙ ap (λ (y : X). take i values ++ y ∷ []) (sym is)
 
-  -- with those behind it
+  -- with those after it
   pub parted : (take i values ++ x ∷ []) ++ drop (i + 1) values ≡ values
-  parted = ap (λ (front : List X). front ++ drop (i + 1) values) (sym taken) ∙ take-append-drop (i + 1) values
+  parted = ap (λ (prefix : List X). prefix ++ drop (i + 1) values) (sym taken) ∙ take-append-drop (i + 1) values
 
   pub one_more : (f : X → List ℕ) → flat_map f (take i values) ++ f x ≡ flat_map f (take (i + 1) values)
   one_more f = flat_map_more f [] (take i values) x ∙ ap (flat_map f) (sym taken)
@@ -21,11 +21,11 @@ module _ {X : Type 0} (values : List X) (i : ℕ) (x : X) (within : i < length v
   pub no_longer : (f : X → List ℕ) → length (flat_map f (take i values)) + length (f x) ≤ length (flat_map f values)
   no_longer f = rw (← is) at (length-flat_map-take f values i x within)
 
--- a part that is refused behind a first one
+-- a part that is refused after a first one
 pub refused_later : {E D F G : Type 0} {a b whole first second third : List ℕ} {start middle : ℕ} {e : E} {d : D} → Stands a first start second middle → Builds G b second middle third (Err e) → (F → G) → length a + length b ≤ length whole → Builds F whole first start third (Err d)
 refused_later {a = a} {b} {whole} {first} {second} {third} {start} {middle} s t all long = record {
   ok = tt;
-  err = (kept_front first second third a start middle s t.err.0, t.err.1 ∙ stands_long s, λ f. omega (arith, t.err.2 (all f), s.end_is, stands_long s));
+  err = (prefix_unchanged first second third a start middle s t.err.0, t.err.1 ∙ stands_long s, λ f. omega (arith, t.err.2 (all f), s.end_is, stands_long s));
 }
 
 -- a list of octets stands as it is

@@ -1,4 +1,4 @@
--- What a name without pointers is, in words: labels whose octets stand at the front.
+-- What a name without pointers is, in words: labels whose octets stand at the start.
 use Rattle.std.proofs.Common.{◌≡◌, ℕ, zero, suc, ◌+◌, ◌<◌, ◌≤◌, ◌⊎◌, inl, inr, Bool, true, false, cond, ltb, List, [], ◌∷◌, ◌++◌, length, get_or, take, drop, Option, Some, None, refl, sym, ap, subst, ◌∙◌, append_assoc, arith}
 use Rattle.std.specs.Prelude.{unwrap_or, ◌==◌, ◌||◌}
 use Rattle.std.specs.List.{AllByRecursion}
@@ -7,7 +7,7 @@ use Rattle.std.proofs.lemmas.Bool.{ltb-false}
 use Rattle.std.proofs.lemmas.List.{take_at, drop_at, take-append-drop, length-append, length-take, append-nil}
 use Rattle.std.proofs.lemmas.Option.{some_pair_parts}
 use Rattle.dns_wire.specs.Reading.{all_of}
-use Rattle.dns_wire.specs.Names.{heads, wire, IsLabel, IsName, after_labels, labels_within, up_to_255, plain_name, name_labels}
+use Rattle.dns_wire.specs.Names.{labels_wire, wire, IsLabel, IsName, after_labels, labels_within, up_to_255, plain_name, name_labels}
 use Rattle.dns_wire.proofs.Walk.{Read, plain_wire, wire_long}
 
 -- the two cases of a choice that gives z
@@ -22,7 +22,7 @@ after_takes : (bytes label more : List ℕ) (read : Read) (labels : List (List �
 after_takes bytes label more None labels rest parts fits later e = absurd cc
 after_takes bytes label more (Some (others, left)) labels rest parts fits later e =
     let t = later others left refl in
-    let whole : Takes bytes (label ∷ others) left = (parts ∙ ap (λ (m : List ℕ). length label ∷ (label ++ m)) t.0 ∙ ap (λ (m : List ℕ). length label ∷ m) (sym (append_assoc label (wire others) left) ∙ ap (λ (m : List ℕ). m ++ left) (sym (append_assoc label (heads others) (0 ∷ [])))), (fits, t.1)) in
+    let whole : Takes bytes (label ∷ others) left = (parts ∙ ap (λ (m : List ℕ). length label ∷ (label ++ m)) t.0 ∙ ap (λ (m : List ℕ). length label ∷ m) (sym (append_assoc label (wire others) left) ∙ ap (λ (m : List ℕ). m ++ left) (sym (append_assoc label (labels_wire others) (0 ∷ [])))), (fits, t.1)) in
     let same = some_pair_parts (label ∷ others) labels left rest e in
     subst (λ (p : List ℕ). Takes bytes labels p) same.1 (subst (λ (p : List (List ℕ)). Takes bytes p left) same.0 whole)
 
@@ -104,17 +104,17 @@ labels_of_wire labels is =
     (ap all_of read, ap (λ (o : Option (List (List ℕ))). unwrap_or o []) (ap all_of read))
 
 first_of : (labels : List (List ℕ)) (size : ℕ) → IsName labels → get_or (wire labels) 0 0 ≡ size → 0 < size → FirstLabel (wire labels) size
-first_of [] size is at_front some = absurd (omega arith)
-first_of (label ∷ labels) size is at_front some =
-    let rest : IsName labels = record { sizes = is.sizes.1; size = omega (arith, is.size, wire_long labels, wire_long (label ∷ labels), length-append label (heads labels)) } in
+first_of [] size is at_prefix some = absurd (omega arith)
+first_of (label ∷ labels) size is at_prefix some =
+    let rest : IsName labels = record { sizes = is.sizes.1; size = omega (arith, is.size, wire_long labels, wire_long (label ∷ labels), length-append label (labels_wire labels)) } in
     let again = labels_of_wire labels rest in
-    let body : label ++ heads labels ++ 0 ∷ [] ≡ label ++ wire labels = append_assoc label (heads labels) (0 ∷ []) in
-    let behind : drop size (label ++ heads labels ++ 0 ∷ []) ≡ wire labels = rw (body, ← at_front) (drop_at label (wire labels) (length label) refl) in
-    let front : take size (label ++ heads labels ++ 0 ∷ []) ≡ label = rw (body, ← at_front) (take_at label (wire labels) (length label) refl) in
+    let body : label ++ labels_wire labels ++ 0 ∷ [] ≡ label ++ wire labels = append_assoc label (labels_wire labels) (0 ∷ []) in
+    let trailing : drop size (label ++ labels_wire labels ++ 0 ∷ []) ≡ wire labels = rw (body, ← at_prefix) (drop_at label (wire labels) (length label) refl) in
+    let prefix : take size (label ++ labels_wire labels ++ 0 ∷ []) ≡ label = rw (body, ← at_prefix) (take_at label (wire labels) (length label) refl) in
     record {
-      room = omega (arith, at_front, wire_long (label ∷ labels), length-append label (heads labels));
-      labels = rw (front, behind, again.1) (labels_of_wire (label ∷ labels) is).1;
-      whole = rw (behind, again.1) again.0;
+      room = omega (arith, at_prefix, wire_long (label ∷ labels), length-append label (labels_wire labels));
+      labels = rw (prefix, trailing, again.1) (labels_of_wire (label ∷ labels) is).1;
+      whole = rw (trailing, again.1) again.0;
     }
 
 pub first_label : (bytes : List ℕ) → all_of (plain_name bytes) ≡ Some (name_labels bytes) → 0 < get_or bytes 0 0 → FirstLabel bytes (get_or bytes 0 0)
@@ -127,6 +127,6 @@ only_root [] is e = refl
 only_root (label ∷ labels) is e = absurd (omega (arith, is.sizes.0.0))
 
 pub root_first : (bytes : List ℕ) → all_of (plain_name bytes) ≡ Some (name_labels bytes) → get_or bytes 0 0 ≡ 0 → name_labels bytes ≡ []
-root_first bytes e at_front =
+root_first bytes e at_prefix =
     let t = name_octets bytes (name_labels bytes) e in
-    only_root (name_labels bytes) t.0 (subst (λ (b : List ℕ). get_or b 0 0 ≡ 0) t.1 at_front)
+    only_root (name_labels bytes) t.0 (subst (λ (b : List ℕ). get_or b 0 0 ≡ 0) t.1 at_prefix)

@@ -45,11 +45,11 @@ blanks_test [] all = tt
 blanks_test (b ∷ bs) all = (blank_tests b all.0, blanks_test bs all.1)
 
 -- a trimmed text by the test
-record Tested (text front : List ℕ) : Type 0 where
+record Tested (text prefix : List ℕ) : Type 0 where
   blanks : List ℕ
-  text_is : text ≡ front ++ blanks
+  text_is : text ≡ prefix ++ blanks
   blank : AllByRecursion (λ b. is_blank b ≡ true) blanks
-  solid : (before : List ℕ) (b : ℕ) → front ≡ before ++ b ∷ [] → is_blank b ≡ false
+  solid : (before : List ℕ) (b : ℕ) → prefix ≡ before ++ b ∷ [] → is_blank b ≡ false
 
 -- ---- what is left is trimmed
 
@@ -58,24 +58,24 @@ one_solid : (b : ℕ) → is_blank b ≡ false → (before : List ℕ) (d : ℕ)
 one_solid b h [] d e = let same : b ≡ d = ap (λ (l : List ℕ). get_or l 0 0) e in rw (← same) h
 one_solid b h (x ∷ xs) d e = absurd (nil_snoc xs d (ap (drop 1) e))
 
--- an octet in front of others that end in no blank
+-- an octet before others that end in no blank
 more_solid : (b c : ℕ) (rest : List ℕ) → ((before : List ℕ) (d : ℕ) → c ∷ rest ≡ before ++ d ∷ [] → is_blank d ≡ false)
     → (before : List ℕ) (d : ℕ) → b ∷ c ∷ rest ≡ before ++ d ∷ [] → is_blank d ≡ false
 more_solid b c rest h [] d e = absurd (nil_cons c rest (sym (ap (drop 1) e)))
 more_solid b c rest h (x ∷ xs) d e = h xs d (ap (drop 1) e)
 
--- an octet before a text whose front is this
-trimmed_cons : (b : ℕ) (rest front : List ℕ) (blank : Bool) → is_blank b ≡ blank → Tested rest front → Tested (b ∷ rest) (trim_cons b front)
+-- an octet before a text whose prefix is this
+trimmed_cons : (b : ℕ) (rest prefix : List ℕ) (blank : Bool) → is_blank b ≡ blank → Tested rest prefix → Tested (b ∷ rest) (trim_cons b prefix)
 trimmed_cons b rest [] true h t = rw h (record { blanks = b ∷ t.blanks; text_is = ap (λ (l : List ℕ). b ∷ l) t.text_is; blank = (h, t.blank); solid = λ before d e. absurd (nil_snoc before d e) })
 trimmed_cons b rest [] false h t = rw h (record { blanks = t.blanks; text_is = ap (λ (l : List ℕ). b ∷ l) t.text_is; blank = t.blank; solid = one_solid b h })
-trimmed_cons b rest (c ∷ front) blank h t = record { blanks = t.blanks; text_is = ap (λ (l : List ℕ). b ∷ l) t.text_is; blank = t.blank; solid = more_solid b c front t.solid }
+trimmed_cons b rest (c ∷ prefix) blank h t = record { blanks = t.blanks; text_is = ap (λ (l : List ℕ). b ∷ l) t.text_is; blank = t.blank; solid = more_solid b c prefix t.solid }
 
 trims_tested : (text : List ℕ) → Tested text (trim text)
 unfolding trim
 trims_tested [] = record { blanks = []; text_is = refl; blank = tt; solid = λ before d e. absurd (nil_snoc before d e) }
 trims_tested (b ∷ rest) = trimmed_cons b rest (trim rest) (is_blank b) refl (trims_tested rest)
 
--- ---- there is one such front
+-- ---- there is one such prefix
 
 -- nothing is left of blanks
 trim-blanks : (text : List ℕ) → AllByRecursion (λ b. is_blank b ≡ true) text → trim text ≡ []
@@ -83,19 +83,19 @@ unfolding trim
 trim-blanks [] all = refl
 trim-blanks (b ∷ rest) all = rw (trim-blanks rest all.1) (rw all.0 refl)
 
--- an octet that ends in no blank, or others behind it that do
-kept_cons : (b : ℕ) (front : List ℕ) → ((before : List ℕ) (d : ℕ) → b ∷ front ≡ before ++ d ∷ [] → is_blank d ≡ false) → b ∷ front ≡ trim_cons b front
+-- an octet that ends in no blank, or others after it that do
+kept_cons : (b : ℕ) (prefix : List ℕ) → ((before : List ℕ) (d : ℕ) → b ∷ prefix ≡ before ++ d ∷ [] → is_blank d ≡ false) → b ∷ prefix ≡ trim_cons b prefix
 kept_cons b [] solid = rw (solid [] b refl) refl
-kept_cons b (c ∷ front) solid = refl
+kept_cons b (c ∷ prefix) solid = refl
 
-tested_one : (text front : List ℕ) → Tested text front → front ≡ trim text
+tested_one : (text prefix : List ℕ) → Tested text prefix → prefix ≡ trim text
 unfolding trim
 tested_one text [] t = sym (trim-blanks text (subst (AllByRecursion (λ b. is_blank b ≡ true)) (sym t.text_is) t.blank))
-tested_one [] (x ∷ front) t = absurd (nil_cons x (front ++ t.blanks) t.text_is)
-tested_one (b ∷ rest) (x ∷ front) t =
+tested_one [] (x ∷ prefix) t = absurd (nil_cons x (prefix ++ t.blanks) t.text_is)
+tested_one (b ∷ rest) (x ∷ prefix) t =
     let same : b ≡ x = ap (λ (l : List ℕ). get_or l 0 0) t.text_is in
-    let later : Tested rest front = record { blanks = t.blanks; text_is = ap (drop 1) t.text_is; blank = t.blank; solid = λ before d e. t.solid (x ∷ before) d (ap (λ (l : List ℕ). x ∷ l) e) } in
-    kept_cons x front t.solid ∙ ap (λ (l : List ℕ). trim_cons x l) (tested_one rest front later) ∙ ap (λ (c : ℕ). trim_cons c (trim rest)) (sym same)
+    let later : Tested rest prefix = record { blanks = t.blanks; text_is = ap (drop 1) t.text_is; blank = t.blank; solid = λ before d e. t.solid (x ∷ before) d (ap (λ (l : List ℕ). x ∷ l) e) } in
+    kept_cons x prefix t.solid ∙ ap (λ (l : List ℕ). trim_cons x l) (tested_one rest prefix later) ∙ ap (λ (c : ℕ). trim_cons c (trim rest)) (sym same)
 
 -- ---- in words
 

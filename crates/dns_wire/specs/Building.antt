@@ -14,7 +14,7 @@ pub record Builds {E : Type 0} (fits : Type 0) (octets old : List ℕ) (start : 
   pub ok : IfOk result (λ end. fits × Stands octets old start new end)
   pub err : OnErr result ((take start new ≡ take start old) × (length new ≡ length old) × (fits → length old < start + length octets))
 
--- At `Ok` the whole buffer ends as the octets, and behind them whatever the rest is left with.
+-- At `Ok` the whole buffer ends as the octets, and after them whatever the rest is left with.
 -- At `Err` it ends as something of its length.
 abbrev pub LendsRest : {E : Type 0} → MutBor (List ℕ) → Result (MutBor (List ℕ)) E → List ℕ → Fml
 LendsRest bytes result octets =

@@ -1,85 +1,85 @@
 -- Names that are written once in a message and pointed to from then on (RFC 1035 section 4.1.4). Contents are the octets
--- behind the header, up to where the next name is written. Places are those of labels in them, and are kept in order.
-use Rattle.std.specs.Prelude.{◌≡◌, ℕ, zero, suc, ◌+◌, ◌*◌, ◌-◌, ◌<◌, ◌≤◌, List, [], ◌∷◌, ◌++◌, length, take, filter, find, slice_index, Contains, Bool, false, ◌&&◌, Option, Some, None, nat_le, nat_lt, if◌then◌else◌}
+-- after the header, up to where the next name is written. Places are those of labels in them, and are kept in order.
+use Rattle.std.specs.Prelude.{◌≡◌, ◌⊎◌, ℕ, zero, suc, ◌+◌, ◌*◌, ◌-◌, ◌<◌, ◌≤◌, List, [], ◌∷◌, ◌++◌, length, take, filter, find, slice_index, Contains, Bool, false, ◌&&◌, Option, Some, None, nat_le, nat_lt, if◌then◌else◌}
 use Rattle.std.specs.Int.{w16, to_be_bytes}
 use Rattle.std.specs.List.{AllByRecursion}
 use Rattle.std.specs.List.Sorted.{IsStrictlyIncreasing}
 use Rattle.std.specs.Cmp.Lexicographic.{pointwise}
 use Rattle.std.specs.Str.{str_eq_ignore_ascii_case}
 use Rattle.dns_wire.specs.declared.sizes.TheConstants.{HEADER_SIZE, LAST_PLACE, MAX_PLACES, POINTER_TAG}
-use Rattle.dns_wire.specs.Names.{heads, wire, lowered}
+use Rattle.dns_wire.specs.Names.{labels_wire, wire, lowered}
 use Rattle.dns_wire.specs.Pointers.{offset_at, NameAt, name_at}
 
 -- ---- which suffix of a name is known
 
--- the same labels, ASCII case aside
+-- the same labels, ignoring ASCII case
 abbrev pub are_alike : List (List ℕ) → List (List ℕ) → Bool
 are_alike xs ys = pointwise str_eq_ignore_ascii_case xs ys
 
--- a reading gives these labels, ASCII case aside
+-- a reading gives these labels, ignoring ASCII case
 abbrev pub reads_as : List (List ℕ) → Option (List (List ℕ) × ℕ) → Bool
 reads_as labels None = false
 reads_as labels (Some (there, end)) = are_alike labels there
 
--- these labels are those of the name at the place, ASCII case aside
+-- these labels are those of the name at the place, ignoring ASCII case
 unfoldable pub stands_at : List ℕ → List (List ℕ) → ℕ → Bool
 stands_at contents labels place = reads_as labels (name_at contents place)
 
--- a place of the suffix that begins behind so many octets, or else what is known of shorter ones
+-- a place of the suffix that begins after that many octets, or else what is known of shorter ones
 abbrev pub or_shorter : ℕ → Option ℕ → Option (ℕ × ℕ) → Option (ℕ × ℕ)
-or_shorter front None shorter = shorter
-or_shorter front (Some place) shorter = Some (front, place)
+or_shorter prefix None shorter = shorter
+or_shorter prefix (Some place) shorter = Some (prefix, place)
 
--- Behind how many octets of the name its longest suffix begins that is known, and the first place where it is. These are
--- the labels behind the first so many octets; the root alone is no suffix. `longest_suffixes` says it in other words.
-unfoldable pub longest_kept : List ℕ → List ℕ → ℕ → List (List ℕ) → Option (ℕ × ℕ)
-longest_kept contents places front [] = None
-longest_kept contents places front (label ∷ labels) =
-    or_shorter front (find (stands_at contents (label ∷ labels)) places) (longest_kept contents places (front + 1 + length label) labels)
+-- After how many octets of the name its longest suffix begins that is known, and the first place where it is. These are
+-- the labels after the first that many octets; the root alone is no suffix. `longest_suffixes` says it in other words.
+unfoldable pub longest_recorded : List ℕ → List ℕ → ℕ → List (List ℕ) → Option (ℕ × ℕ)
+longest_recorded contents places prefix [] = None
+longest_recorded contents places prefix (label ∷ labels) =
+    or_shorter prefix (find (stands_at contents (label ∷ labels)) places) (longest_recorded contents places (prefix + 1 + length label) labels)
 
 -- ---- the same in words
 
--- the name at the place is these labels, ASCII case aside, and what stands there ends at end
+-- the name at the place is these labels, ignoring ASCII case, and what stands there ends at end
 pub record ReadsAlike (contents : List ℕ) (labels : List (List ℕ)) (at end : ℕ) : Type 0 where
   pub there : List (List ℕ)
   pub name : NameAt contents at there end
   pub alike : lowered there ≡ lowered labels
 
--- a suffix of at least one label, which begins behind so many octets, is the name at a kept place, ASCII case aside
-pub record KeptSuffix (contents places : List ℕ) (labels : List (List ℕ)) (front place : ℕ) : Type 0 where
+-- a suffix of at least one label, which begins after that many octets, is the name at a recorded place, ignoring ASCII case
+pub record RecordedSuffix (contents places : List ℕ) (labels : List (List ℕ)) (prefix place : ℕ) : Type 0 where
   pub before : List (List ℕ)
   pub suffix : List (List ℕ)
   pub labels_is : labels ≡ before ++ suffix
   pub some : 0 < length suffix
-  pub front_is : front ≡ length (heads before)
-  pub kept : Contains places place
+  pub prefix_is : prefix ≡ length (labels_wire before)
+  pub recorded : Contains places place
   pub end : ℕ
   pub reads : ReadsAlike contents suffix place end
 
--- no longer suffix is at any kept place, and this one at no smaller
-pub record LongestKept (contents places : List ℕ) (labels : List (List ℕ)) (front place : ℕ) : Type 0 where
-  pub known : KeptSuffix contents places labels front place
-  pub longest : (other at : ℕ) → KeptSuffix contents places labels other at → front ≤ other
-  pub smallest : (at : ℕ) → KeptSuffix contents places labels front at → place ≤ at
+-- no longer suffix is at any recorded place, and this one at no smaller
+pub record LongestRecorded (contents places : List ℕ) (labels : List (List ℕ)) (prefix place : ℕ) : Type 0 where
+  pub known : RecordedSuffix contents places labels prefix place
+  pub longest : (other at : ℕ) → RecordedSuffix contents places labels other at → prefix ≤ other
+  pub smallest : (at : ℕ) → RecordedSuffix contents places labels prefix at → place ≤ at
 
 -- ---- what is written
 
 -- the name's octets up to the suffix, and a pointer to its place, which counts the header's 12 octets too
 abbrev pub cut_at : List ℕ → Option (ℕ × ℕ) → List ℕ
 cut_at octets None = octets
-cut_at octets (Some (front, place)) = take front octets ++ to_be_bytes w16 (POINTER_TAG * 256 + HEADER_SIZE + place)
+cut_at octets (Some (prefix, place)) = take prefix octets ++ to_be_bytes w16 (POINTER_TAG * 256 + HEADER_SIZE + place)
 
 -- a name's octets where names at these places of the contents are known
-abbrev pub press : List ℕ → List ℕ → List (List ℕ) → List ℕ
-press contents places labels = cut_at (wire labels) (longest_kept contents places 0 labels)
+abbrev pub compress : List ℕ → List ℕ → List (List ℕ) → List ℕ
+compress contents places labels = cut_at (wire labels) (longest_recorded contents places 0 labels)
 
--- ---- which places are kept
+-- ---- which places are recorded
 
 -- the length of a label other than the root's
 abbrev pub is_label_size : ℕ → Bool
 is_label_size size = nat_lt 0 size && nat_lt size 64
 
--- the places of labels that stand one after another from a place on; no more than so many
+-- the places of labels that stand one after another from a place on; no more than that many
 unfoldable pub label_places : ℕ → List ℕ → ℕ → List ℕ
 label_places zero contents at = []
 label_places (suc most) contents at =
@@ -94,29 +94,44 @@ abbrev pub with_more : List ℕ → List ℕ → List ℕ
 with_more places more = take MAX_PLACES (places ++ filter is_within_reach more)
 
 -- the places afterwards, where a name has been written from start to the end of the contents
-abbrev pub noted : List ℕ → List ℕ → ℕ → List ℕ
-noted places contents start = with_more places (label_places (length contents - start) contents start)
+abbrev pub recorded : List ℕ → List ℕ → ℕ → List ℕ
+recorded places contents start = with_more places (label_places (length contents - start) contents start)
 
--- What is written behind contents where names at these places are known: the octets, and the places afterwards.
-abbrev pub Pressing : Type 0
-Pressing = List ℕ → List ℕ → List ℕ × List ℕ
+-- ---- which places are recorded, in words
 
--- a name is pressed, and its places are noted
-abbrev pub name_presses : List (List ℕ) → Pressing
-name_presses labels contents places = (
-  press contents places labels,
-  noted places (contents ++ press contents places labels) (length contents),
+-- the octets after the labels of a name begin with the root's length or a pointer
+abbrev pub EndsLabels : List ℕ → Type 0
+EndsLabels [] = ⊥
+EndsLabels (octet ∷ rest) = (octet ≡ 0) ⊎ (64 ≤ octet)
+
+-- one of the labels begins at this place, where the first begins at start
+pub record BeginsAt (start : ℕ) (labels : List (List ℕ)) (place : ℕ) : Type 0 where
+  pub before : List (List ℕ)
+  pub label : List ℕ
+  pub others : List (List ℕ)
+  pub labels_is : labels ≡ before ++ label ∷ others
+  pub place_is : place ≡ start + length (labels_wire before)
+
+-- What is written after contents where names at these places are known: the octets, and the places afterwards.
+abbrev pub CompressedWrite : Type 0
+CompressedWrite = List ℕ → List ℕ → List ℕ × List ℕ
+
+-- a name is compressed, and its places are noted
+abbrev pub compressed_name_writes : List (List ℕ) → CompressedWrite
+compressed_name_writes labels contents places = (
+  compress contents places labels,
+  recorded places (contents ++ compress contents places labels) (length contents),
 )
 
 -- ---- places that lead to names
 
--- from here on stand labels, up to the root or up to a pointer that leads to a kept place before first
+-- from here on stand labels, up to the root or up to a pointer that leads to a recorded place before first
 pub data Run (contents places : List ℕ) (first : ℕ) : ℕ → Type 0 where
   run_root : {at : ℕ} → at < length contents → slice_index contents at ≡ 0 → Run contents places first at
   run_label : {at : ℕ} → 0 < slice_index contents at → slice_index contents at < 64 → at + 1 + slice_index contents at ≤ length contents → Run contents places first (at + 1 + slice_index contents at) → Run contents places first at
   run_pointer : {at : ℕ} (target : ℕ) → POINTER_TAG ≤ slice_index contents at → at + 2 ≤ length contents → offset_at contents at ≡ target + HEADER_SIZE → Contains places target → target < first → Run contents places first at
 
--- a label stands here, others behind it, and at their end the root or a pointer to an earlier kept place
+-- a label stands here, others after it, and at their end the root or a pointer to an earlier recorded place
 pub record RunAt (contents places : List ℕ) (at : ℕ) : Type 0 where
   pub labelled : (0 < slice_index contents at) × (slice_index contents at < 64)
   pub run : Run contents places at at
@@ -132,8 +147,8 @@ pub record FitsIn (places contents : List ℕ) : Type 0 where
   pub places_are : ArePlaces places
   pub runs : AllByRecursion (RunAt contents places) places
 
--- new places stand behind the old ones, and lie from start on
+-- new places stand after the old ones, and lie from start on
 pub record Grows (places after : List ℕ) (start : ℕ) : Type 0 where
   pub added : List ℕ
   pub after_is : after ≡ places ++ added
-  pub behind : AllByRecursion (λ place. start ≤ place) added
+  pub trailing : AllByRecursion (λ place. start ≤ place) added

@@ -10,7 +10,7 @@ pub record Supply : Type 0 where
   pub calls : ℕ
   pub faults : ℕ
 
--- the octets written, those of the buffer behind them, which are free, the most octets of one write, the numbers of the
+-- the octets written, those of the buffer after them, which are free, the most octets of one write, the numbers of the
 -- calls that fail, the flag, how many calls there were, and how many of them failed
 pub record Store : Type 0 where
   pub written : List ℕ

@@ -1,5 +1,5 @@
 -- Octets as hexadecimal text (RFC 4648 section 8).
-use Rattle.std.specs.Prelude.{◌≡◌, ◌⊎◌, ℕ, ◌+◌, ◌-◌, ◌*◌, ◌/◌, ◌%◌, ◌==◌, ◌||◌, ◌&&◌, nat_le, Bool, if◌then◌else◌, List, [], ◌∷◌, ◌++◌, Option, Some, None, codes, slice_index, flat_map}
+use Rattle.std.specs.Prelude.{◌≡◌, ◌⊎◌, ◌<◌, ℕ, ◌+◌, ◌-◌, ◌*◌, ◌/◌, ◌%◌, ◌==◌, ◌||◌, ◌&&◌, nat_le, Bool, if◌then◌else◌, List, [], ◌∷◌, ◌++◌, Option, Some, None, codes, slice_index, flat_map}
 use Rattle.std.specs.List.{AllByRecursion}
 
 -- ---- reading
@@ -12,7 +12,7 @@ is_blank b = b == 32 || b == 9 || b == 13 || b == 10
 abbrev pub IsBlank : ℕ → Type 0
 IsBlank b = (b ≡ 32) ⊎ ((b ≡ 9) ⊎ ((b ≡ 13) ⊎ (b ≡ 10)))
 
--- A text without the blanks at its end: what is left is its front, all behind that is blanks, and what is left is empty
+-- A text without the blanks at its end: what is left is its prefix, all after that is blanks, and what is left is empty
 -- or ends in an octet that is none.
 pub record Trimmed (text left : List ℕ) : Type 0 where
   pub blanks : List ℕ
@@ -20,7 +20,7 @@ pub record Trimmed (text left : List ℕ) : Type 0 where
   pub blank : AllByRecursion IsBlank blanks
   pub solid : (before : List ℕ) (last : ℕ) → left ≡ before ++ last ∷ [] → ¬ IsBlank last
 
--- an octet and the text behind it, which has no blank at its end
+-- an octet and the text after it, which has no blank at its end
 abbrev pub trim_cons : ℕ → List ℕ → List ℕ
 trim_cons b [] = if is_blank b then [] else b ∷ []
 trim_cons b (c ∷ rest) = b ∷ c ∷ rest
@@ -38,7 +38,7 @@ digit_value c =
     else if nat_le 48 c && nat_le c 57 then Some (c - 48)
     else None
 
--- the octet of two digits, before the octets behind it
+-- the octet of two digits, before the octets after it
 abbrev pub pair_before : Option ℕ → Option ℕ → Option (List ℕ) → Option (List ℕ)
 pair_before (Some high) (Some low) (Some octets) = Some ((high * 16 + low) ∷ octets)
 pair_before high low octets = None
@@ -49,7 +49,16 @@ spelled [] = Some []
 spelled (c ∷ []) = None
 spelled (c ∷ d ∷ rest) = pair_before (digit_value c) (digit_value d) (spelled rest)
 
--- but for blanks at its end, the text is pairs of digits, and they spell these octets
+-- the digit of this value: a letter is in lowercase or a capital
+abbrev pub IsDigit : ℕ → ℕ → Type 0
+IsDigit c value = (c ≡ slice_index (codes "0123456789abcdef") value) ⊎ (c ≡ slice_index (codes "0123456789ABCDEF") value)
+
+-- the text is pairs of digits, and they spell these octets, the high digit of each first
+pub data ArePairs : List ℕ → List ℕ → Type 0 where
+  ended : ArePairs [] []
+  pair : (c d high low : ℕ) (text octets : List ℕ) → high < 16 → low < 16 → IsDigit c high → IsDigit d low → ArePairs text octets → ArePairs (c ∷ d ∷ text) ((high * 16 + low) ∷ octets)
+
+-- except for blanks at its end, the text is pairs of digits, and they spell these octets
 abbrev pub Spells : List ℕ → List ℕ → Type 0
 Spells text octets = spelled (trim text) ≡ Some octets
 

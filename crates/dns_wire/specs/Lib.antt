@@ -5,11 +5,11 @@ pub mod Compression
 pub mod Devices
 pub mod Hexadecimal
 pub mod InMessage
-pub mod Left
+pub mod ReadingLemmas
 pub mod Lists
 pub mod Names
 pub mod Outside
-pub mod Pieces
+pub mod Layout
 pub mod Pointers
 pub mod Reading
 pub mod Reversed
@@ -17,4 +17,4 @@ pub mod Searching
 pub mod Steps
 pub mod Storage
 pub mod Texts
-pub mod Told
+pub mod LayoutLemmas

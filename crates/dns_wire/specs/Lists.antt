@@ -3,17 +3,17 @@ use Rattle.std.specs.Prelude.{◌≡◌, ℕ, zero, suc, List, [], ◌∷◌, �
 use Rattle.dns_wire.specs.declared.list.ListError.{ListError}
 use Rattle.dns_wire.specs.declared.list.ListError.TheVariants.{Parse, Memory}
 
--- what is read behind these values, with them in front
-abbrev pub with_front : {Y : Type 0} → List Y → Option (List Y × List ℕ) → Option (List Y × List ℕ)
-with_front front None = None
-with_front front (Some (others, rest)) = Some (front ++ others, rest)
+-- what is read after these values, with them before
+abbrev pub with_prefix : {Y : Type 0} → List Y → Option (List Y × List ℕ) → Option (List Y × List ℕ)
+with_prefix prefix None = None
+with_prefix prefix (Some (others, rest)) = Some (prefix ++ others, rest)
 
--- a value, and then those that are read behind it
+-- a value, and then those that are read after it
 abbrev pub then_list : {Y : Type 0} → (List ℕ → Option (List Y × List ℕ)) → Option (Y × List ℕ) → Option (List Y × List ℕ)
 then_list more None = None
-then_list more (Some (y, rest)) = with_front (y ∷ []) (more rest)
+then_list more (Some (y, rest)) = with_prefix (y ∷ []) (more rest)
 
--- so many values, one after another, and the octets after them
+-- that many values, one after another, and the octets after them
 unfoldable pub list_of : {Y : Type 0} → (List ℕ → Option (Y × List ℕ)) → ℕ → List ℕ → Option (List Y × List ℕ)
 list_of grammar zero bytes = Some ([], bytes)
 list_of grammar (suc n) bytes = then_list (list_of grammar n) (grammar bytes)

@@ -10,27 +10,27 @@ use Rattle.dns_wire.specs.Reading.{all_of}
 abbrev pub IsLabel : List ℕ → Type 0
 IsLabel label = (0 < length label) × (length label < 64)
 
--- labels, each behind its length
-abbrev pub heads : List (List ℕ) → List ℕ
-heads [] = []
-heads (label ∷ labels) = length label ∷ (label ++ heads labels)
+-- labels, each after its length
+abbrev pub labels_wire : List (List ℕ) → List ℕ
+labels_wire [] = []
+labels_wire (label ∷ labels) = length label ∷ (label ++ labels_wire labels)
 
--- a name's octets: its labels, each behind its length, and the root's length, which is 0
+-- a name's octets: its labels, each after its length, and the root's length, which is 0
 abbrev pub wire : List (List ℕ) → List ℕ
-wire labels = heads labels ++ 0 ∷ []
+wire labels = labels_wire labels ++ 0 ∷ []
 
 -- labels are a name where their octets are at most 255
 pub record IsName (labels : List (List ℕ)) : Type 0 where
   pub sizes : AllByRecursion IsLabel labels
   pub size : length (wire labels) ≤ 255
 
--- the name in small letters: `A` to `Z` become `a` to `z`, and all other octets stay (RFC 4343 section 3)
+-- the name in lowercase: `A` to `Z` become `a` to `z`, and all other octets stay (RFC 4343 section 3)
 abbrev pub lowered : List (List ℕ) → List (List ℕ)
 lowered labels = map str_to_ascii_lowercase labels
 
 -- ---- reading a name without pointers
 
--- what is read after these labels, with them in front
+-- what is read after these labels, with them before
 abbrev pub after_labels : List (List ℕ) → Option (List (List ℕ) × List ℕ) → Option (List (List ℕ) × List ℕ)
 after_labels labels None = None
 after_labels labels (Some (others, rest)) = Some (labels ++ others, rest)
@@ -49,8 +49,8 @@ abbrev pub up_to_255 : Option (List (List ℕ) × List ℕ) → Option (List (Li
 up_to_255 None = None
 up_to_255 (Some (labels, rest)) = if nat_lt 255 (length (wire labels)) then None else Some (labels, rest)
 
--- The name at the front, and what follows it. `plain_names` says it in other words: labels are read exactly where they
--- are a name whose octets stand at the front.
+-- The name at the start, and what follows it. `plain_names` says it in other words: labels are read exactly where they
+-- are a name whose octets stand at the start.
 unfoldable pub plain_name : List ℕ → Option (List (List ℕ) × List ℕ)
 plain_name bytes = up_to_255 (labels_within (length bytes) bytes)
 

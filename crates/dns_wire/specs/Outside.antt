@@ -16,15 +16,15 @@ pub record HasCause {T E : Type 0} (before now : ℕ) (result : Result T E) : Ty
 
 -- ---- the flag of a sink: all that was taken has arrived
 
--- the flag, where it is told, is now this
+-- the flag, where it is known, is now this
 abbrev pub BecomesFlag : Option Bool → Option Bool → Bool → Type 0
 BecomesFlag None new value = Unit {0}
 BecomesFlag (Some old) new value = new ≡ Some value
 
--- the flag, where it is told, stays
-abbrev pub KeepsFlag : Option Bool → Option Bool → Type 0
-KeepsFlag None new = Unit {0}
-KeepsFlag (Some old) new = new ≡ Some old
+-- the flag, where it is known, stays
+abbrev pub FlagUnchanged : Option Bool → Option Bool → Type 0
+FlagUnchanged None new = Unit {0}
+FlagUnchanged (Some old) new = new ≡ Some old
 
 -- a write that takes an octet makes the flag false, and no other does anything to it
 abbrev pub WriteFlag : {E : Type 0} → Option Bool → Option Bool → Result ℕ E → Type 0
@@ -34,19 +34,19 @@ WriteFlag (Some old) new result = MatchResult result (λ n. new ≡ Some (if nat
 -- ---- where octets are read to
 
 -- only the octets that were read are put into the buffer, and nothing is where the call fails
-abbrev pub KeepsBehind : {E : Type 0} → List ℕ → List ℕ → Result ℕ E → Type 0
-KeepsBehind old new result = MatchResult result (λ n. drop n new ≡ drop n old) (λ _. new ≡ old)
+abbrev pub UnchangedAfter : {E : Type 0} → List ℕ → List ℕ → Result ℕ E → Type 0
+UnchangedAfter old new result = MatchResult result (λ n. drop n new ≡ drop n old) (λ _. new ≡ old)
 
 -- ---- whole texts
 
--- all that was left has been read, and nothing is left, where octets are told
+-- all that was left has been read, and nothing is left, where octets are known
 abbrev pub ReadsAll : Option (List ℕ) → Option (List ℕ) → List ℕ → Type 0
 ReadsAll old new text = IfSome old (λ all. (text ≡ all) × (new ≡ Some []))
 
--- some front of the text has been written
-abbrev pub WritesFront : Option (List ℕ) → Option (List ℕ) → List ℕ → Type 0
-WritesFront old new text = (n : ℕ) × (n ≤ length text) × Appends old new (take n text)
+-- some prefix of the text has been written
+abbrev pub WritesPrefix : Option (List ℕ) → Option (List ℕ) → List ℕ → Type 0
+WritesPrefix old new text = (n : ℕ) × (n ≤ length text) × Appends old new (take n text)
 
--- the text has been written at `Ok`, and some front of it at `Err`
+-- the text has been written at `Ok`, and some prefix of it at `Err`
 abbrev pub Puts : {E : Type 0} → Option (List ℕ) → Option (List ℕ) → List ℕ → Result (Unit {0}) E → Type 0
-Puts old new text result = MatchResult result (λ _. Appends old new text) (λ _. WritesFront old new text)
+Puts old new text result = MatchResult result (λ _. Appends old new text) (λ _. WritesPrefix old new text)

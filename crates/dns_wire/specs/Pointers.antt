@@ -1,13 +1,13 @@
--- Names in a message, which may go on at an earlier place (RFC 1035 section 4.1.4). Places are those of the octets behind
+-- Names in a message, which may go on at an earlier place (RFC 1035 section 4.1.4). Places are those of the octets after
 -- the header, as far as a name may be read, and are counted from 0.
 use Rattle.std.specs.Prelude.{◌≡◌, ℕ, zero, suc, ◌+◌, ◌-◌, ◌*◌, ◌<◌, ◌≤◌, List, [], ◌∷◌, ◌++◌, length, take, drop, slice_index, Option, Some, None, unwrap_or, nat_lt, nat_le, ◌==◌, ◌||◌, if◌then◌else◌}
-use Rattle.dns_wire.specs.declared.follow.Head.{Head}
-use Rattle.dns_wire.specs.declared.follow.Head.TheVariants.{Root, Label, Pointer}
-use Rattle.dns_wire.specs.declared.follow.NameCursor.{NameCursor}
+use Rattle.dns_wire.specs.declared.name_cursor.LabelType.{LabelType}
+use Rattle.dns_wire.specs.declared.name_cursor.LabelType.TheVariants.{Root, Label, Pointer}
+use Rattle.dns_wire.specs.declared.name_cursor.NameCursor.{NameCursor}
 use Rattle.dns_wire.specs.declared.sizes.TheConstants.{HEADER_SIZE, POINTER_TAG}
 use Rattle.dns_wire.specs.Names.{wire}
 
--- what a pointer's two octets say: the 14 bits behind the two ones in front
+-- what a pointer's two octets say: the 14 bits after the two ones before
 abbrev pub offset_of : ℕ → ℕ → ℕ
 offset_of first second = (first - POINTER_TAG) * 256 + second
 
@@ -17,12 +17,12 @@ offset_at contents at = offset_of (slice_index contents at) (slice_index content
 
 -- ---- as a relation
 
--- The labels to be read at a place, and where what stands at that very place ends. A segment is a row of labels that
+-- The labels to be read at a place, and where what stands at that very place ends. A segment is a sequence of labels that
 -- begins with the name, or where a pointer leads; this one began at start. There is a case for each kind of octet at
 -- the place:
 --     0            the root: no more labels
---     1 to 63      a label of so many octets, and then what is read behind it
---     192 and up   with the octet behind it a pointer: another segment is read at its target. Pointers count the header's
+--     1 to 63      a label of that many octets, and then what is read after it
+--     192 and up   with the octet after it a pointer: another segment is read at its target. Pointers count the header's
 --                  12 octets too, and places do not. The target is before start, so that no chain of pointers is endless
 pub data Segment (contents : List ℕ) : ℕ → ℕ → List (List ℕ) → ℕ → Type 0 where
   at_root : {start at end : ℕ} {labels : List (List ℕ)} → at < length contents → slice_index contents at ≡ 0 → labels ≡ [] → end ≡ at + 1 → Segment contents start at labels end
@@ -34,17 +34,17 @@ pub record NameAt (contents : List ℕ) (at : ℕ) (labels : List (List ℕ)) (e
   pub reads : Segment contents at at labels end
   pub short : length (wire labels) ≤ 255
 
--- how many heads a reading goes over: one for each label and each pointer, and one for the root
-abbrev pub head_count : {contents : List ℕ} {start at end : ℕ} {labels : List (List ℕ)} → Segment contents start at labels end → ℕ
-head_count (at_root within is labels_is end_is) = 1
-head_count (at_label some small room labels_is later) = head_count later + 1
-head_count (at_pointer high room is before later end_is) = head_count later + 1
+-- how many label types a reading goes over: one for each label and each pointer, and one for the root
+abbrev pub label_type_count : {contents : List ℕ} {start at end : ℕ} {labels : List (List ℕ)} → Segment contents start at labels end → ℕ
+label_type_count (at_root within is labels_is end_is) = 1
+label_type_count (at_label some small room labels_is later) = label_type_count later + 1
+label_type_count (at_pointer high room is before later end_is) = label_type_count later + 1
 
 -- ---- as a function
 
 -- what stands at a place of the segment that begins at start
-unfoldable pub head_at : List ℕ → ℕ → ℕ → Option Head
-head_at contents start at =
+unfoldable pub label_type_at : List ℕ → ℕ → ℕ → Option LabelType
+label_type_at contents start at =
     if nat_le (length contents) at then None
     else if slice_index contents at == 0 then Some Root
     else if nat_lt (slice_index contents at) 64 then (if nat_lt (length contents) (at + 1 + slice_index contents at) then None else Some (Label (slice_index contents at)))
@@ -53,34 +53,34 @@ head_at contents start at =
     else Some (Pointer (offset_at contents at - HEADER_SIZE))
 
 -- what there is room for, and where it leads
-abbrev pub HeadFits : List ℕ → ℕ → ℕ → Head → Type 0
-HeadFits contents start at Root = at < length contents
-HeadFits contents start at (Label size) = (slice_index contents at ≡ size) × (0 < size) × (size < 64) × (at + 1 + size ≤ length contents)
-HeadFits contents start at (Pointer target) = (at + 2 ≤ length contents) × (target < start)
+abbrev pub LabelTypeFits : List ℕ → ℕ → ℕ → LabelType → Type 0
+LabelTypeFits contents start at Root = at < length contents
+LabelTypeFits contents start at (Label size) = (slice_index contents at ≡ size) × (0 < size) × (size < 64) × (at + 1 + size ≤ length contents)
+LabelTypeFits contents start at (Pointer target) = (at + 2 ≤ length contents) × (target < start)
 
--- Where a reading is after a head: behind a label, and where a pointer leads, in a segment that begins there. What stands
--- at the name's own place ends behind the first pointer, or behind the root where there is none.
-abbrev pub after : NameCursor → Head → NameCursor
+-- Where a reading is after a head: after a label, and where a pointer leads, in a segment that begins there. What stands
+-- at the name's own place ends after the first pointer, or after the root where there is none.
+abbrev pub after : NameCursor → LabelType → NameCursor
 after cursor Root = record cursor { end = Some (unwrap_or cursor.end (cursor.at + 1)) }
 after cursor (Label size) = record cursor { at = cursor.at + 1 + size }
 after cursor (Pointer target) = record { start = target; at = target; end = Some (unwrap_or cursor.end (cursor.at + 2)) }
 
--- what is read after these labels, with them in front; the octets end where a pointer has been, if one has
+-- what is read after these labels, with them before; the octets end where a pointer has been, if one has
 abbrev pub joined : List (List ℕ) → Option ℕ → Option (List (List ℕ) × ℕ) → Option (List (List ℕ) × ℕ)
 joined labels end None = None
 joined labels end (Some (others, at)) = Some (labels ++ others, unwrap_or end at)
 
 -- what is read from a head on
-abbrev pub after_head : (ℕ → ℕ → Option (List (List ℕ) × ℕ)) → List ℕ → ℕ → ℕ → Option Head → Option (List (List ℕ) × ℕ)
-after_head more contents start at None = None
-after_head more contents start at (Some Root) = Some ([], at + 1)
-after_head more contents start at (Some (Label size)) = joined (take size (drop (at + 1) contents) ∷ []) None (more start (at + 1 + size))
-after_head more contents start at (Some (Pointer target)) = joined [] (Some (at + 2)) (more target target)
+abbrev pub after_label_type : (ℕ → ℕ → Option (List (List ℕ) × ℕ)) → List ℕ → ℕ → ℕ → Option LabelType → Option (List (List ℕ) × ℕ)
+after_label_type more contents start at None = None
+after_label_type more contents start at (Some Root) = Some ([], at + 1)
+after_label_type more contents start at (Some (Label size)) = joined (take size (drop (at + 1) contents) ∷ []) None (more start (at + 1 + size))
+after_label_type more contents start at (Some (Pointer target)) = joined [] (Some (at + 2)) (more target target)
 
--- the labels at a place of a segment, and where the octets there end, where no more than steps heads are read
+-- the labels at a place of a segment, and where the octets there end, where no more than steps label types are read
 unfoldable pub segment_within : ℕ → List ℕ → ℕ → ℕ → Option (List (List ℕ) × ℕ)
 segment_within zero contents start at = None
-segment_within (suc steps) contents start at = after_head (λ s p. segment_within steps contents s p) contents start at (head_at contents start at)
+segment_within (suc steps) contents start at = after_label_type (λ s p. segment_within steps contents s p) contents start at (label_type_at contents start at)
 
 -- a reading of labels whose octets are at most 255
 abbrev pub short_name : Option (List (List ℕ) × ℕ) → Option (List (List ℕ) × ℕ)

@@ -24,7 +24,7 @@ abbrev pub whole_of : {T : Type 0} → Result (T × Bor (List ℕ)) ParseError �
 whole_of (Err e) = Err e
 whole_of (Ok (value, rest)) = elim rest.now [ [] ↦ Ok value | x ∷ more ↦ Err (record {}) ]
 
--- the rest is what follows: the octets without so many from the front
+-- the rest is what follows: the octets without that many from the start
 pub record Follows (rest bytes : List ℕ) : Type 0 where
   pub count : ℕ
   pub within : count ≤ length bytes
@@ -39,7 +39,7 @@ abbrev pub octet : List ℕ → Option (ℕ × List ℕ)
 octet [] = None
 octet (x ∷ rest) = Some (x, rest)
 
--- so many octets
+-- that many octets
 abbrev pub octets : ℕ → List ℕ → Option (List ℕ × List ℕ)
 octets n bytes = if nat_lt (length bytes) n then None else Some (take n bytes, drop n bytes)
 
@@ -49,9 +49,9 @@ number w bytes =
     if nat_lt (length bytes) (byte_len w) then None
     else Some (from_be_bytes w (take (byte_len w) bytes), drop (byte_len w) bytes)
 
--- ---- at a place in the contents of a message, which are its octets behind the header
+-- ---- at a place in the contents of a message, which are its octets after the header
 
--- what a grammar reads ends in the contents and not before it begins, so that nothing is read from behind their end
+-- what a grammar reads ends in the contents and not before it begins, so that nothing is read from after their end
 abbrev pub EndsWithin : {Y : Type 0} → (List ℕ → ℕ → Option (Y × ℕ)) → Type 0
 EndsWithin {Y} grammar = (contents : List ℕ) (at : ℕ) (y : Y) (end : ℕ) → grammar contents at ≡ Some (y, end) → (at ≤ end) × (end ≤ length contents)
 
@@ -70,7 +70,7 @@ abbrev pub with_end : {Y : Type 0} → List ℕ → Option (Y × List ℕ) → O
 with_end contents None = None
 with_end contents (Some (y, rest)) = Some (y, length contents - length rest)
 
--- what a grammar reads that knows no places; nothing from a place behind the end
+-- what a grammar reads that knows no places; nothing from a place after the end
 abbrev pub plain_at : {Y : Type 0} → (List ℕ → Option (Y × List ℕ)) → List ℕ → ℕ → Option (Y × ℕ)
 plain_at grammar contents start =
     if nat_lt (length contents) start then None else with_end contents (grammar (drop start contents))

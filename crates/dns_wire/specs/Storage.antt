@@ -3,7 +3,7 @@ use Rattle.std.specs.Prelude.{ℕ, ◌+◌, List, length, take, drop, slice_inde
 use Rattle.std.specs.Borrow.{Lends, Fml, RattleType, MutBor, Array, u8}
 use Rattle.dns_wire.specs.contracts.storage.Storage.{the_row}
 
--- what is stored behind an octet with its number; octets behind it mean nothing
+-- what is stored after an octet with its number; octets after it mean nothing
 abbrev pub stored : List ℕ → List ℕ
 stored octets = take (slice_index octets 0) (drop 1 octets)
 

@@ -1,8 +1,8 @@
-//! How far octets agree, ASCII case aside (RFC 4343 section 3): from the first on, and from the last back. What
+//! How far octets agree, ignoring ASCII case (RFC 4343 section 3): from the first on, and from the last back. What
 //! is equal as it stands is passed over several octets at a time; case is looked at only where octets differ.
 
 ghost use Rattle.std.specs.Prelude.{◌≡◌, ◌≤◌, ◌+◌, ◌-◌, length, take, drop};
-ghost use Rattle.dns_wire.specs.Agreement.{agreeing_front, agreeing_end};
+ghost use Rattle.dns_wire.specs.Agreement.{agreeing_prefix, agreeing_end};
 
 use std::simd::u8x16;
 
@@ -46,22 +46,22 @@ fn pass_equal_back(a: &[u8], b: &[u8]) -> usize
 {
     let mut left = a;
     let mut right = b;
-    while let (Some((front, x)), Some((other, y))) = (
+    while let (Some((prefix, x)), Some((other, y))) = (
         left.split_last_chunk::<8>(),
         right.split_last_chunk::<8>(),
     ) {
         if x != y {
             break;
         }
-        left = front;
+        left = prefix;
         right = other;
     }
     a.len() - left.len()
 }
 
-/// How many octets agree from the first on, ASCII case aside.
-pub fn agreement_from_front(a: &[u8], b: &[u8]) -> usize
-    ensures { result ≡ agreeing_front a.now b.now }
+/// How many octets agree from the first on, ignoring ASCII case.
+pub fn agreement_from_start(a: &[u8], b: &[u8]) -> usize
+    ensures { result ≡ agreeing_prefix a.now b.now }
 {
     let mut at = pass_equal(a, b);
     while at < a.len() && at < b.len() && (a[at] == b[at] || a[at].eq_ignore_ascii_case(&b[at])) {
@@ -70,7 +70,7 @@ pub fn agreement_from_front(a: &[u8], b: &[u8]) -> usize
     at
 }
 
-/// How many octets agree from the last back, ASCII case aside.
+/// How many octets agree from the last back, ignoring ASCII case.
 pub fn agreement_from_end(a: &[u8], b: &[u8]) -> usize
     ensures { result ≡ agreeing_end a.now b.now }
 {

@@ -1,6 +1,6 @@
 //! Writing values as octets.
 
-ghost use Rattle.std.specs.Prelude.{◌≡◌, ℕ, ◌≤◌, ◌<◌, ◌^◌, List, [], ◌∷◌, length, drop, IfOk, OnOk, OnErr, All, ⊤};
+ghost use Rattle.std.specs.Prelude.{◌≡◌, ℕ, ◌+◌, ◌≤◌, ◌<◌, ◌^◌, List, [], ◌∷◌, ◌++◌, length, take, drop, IfOk, OnOk, OnErr, All, ⊤};
 ghost use Rattle.std.specs.List.{flat_map};
 ghost use Rattle.std.specs.Borrow.{sem};
 ghost use Rattle.dns_wire.specs.Building.{Builds, LendsRest};
@@ -46,7 +46,7 @@ pub trait BuildBytes {
         Ok(end)
     }
 
-    /// Writes the value's octets to the beginning of the buffer. What is behind them is lent back as it
+    /// Writes the value's octets to the beginning of the buffer. What is after them is borrowed back as it
     /// was. `TruncationError` comes exactly where the value does not fit; what the buffer holds then is
     /// open.
     final fn build_bytes<'b>(&self, bytes: &'b mut [u8]) -> Result<&'b mut [u8], TruncationError>
@@ -74,6 +74,15 @@ pub fn put(octets: &[u8], bytes: &mut [u8], start: usize) -> Result<usize, Trunc
     let end = start + octets.len();
     bytes[start..end].copy_from_slice(octets);
     Ok(end)
+}
+
+/// Copies the octets to a place of the buffer.
+pub fn copy_at(octets: &[u8], buffer: &mut [u8], at: usize)
+    requires { at + length octets.now ≤ length buffer.old }
+    ensures exact { buffer.new ≡ take at buffer.old ++ (octets.now ++ drop (at + length octets.now) buffer.old) }
+    ensures prefix { take (at + length octets.now) buffer.new ≡ take at buffer.old ++ octets.now }
+{
+    buffer[at..at + octets.len()].copy_from_slice(octets);
 }
 
 /// One octet.

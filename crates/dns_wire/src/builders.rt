@@ -68,7 +68,7 @@ impl<T: BuildBytes> BuildBytes for Rc<T> {
     }
 }
 
-/// Two values, one behind the other.
+/// Two values, one after the other.
 impl<A: BuildBytes, B: BuildBytes> BuildBytes for (A, B) {
     ghost octets = { λ v. A.octets v.0 ++ B.octets v.1 };
 

@@ -2,10 +2,10 @@
 
 mod compressor;
 mod laws;
-mod press;
+mod reverse;
 mod suffix;
-mod turn;
+mod write_name;
 
 pub use compressor::NameCompressor;
-pub use laws::{longest_suffixes, pressed_names, pressed_names_are_read};
-pub use press::put_name;
+pub use laws::{compressed_names, compressed_names_are_read, longest_suffixes, recorded_places};
+pub use write_name::put_name;

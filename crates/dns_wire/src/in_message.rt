@@ -1,10 +1,10 @@
 //! Writing values in a message, where names are written once and pointed to from then on.
 
 ghost use Rattle.std.specs.Prelude.{◌≤◌, List, ℕ, [], ◌∷◌, length, take, Option, None, ⊤};
-ghost use Rattle.dns_wire.specs.Compression.{Pressing, FitsIn};
+ghost use Rattle.dns_wire.specs.Compression.{CompressedWrite, FitsIn};
 ghost use Rattle.dns_wire.specs.InMessage.{BuildsIn, then_fits, list_fits};
-ghost use Rattle.dns_wire.specs.Pieces.{Piece, IsTold, whole_presses, then_presses, list_presses, both_told};
-ghost use Rattle.dns_wire.specs.Told.{told_then};
+ghost use Rattle.dns_wire.specs.Layout.{LayoutPart, LayoutMatches, octets_writes, then_writes, list_writes, both_layouts};
+ghost use Rattle.dns_wire.specs.LayoutLemmas.{then_matches};
 
 use crate::build::{BuildBytes, put};
 use crate::compression::NameCompressor;
@@ -13,18 +13,18 @@ use std::rc::Rc;
 
 /// A type whose values are written in a message, where names that were written before can be pointed to.
 pub trait BuildInMessage {
-    /// What is written behind contents where names at these places are known: the octets, and the places
+    /// What is written after contents where names at these places are known: the octets, and the places
     /// afterwards.
-    ghost presses: { Self → Pressing };
+    ghost writes: { Self → CompressedWrite };
 
-    /// All its prefixed data fit their prefixes, where it is written behind contents and names at these
+    /// All its prefixed data fit their prefixes, where it is written after contents and names at these
     /// places are known.
     ghost fits_in: { Self → List ℕ → List ℕ → Type 0 } = { λ _ _ _. ⊤ };
 
-    /// The value's pieces, where it tells them: names that are pressed, and octets as they are.
-    ghost pieces: { Self → Option (List Piece) } = { λ _. None };
+    /// The value's parts, where it tells them: names that are compressed, and octets as they are.
+    ghost layout: { Self → Option (List LayoutPart) } = { λ _. None };
 
-    /// Writes the value at a place of the contents, which are the octets behind the header, and gives the
+    /// Writes the value at a place of the contents, which are the octets after the header, and gives the
     /// place where it ends. The compressor knows names before `start`, and afterwards those of the value
     /// too. It is accepted exactly where the prefixed data fit and the octets are at most those from
     /// `start` on. After `TruncationError` the octets before `start` and the compressor are as before.
@@ -37,7 +37,7 @@ pub trait BuildInMessage {
         requires room { start ≤ length contents.old }
         requires known { FitsIn compressor.old (take start contents.old) }
         ensures { BuildsIn (fits_in self.now (take start contents.old) compressor.old)
-            (presses self.now (take start contents.old) compressor.old)
+            (writes self.now (take start contents.old) compressor.old)
             contents.old start compressor.old contents.new compressor.new result };
 
     /// Writes the values one after another at a place of the contents, and gives the place where they end.
@@ -53,8 +53,8 @@ pub trait BuildInMessage {
         Self: Sized,
         requires room { start ≤ length contents.old }
         requires known { FitsIn compressor.old (take start contents.old) }
-        ensures { BuildsIn (list_fits fits_in presses values.now (take start contents.old) compressor.old)
-            (list_presses presses values.now (take start contents.old) compressor.old)
+        ensures { BuildsIn (list_fits fits_in writes values.now (take start contents.old) compressor.old)
+            (list_writes writes values.now (take start contents.old) compressor.old)
             contents.old start compressor.old contents.new compressor.new result }
     {
         let count = compressor.places().len();
@@ -71,8 +71,8 @@ pub trait BuildInMessage {
         Ok(end)
     }
 
-    /// Where pieces are told, what is written is what they write one behind another.
-    ghost told: { (v : Self) → IsTold (pieces v) (presses v) };
+    /// Where parts are known, what is written is what they write one after another.
+    ghost layout_matches: { (v : Self) → LayoutMatches (layout v) (writes v) };
 }
 
 /// Writes a value whole at a place of the contents, and gives the place where it ends. The compressor stays as
@@ -85,7 +85,7 @@ pub fn build_whole<T: BuildBytes>(
 ) -> Result<usize, TruncationError>
     requires room { start ≤ length contents.old }
     requires known { FitsIn compressor.now (take start contents.old) }
-    ensures { BuildsIn (T.fits value.now) (whole_presses (T.octets value.now) (take start contents.old) compressor.now)
+    ensures { BuildsIn (T.fits value.now) (octets_writes (T.octets value.now) (take start contents.old) compressor.now)
         contents.old start compressor.now contents.new compressor.now result }
 {
     // It is passed so that the contract can say what becomes of its places.
@@ -95,9 +95,9 @@ pub fn build_whole<T: BuildBytes>(
 
 /// One octet.
 impl BuildInMessage for u8 {
-    ghost presses = { λ v. whole_presses (v ∷ []) };
+    ghost writes = { λ v. octets_writes (v ∷ []) };
 
-    ghost told = { λ _. tt };
+    ghost layout_matches = { λ _. tt };
 
     fn build_in_message(
         &self,
@@ -121,9 +121,9 @@ impl BuildInMessage for u8 {
 
 /// No octets.
 impl BuildInMessage for () {
-    ghost presses = { λ _. whole_presses [] };
+    ghost writes = { λ _. octets_writes [] };
 
-    ghost told = { λ _. tt };
+    ghost layout_matches = { λ _. tt };
 
     fn build_in_message(
         &self,
@@ -137,13 +137,13 @@ impl BuildInMessage for () {
 
 /// What the reference leads to.
 impl<T: BuildInMessage> BuildInMessage for &T {
-    ghost presses = { λ v. T.presses v.now };
+    ghost writes = { λ v. T.writes v.now };
 
     ghost fits_in = { λ v. T.fits_in v.now };
 
-    ghost pieces = { λ v. T.pieces v.now };
+    ghost layout = { λ v. T.layout v.now };
 
-    ghost told = { λ v. T.told v.now };
+    ghost layout_matches = { λ v. T.layout_matches v.now };
 
     fn build_in_message(
         &self,
@@ -157,13 +157,13 @@ impl<T: BuildInMessage> BuildInMessage for &T {
 
 /// What the box holds.
 impl<T: BuildInMessage> BuildInMessage for Box<T> {
-    ghost presses = { λ v. T.presses v.value };
+    ghost writes = { λ v. T.writes v.value };
 
     ghost fits_in = { λ v. T.fits_in v.value };
 
-    ghost pieces = { λ v. T.pieces v.value };
+    ghost layout = { λ v. T.layout v.value };
 
-    ghost told = { λ v. T.told v.value };
+    ghost layout_matches = { λ v. T.layout_matches v.value };
 
     fn build_in_message(
         &self,
@@ -177,13 +177,13 @@ impl<T: BuildInMessage> BuildInMessage for Box<T> {
 
 /// What the pointer leads to.
 impl<T: BuildInMessage> BuildInMessage for Rc<T> {
-    ghost presses = { λ v. T.presses v.value };
+    ghost writes = { λ v. T.writes v.value };
 
     ghost fits_in = { λ v. T.fits_in v.value };
 
-    ghost pieces = { λ v. T.pieces v.value };
+    ghost layout = { λ v. T.layout v.value };
 
-    ghost told = { λ v. T.told v.value };
+    ghost layout_matches = { λ v. T.layout_matches v.value };
 
     fn build_in_message(
         &self,
@@ -195,15 +195,15 @@ impl<T: BuildInMessage> BuildInMessage for Rc<T> {
     }
 }
 
-/// Two values, one behind the other.
+/// Two values, one after the other.
 impl<A: BuildInMessage, B: BuildInMessage> BuildInMessage for (A, B) {
-    ghost presses = { λ v. then_presses (A.presses v.0) (B.presses v.1) };
+    ghost writes = { λ v. then_writes (A.writes v.0) (B.writes v.1) };
 
-    ghost fits_in = { λ v. then_fits (A.fits_in v.0) (A.presses v.0) (B.fits_in v.1) };
+    ghost fits_in = { λ v. then_fits (A.fits_in v.0) (A.writes v.0) (B.fits_in v.1) };
 
-    ghost pieces = { λ v. both_told (A.pieces v.0) (B.pieces v.1) };
+    ghost layout = { λ v. both_layouts (A.layout v.0) (B.layout v.1) };
 
-    ghost told = { λ v. told_then (A.presses v.0) (B.presses v.1) (A.pieces v.0) (B.pieces v.1) (A.told v.0) (B.told v.1) };
+    ghost layout_matches = { λ v. then_matches (A.writes v.0) (B.writes v.1) (A.layout v.0) (B.layout v.1) (A.layout_matches v.0) (B.layout_matches v.1) };
 
     fn build_in_message(
         &self,

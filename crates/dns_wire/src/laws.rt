@@ -1,11 +1,12 @@
 //! The definitions of this crate in other words.
 
 ghost use Rattle.std.specs.Prelude.{◌≡◌, ◌≤◌, ◌<◌, ◌↔◌, ◌+◌, ◌-◌, ◌^◌, ◌++◌, ℕ, List, [], ◌∷◌, Some, length, flat_map};
-ghost use Rattle.dns_wire.specs.Hexadecimal.{Trimmed, trim, spelled, shown};
+ghost use Rattle.dns_wire.specs.Agreement.{EndAlike, agreeing_end};
+ghost use Rattle.dns_wire.specs.Hexadecimal.{ArePairs, Trimmed, trim, spelled, shown};
 ghost use Rattle.dns_wire.specs.InMessage.{list_fits, EachFits};
 ghost use Rattle.dns_wire.specs.Names.{IsName, wire, plain_name};
-ghost use Rattle.dns_wire.specs.Pieces.{whole_presses, then_presses, list_presses};
-ghost use Rattle.dns_wire.specs.Pointers.{Segment, NameAt, head_count, name_at};
+ghost use Rattle.dns_wire.specs.Layout.{octets_writes, then_writes, list_writes};
+ghost use Rattle.dns_wire.specs.Pointers.{Segment, NameAt, label_type_count, name_at};
 ghost use Rattle.dns_wire.specs.Reading.{AreOctets, plain_at};
 
 use crate::in_message::BuildInMessage;
@@ -21,7 +22,7 @@ pub fn fixed_numbers()
     ensures places { MAX_PLACES ≡ 128 }
 {}
 
-/// A name is read exactly where its octets stand at the front. It is one name, and has at most 255
+/// A name is read exactly where its octets stand at the start. It is one name, and has at most 255
 /// octets. What is written is read back whole (RFC 1035 sections 2.3.4 and 3.1).
 pub fn plain_names()
     ensures spelled { (bytes : List ℕ) (labels : List (List ℕ)) (rest : List ℕ) →
@@ -44,7 +45,7 @@ pub fn names_follow_pointers()
 {}
 
 /// What the rules of pointers read at a place is one name, of at most 255 octets. At least an octet of it
-/// stands at the place, and none behind the contents.
+/// stands at the place, and none after the contents.
 pub fn pointed_names()
     ensures one { (contents : List ℕ) (at : ℕ) (labels others : List (List ℕ)) (end other : ℕ) →
         NameAt contents at labels end → NameAt contents at others other → (labels ≡ others) × (end ≡ other) }
@@ -56,15 +57,15 @@ pub fn pointed_names()
 
 /// No chain of pointers is endless, as each leads to a segment that begins before its own. A reading goes
 /// over a head for each label, one for the root, and one for each pointer, of which there are no more than
-/// places before the segment: 128 heads of a name, and its place, are the most.
+/// places before the segment: 128 label types of a name, and its place, are the most.
 pub fn pointers_lead_back()
     ensures segment { (contents : List ℕ) (start at : ℕ) (labels : List (List ℕ)) (end : ℕ)
-        (reads : Segment contents start at labels end) → head_count reads ≤ length labels + start + 1 }
+        (reads : Segment contents start at labels end) → label_type_count reads ≤ length labels + start + 1 }
     ensures name { (contents : List ℕ) (at : ℕ) (labels : List (List ℕ)) (end : ℕ)
-        (found : NameAt contents at labels end) → head_count found.reads ≤ 128 + at }
+        (found : NameAt contents at labels end) → label_type_count found.reads ≤ 128 + at }
 {}
 
-/// Octets behind the contents change no name that is read in them.
+/// Octets after the contents change no name that is read in them.
 pub fn added_octets()
     ensures follows { (contents more : List ℕ) (at : ℕ) (labels : List (List ℕ)) (end : ℕ) →
         NameAt contents at labels end → NameAt (contents ++ more) at labels end }
@@ -78,28 +79,37 @@ pub fn trimmed_text()
     ensures one { (text left : List ℕ) → Trimmed text left → left ≡ trim text }
 {}
 
-/// What is written in hexadecimal is read back, and what a text spells is octets (RFC 4648 section 8).
+/// A text spells octets exactly where it is pairs of digits, letters in lowercase or capitals (RFC 4648
+/// section 8). What is written in hexadecimal is read back, and what a text spells is octets.
 pub fn hexadecimal_text()
     ensures back { (octets : List ℕ) → AreOctets octets → spelled (flat_map shown octets) ≡ Some octets }
     ensures octets { (text octets : List ℕ) → spelled text ≡ Some octets → AreOctets octets }
+    ensures pairs { (text octets : List ℕ) → (spelled text ≡ Some octets) ↔ ArePairs text octets }
+{}
+
+/// Two lists of octets that end alike, ignoring ASCII case (RFC 4343 section 3), agree that far from their ends: the
+/// octets that agree are the longest common suffix of the two in lowercase.
+pub fn common_suffixes()
+    ensures common { (xs ys : List ℕ) → EndAlike xs ys (agreeing_end xs ys) }
+    ensures longest { (xs ys : List ℕ) (count : ℕ) → EndAlike xs ys count → count ≤ agreeing_end xs ys }
 {}
 
 /// A list of octets is written as these octets, in a message too.
 pub fn lists_of_octets()
     ensures plain { (bytes : List ℕ) → flat_map (λ b. b ∷ []) bytes ≡ bytes }
     ensures in_message { (bytes contents places : List ℕ) →
-        list_presses (λ b. whole_presses (b ∷ [])) bytes contents places ≡ (bytes, places) }
+        list_writes (λ b. octets_writes (b ∷ [])) bytes contents places ≡ (bytes, places) }
 {}
 
 /// What a list writes in a message: one value alone what it writes by itself, and a list that is cut in two
-/// anywhere what its front writes, and then its back. It fits exactly where each of its values fits behind
+/// anywhere what its prefix writes, and then its back. It fits exactly where each of its values fits after
 /// those before it.
 pub fn lists_in_messages<T: BuildInMessage>()
     ensures one { (value : T) (contents places : List ℕ) →
-        list_presses T.presses (value ∷ []) contents places ≡ T.presses value contents places }
-    ensures cut { (front back : List T) (contents places : List ℕ) →
-        list_presses T.presses (front ++ back) contents places
-        ≡ then_presses (list_presses T.presses front) (list_presses T.presses back) contents places }
+        list_writes T.writes (value ∷ []) contents places ≡ T.writes value contents places }
+    ensures cut { (prefix back : List T) (contents places : List ℕ) →
+        list_writes T.writes (prefix ++ back) contents places
+        ≡ then_writes (list_writes T.writes prefix) (list_writes T.writes back) contents places }
     ensures fits { (values : List T) (contents places : List ℕ) →
-        list_fits T.fits_in T.presses values contents places ↔ EachFits T.fits_in T.presses values contents places }
+        list_fits T.fits_in T.writes values contents places ↔ EachFits T.fits_in T.writes values contents places }
 {}

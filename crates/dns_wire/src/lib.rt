@@ -2,45 +2,45 @@
 //! pointers, and the sources and sinks through which a program meets the outside.
 #![tactic(auto)]
 
-mod adapters;
 mod agreement;
 mod as_bytes;
 mod build;
 mod builders;
 mod compression;
 mod error;
-mod follow;
 mod in_message;
+mod io;
 mod laws;
 mod list;
 mod lists_in_message;
 mod lowercase;
-mod memory;
-mod outside;
+mod name_cursor;
 mod parse;
 mod read_value;
 mod sizes;
 mod storage;
 mod text;
 
-pub use adapters::{ReadSource, WriteSink};
-pub use agreement::{agreement_from_end, agreement_from_front};
+pub use agreement::{agreement_from_end, agreement_from_start};
 pub use as_bytes::AsBytes;
-pub use build::{BuildBytes, put};
+pub use build::{BuildBytes, copy_at, put};
 pub use compression::{
-    NameCompressor, longest_suffixes, pressed_names, pressed_names_are_read, put_name,
+    NameCompressor, compressed_names, compressed_names_are_read, longest_suffixes, put_name,
+    recorded_places,
 };
 pub use error::{ParseError, TruncationError};
-pub use follow::{Head, NameCursor, pointer_offset, read_head};
 pub use in_message::{BuildInMessage, build_whole};
+pub use io::adapters::{ReadSource, WriteSink};
+pub use io::memory::{NullSink, PlainSource, TextSink, TextSource};
+pub use io::traits::{Failed, Sink, Source};
 pub use laws::{
-    added_octets, fixed_numbers, hexadecimal_text, lists_in_messages, lists_of_octets,
-    names_follow_pointers, plain_names, pointed_names, pointers_lead_back, trimmed_text,
+    added_octets, common_suffixes, fixed_numbers, hexadecimal_text, lists_in_messages,
+    lists_of_octets, names_follow_pointers, plain_names, pointed_names, pointers_lead_back,
+    trimmed_text,
 };
 pub use list::{ListError, split_list};
 pub use lowercase::{build_lowercase, compare_lowercase};
-pub use memory::{NullSink, PlainSource, TextSink, TextSource};
-pub use outside::{Failed, Sink, Source};
+pub use name_cursor::{LabelType, NameCursor, pointer_offset, read_label_type};
 pub use parse::{
     ParseBytes, ParseMessageBytes, ParseName, SplitBytes, SplitMessageBytes,
     parse_without_compression, split_octets, split_without_compression, whole, whole_message,

@@ -2,7 +2,7 @@
 
 ghost use Rattle.std.specs.Prelude.{None};
 ghost use Rattle.dns_wire.specs.InMessage.{list_fits};
-ghost use Rattle.dns_wire.specs.Pieces.{list_presses};
+ghost use Rattle.dns_wire.specs.Layout.{list_writes};
 
 use crate::compression::NameCompressor;
 use crate::error::TruncationError;
@@ -10,11 +10,11 @@ use crate::in_message::BuildInMessage;
 
 /// The values, one after another.
 impl<T: BuildInMessage> BuildInMessage for &[T] {
-    ghost presses = { λ v. list_presses T.presses v.now };
+    ghost writes = { λ v. list_writes T.writes v.now };
 
-    ghost fits_in = { λ v. list_fits T.fits_in T.presses v.now };
+    ghost fits_in = { λ v. list_fits T.fits_in T.writes v.now };
 
-    ghost told = { λ _. tt };
+    ghost layout_matches = { λ _. tt };
 
     fn build_in_message(
         &self,
@@ -28,11 +28,11 @@ impl<T: BuildInMessage> BuildInMessage for &[T] {
 
 /// The values, one after another.
 impl<T: BuildInMessage, const N: usize> BuildInMessage for [T; N] {
-    ghost presses = { λ v. list_presses T.presses v };
+    ghost writes = { λ v. list_writes T.writes v };
 
-    ghost fits_in = { λ v. list_fits T.fits_in T.presses v };
+    ghost fits_in = { λ v. list_fits T.fits_in T.writes v };
 
-    ghost told = { λ _. tt };
+    ghost layout_matches = { λ _. tt };
 
     fn build_in_message(
         &self,
@@ -46,11 +46,11 @@ impl<T: BuildInMessage, const N: usize> BuildInMessage for [T; N] {
 
 /// The values, one after another.
 impl<T: BuildInMessage> BuildInMessage for Vec<T> {
-    ghost presses = { λ v. list_presses T.presses v.items };
+    ghost writes = { λ v. list_writes T.writes v.items };
 
-    ghost fits_in = { λ v. list_fits T.fits_in T.presses v.items };
+    ghost fits_in = { λ v. list_fits T.fits_in T.writes v.items };
 
-    ghost told = { λ _. tt };
+    ghost layout_matches = { λ _. tt };
 
     fn build_in_message(
         &self,

@@ -1,4 +1,4 @@
-//! Octets in small letters: `A` to `Z` become `a` to `z`, and all others stay (RFC 4343 section 3).
+//! Octets in lowercase: `A` to `Z` become `a` to `z`, and all others stay (RFC 4343 section 3).
 
 ghost use Rattle.std.specs.Prelude.{◌≡◌, ◌≤◌, length};
 ghost use Rattle.std.specs.Str.{str_to_ascii_lowercase};
@@ -6,12 +6,12 @@ ghost use Rattle.std.specs.Ordering.{nat_cmp};
 ghost use Rattle.std.specs.Cmp.Lexicographic.{slice_cmp};
 ghost use Rattle.dns_wire.specs.Building.{Builds};
 
-use crate::agreement::agreement_from_front;
+use crate::agreement::agreement_from_start;
 use crate::build::BuildBytes;
 use crate::error::TruncationError;
 use std::cmp::Ordering;
 
-/// Writes the value's octets in small letters at a place of the buffer, and gives the place where they end.
+/// Writes the value's octets in lowercase at a place of the buffer, and gives the place where they end.
 /// After `TruncationError`, which comes as from `build_at`, the octets before `start` are as before.
 pub fn build_lowercase<T: BuildBytes>(
     value: &T,
@@ -26,11 +26,11 @@ pub fn build_lowercase<T: BuildBytes>(
     Ok(end)
 }
 
-/// The order of octets in small letters, from the first on; a proper prefix comes first.
+/// The order of octets in lowercase, from the first on; a proper prefix comes first.
 pub fn compare_lowercase(a: &[u8], b: &[u8]) -> Ordering
     ensures { result ≡ slice_cmp nat_cmp (str_to_ascii_lowercase a.now) (str_to_ascii_lowercase b.now) }
 {
-    let at = agreement_from_front(a, b);
+    let at = agreement_from_start(a, b);
     if at < a.len() && at < b.len() {
         return a[at].to_ascii_lowercase().cmp(&b[at].to_ascii_lowercase());
     }

@@ -3,7 +3,7 @@
 ghost use Rattle.std.specs.Prelude.{◌≡◌, ◌≤◌, ℕ, List, [], length, Option, Some, IfOk};
 ghost use Rattle.dns_wire.specs.Reading.{Gives, LeavesRest, EndsWithin, all_of, all_at, plain_at, whole_of, whole_in, octet, octets};
 ghost use Rattle.dns_wire.specs.Names.{IsName};
-ghost use Rattle.dns_wire.specs.Left.{octet_leaves, octets_leave, whole_leaves, plain_ends};
+ghost use Rattle.dns_wire.specs.ReadingLemmas.{octet_leaves, octets_leave, whole_leaves, plain_ends};
 
 use crate::error::ParseError;
 
@@ -15,7 +15,7 @@ pub trait ParseBytes<'a>: Sized + Drop {
     /// What a value is seen as.
     ghost seen: { Self → Seen };
 
-    /// The grammar: what stands at the front of the octets, and the octets after it.
+    /// The grammar: what stands at the start of the octets, and the octets after it.
     ghost reads: { List ℕ → Option (Seen × List ℕ) };
 
     /// The grammar at a place in the contents of a message: what stands there, and where it ends.
@@ -25,24 +25,24 @@ pub trait ParseBytes<'a>: Sized + Drop {
     fn parse_bytes(bytes: &'a [u8]) -> Result<Self, ParseError>
         ensures { Gives seen result (all_of (reads bytes.now)) };
 
-    /// What is left over is what follows: the octets without so many from the front.
+    /// What is left over is what follows: the octets without that many from the start.
     ghost leaves_rest: { LeavesRest reads };
 
-    /// What is read in a message ends in it and not before its place, so that nothing is read from behind
+    /// What is read in a message ends in it and not before its place, so that nothing is read from after
     /// the end.
     ghost ends_within: { EndsWithin reads_at };
 }
 
 /// A type whose values may be followed by other octets.
 pub trait SplitBytes<'a>: ParseBytes<'a> {
-    /// Reads the value at the front of the octets, and gives the octets after it. `ParseError` comes
+    /// Reads the value at the start of the octets, and gives the octets after it. `ParseError` comes
     /// exactly where none stands there.
     fn split_bytes(bytes: &'a [u8]) -> Result<(Self, &'a [u8]), ParseError>
         ensures exact { Gives (λ x. (Self.seen x.0, x.1.now)) result (Self.reads bytes.now) }
         ensures within { IfOk result (λ x. length x.1.now ≤ length bytes.now) };
 }
 
-/// A type whose values are read at a place in the contents of a message, which are its octets behind the
+/// A type whose values are read at a place in the contents of a message, which are its octets after the
 /// header and may be pointed to.
 pub trait ParseMessageBytes<'a>: ParseBytes<'a> {
     /// Reads the value that stands from the place to the end of the contents. `ParseError` comes exactly
@@ -104,7 +104,7 @@ pub fn whole_message<T: Drop>(
     }
 }
 
-/// So many octets from the front, and those behind them. `ParseError` comes exactly where there are fewer.
+/// So many octets from the start, and those after them. `ParseError` comes exactly where there are fewer.
 pub fn split_octets(bytes: &[u8], size: usize) -> Result<(&[u8], &[u8]), ParseError>
     ensures { Gives (λ x. (x.0.now, x.1.now)) result (octets size bytes.now) }
 {
@@ -115,7 +115,7 @@ pub fn split_octets(bytes: &[u8], size: usize) -> Result<(&[u8], &[u8]), ParseEr
 }
 
 /// Reads the value that all the octets from the place on spell, with no pointers. `ParseError` comes
-/// exactly where they spell none, and from a place behind the end.
+/// exactly where they spell none, and from a place after the end.
 pub fn parse_without_compression<'a, T: ParseBytes<'a>>(
     contents: &'a [u8],
     start: usize,
@@ -129,7 +129,7 @@ pub fn parse_without_compression<'a, T: ParseBytes<'a>>(
 }
 
 /// Reads the value at the place, with no pointers, and gives the place where it ends. `ParseError` comes
-/// exactly where none stands there, and at a place behind the end.
+/// exactly where none stands there, and at a place after the end.
 pub fn split_without_compression<'a, T: SplitBytes<'a>>(
     contents: &'a [u8],
     start: usize,

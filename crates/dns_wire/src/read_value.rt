@@ -1,8 +1,8 @@
-//! One reading behind the four calls that read.
+//! One reading after the four calls that read.
 
 ghost use Rattle.std.specs.Prelude.{◌≡◌, ◌≤◌, ℕ, List, length, Option, Some, IfOk};
 ghost use Rattle.dns_wire.specs.Reading.{Gives, LeavesRest, EndsWithin, plain_at};
-ghost use Rattle.dns_wire.specs.Left.{plain_ends};
+ghost use Rattle.dns_wire.specs.ReadingLemmas.{plain_ends};
 
 use crate::error::ParseError;
 use crate::parse::{
@@ -10,7 +10,7 @@ use crate::parse::{
     whole_message,
 };
 
-/// A type whose values are read at the front of octets. With it come `ParseBytes` and `SplitBytes`.
+/// A type whose values are read at the start of octets. With it come `ParseBytes` and `SplitBytes`.
 pub trait ReadValue<'a>: Sized + Drop {
     /// What is read: the value without where it lies in memory.
     ghost Seen: { Type 0 };
@@ -18,19 +18,19 @@ pub trait ReadValue<'a>: Sized + Drop {
     /// What a value is seen as.
     ghost seen: { Self → Seen };
 
-    /// The grammar: what stands at the front of the octets, and the octets after it.
+    /// The grammar: what stands at the start of the octets, and the octets after it.
     ghost reads: { List ℕ → Option (Seen × List ℕ) };
 
     /// The grammar at a place in the contents of a message: what stands there, and where it ends.
     ghost reads_at: { List ℕ → ℕ → Option (Seen × ℕ) };
 
-    /// Reads the value at the front of the octets, and gives the octets after it. `ParseError` comes
+    /// Reads the value at the start of the octets, and gives the octets after it. `ParseError` comes
     /// exactly where none stands there.
-    fn read_front(bytes: &'a [u8]) -> Result<(Self, &'a [u8]), ParseError>
+    fn read_prefix(bytes: &'a [u8]) -> Result<(Self, &'a [u8]), ParseError>
         ensures exact { Gives (λ x. (seen x.0, x.1.now)) result (reads bytes.now) }
         ensures within { IfOk result (λ x. length x.1.now ≤ length bytes.now) };
 
-    /// What is left over is what follows: the octets without so many from the front.
+    /// What is left over is what follows: the octets without that many from the start.
     ghost leaves_rest: { LeavesRest reads };
 
     /// What is read in a message ends in it and not before its place.
@@ -61,13 +61,13 @@ impl<'a, T: ReadValue<'a>> ParseBytes<'a> for T {
     ghost ends_within = { T.ends_within };
 
     fn parse_bytes(bytes: &'a [u8]) -> Result<T, ParseError> {
-        whole(T::read_front(bytes))
+        whole(T::read_prefix(bytes))
     }
 }
 
 impl<'a, T: ReadValue<'a>> SplitBytes<'a> for T {
     fn split_bytes(bytes: &'a [u8]) -> Result<(T, &'a [u8]), ParseError> {
-        T::read_front(bytes)
+        T::read_prefix(bytes)
     }
 }
 
@@ -92,16 +92,16 @@ pub trait ReadPlainValue<'a>: Sized + Drop {
     /// What a value is seen as.
     ghost seen: { Self → Seen };
 
-    /// The grammar: what stands at the front of the octets, and the octets after it.
+    /// The grammar: what stands at the start of the octets, and the octets after it.
     ghost reads: { List ℕ → Option (Seen × List ℕ) };
 
-    /// Reads the value at the front of the octets, and gives the octets after it. `ParseError` comes
+    /// Reads the value at the start of the octets, and gives the octets after it. `ParseError` comes
     /// exactly where none stands there.
     fn read_plain(bytes: &'a [u8]) -> Result<(Self, &'a [u8]), ParseError>
         ensures exact { Gives (λ x. (seen x.0, x.1.now)) result (reads bytes.now) }
         ensures within { IfOk result (λ x. length x.1.now ≤ length bytes.now) };
 
-    /// What is left over is what follows: the octets without so many from the front.
+    /// What is left over is what follows: the octets without that many from the start.
     ghost leaves_rest: { LeavesRest reads };
 }
 
@@ -118,7 +118,7 @@ impl<'a, T: ReadPlainValue<'a>> ReadValue<'a> for T {
 
     ghost ends_within = { plain_ends T.reads T.leaves_rest };
 
-    fn read_front(bytes: &'a [u8]) -> Result<(T, &'a [u8]), ParseError> {
+    fn read_prefix(bytes: &'a [u8]) -> Result<(T, &'a [u8]), ParseError> {
         T::read_plain(bytes)
     }
 }

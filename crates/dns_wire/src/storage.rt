@@ -14,7 +14,7 @@ pub struct Storage<const N: usize> {
 impl<const N: usize> Storage<N> {
     ghost use Rattle.dns_wire.specs.Storage.{LendsPart};
 
-    /// The octets from one place up to another, for writing. Both places are in octets from the front.
+    /// The octets from one place up to another, for writing. Both places are in octets from the start.
     pub fn part_mut(&mut self, start: usize, end: usize) -> &mut [u8]
         requires order { start ≤ end }
         requires room { end ≤ N }

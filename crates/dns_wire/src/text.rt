@@ -2,9 +2,9 @@
 
 ghost use Rattle.std.specs.Prelude.{◌↔◌, ℕ, List, None, IsOk, ⊤};
 ghost use Rattle.std.specs.Str.{IsUtf8};
-ghost use Rattle.dns_wire.specs.Pieces.{whole_presses};
+ghost use Rattle.dns_wire.specs.Layout.{octets_writes};
 ghost use Rattle.dns_wire.specs.Reading.{Gives, all_of, plain_at};
-ghost use Rattle.dns_wire.specs.Left.{text_leaves, plain_ends};
+ghost use Rattle.dns_wire.specs.ReadingLemmas.{text_leaves, plain_ends};
 ghost use Rattle.dns_wire.specs.Texts.{text};
 
 use crate::build::{BuildBytes, put};
@@ -61,9 +61,9 @@ impl BuildBytes for &str {
 
 /// Whole, with no name in it.
 impl BuildInMessage for &str {
-    ghost presses = { λ v. whole_presses v.now };
+    ghost writes = { λ v. octets_writes v.now };
 
-    ghost told = { λ _. tt };
+    ghost layout_matches = { λ _. tt };
 
     fn build_in_message(
         &self,

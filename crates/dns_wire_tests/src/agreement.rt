@@ -1,12 +1,12 @@
 //! How far octets agree. The names are those of RFC 4034 section 6.1, and of RFC 4343 section 2.2.
 
-use dns_wire::{agreement_from_end, agreement_from_front, compare_lowercase};
+use dns_wire::{agreement_from_end, agreement_from_start, compare_lowercase};
 use std::cmp::Ordering;
 
 /// How many octets agree from the first on, and from the last back.
 fn agreement(one: &[u8], other: &[u8]) -> (usize, usize) {
     (
-        agreement_from_front(one, other),
+        agreement_from_start(one, other),
         agreement_from_end(one, other),
     )
 }

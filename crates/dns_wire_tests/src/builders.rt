@@ -31,7 +31,7 @@ fn builds_boxed(alloc: Global) -> bool {
     }
 }
 
-/// Whether an octet behind a counted pointer is written, and its size.
+/// Whether an octet after a counted pointer is written, and its size.
 fn builds_shared(alloc: Global) -> bool {
     match Rc::new(alloc, 7u8) {
         Ok(shared) => builds(&shared, b"\x07") && shared.built_bytes_size() == 1,

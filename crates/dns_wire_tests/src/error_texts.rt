@@ -31,7 +31,7 @@ fn errors_of_reading_a_whole_text_are_shown(rt: HostRuntime) {
     }
 }
 
-/// The errors of reading a front, and what they print.
+/// The errors of reading a prefix, and what they print.
 fn split_errors() -> [(LabelSplitError, &'static str); 4] {
     [
         (LabelSplitError::Overlong, "the label was too large"),
@@ -51,7 +51,7 @@ fn split_errors() -> [(LabelSplitError, &'static str); 4] {
 }
 
 #[test]
-fn errors_of_reading_a_front_are_shown(rt: HostRuntime) {
+fn errors_of_reading_a_prefix_are_shown(rt: HostRuntime) {
     for (error, text) in split_errors() {
         assert!(rt; prints(rt.alloc(), &error, text), "{text}");
     }

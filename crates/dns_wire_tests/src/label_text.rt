@@ -41,7 +41,7 @@ fn parses(text: &[u8], contents: &[u8]) -> bool {
     }
 }
 
-/// Whether a label with these contents is read at the front of the text, and this text is left.
+/// Whether a label with these contents is read at the start of the text, and this text is left.
 fn splits(text: &[u8], contents: &[u8], left: &[u8]) -> bool {
     match LabelBuf::split_str(text) {
         Ok((label, rest)) => label.as_label().contents() == contents && rest == left,
@@ -91,7 +91,7 @@ fn parse_fault(text: &[u8]) -> Option<LabelParseError> {
     LabelBuf::parse_str(text).err()
 }
 
-/// The error of reading a label at the front of the text.
+/// The error of reading a label at the start of the text.
 fn split_fault(text: &[u8]) -> Option<LabelSplitError> {
     match LabelBuf::split_str(text) {
         Ok(_) => None,
@@ -158,21 +158,21 @@ fn texts_of_63_octets_are_read(rt: HostRuntime) {
     let text = [b'a'; 64];
     let mut followed = [b'a'; 65];
     followed[63] = b'.';
-    let (front, parse, split) = (&text[..63], parse_fault(&text), split_fault(&text));
+    let (prefix, parse, split) = (&text[..63], parse_fault(&text), split_fault(&text));
     all_hold(
         &rt,
         &[
-            ("63 octets", parses(front, front)),
+            ("63 octets", parses(prefix, prefix)),
             ("64 octets", parse == Some(LabelParseError::Overlong)),
             (
                 "no end",
-                split_fault(front) == Some(LabelSplitError::ShortInput),
+                split_fault(prefix) == Some(LabelSplitError::ShortInput),
             ),
             (
                 "64 octets at the front",
                 split == Some(LabelSplitError::Overlong),
             ),
-            ("63 octets and a dot", splits(&followed, front, b".a")),
+            ("63 octets and a dot", splits(&followed, prefix, b".a")),
         ],
     );
 }

@@ -25,6 +25,15 @@ fn refuses_more(alloc: Global) -> bool {
     ) && matches!(split_list::<u8>(alloc, OCTETS, 8), Err(ListError::Parse))
 }
 
+/// Whether 65,535 octets are read as a list, the most that a length of two octets counts.
+fn lists_most(alloc: Global) -> bool {
+    let octets = [7; 65_535];
+    match split_list::<u8>(alloc, &octets, 65_535) {
+        Ok((values, rest)) => values.as_slice() == octets.as_slice() && rest.is_empty(),
+        Err(_) => false,
+    }
+}
+
 #[test]
 fn lists_are_read_value_by_value(rt: HostRuntime) {
     all_hold(
@@ -32,6 +41,7 @@ fn lists_are_read_value_by_value(rt: HostRuntime) {
         &[
             ("three pairs", lists_pairs(rt.alloc())),
             ("too many", refuses_more(rt.alloc())),
+            ("the most octets", lists_most(rt.alloc())),
         ],
     );
 }

@@ -8,7 +8,7 @@ use dns_wire::{
     parse_without_compression, put, split_without_compression,
 };
 
-/// Whether the octet is at the front, and these are left.
+/// Whether the octet is at the start, and these are left.
 fn splits_one(octets: &[u8], first: u8, left: &[u8]) -> bool {
     match u8::split_bytes(octets) {
         Ok((octet, rest)) => are_as_wanted(&[octet], rest, (&[first], left)),
@@ -66,7 +66,7 @@ fn are_put() -> bool {
     is_put && put(b"ef", &mut buffer, 5).is_err()
 }
 
-/// What is left of the buffer after an octet and two octets at its front.
+/// What is left of the buffer after an octet and two octets at its prefix.
 fn left_after_three(buffer: &mut [u8]) -> Option<&mut [u8]> {
     let octets: &[u8] = b"cd";
     match b'x'.build_bytes(buffer) {
@@ -75,7 +75,7 @@ fn left_after_three(buffer: &mut [u8]) -> Option<&mut [u8]> {
     }
 }
 
-/// Whether three octets at the front leave the three others.
+/// Whether three octets at the start leave the three others.
 fn are_built() -> bool {
     let mut buffer = *b".abcd.";
     match left_after_three(&mut buffer) {

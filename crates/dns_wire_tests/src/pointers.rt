@@ -1,36 +1,36 @@
 //! Labels, roots and pointers at an offset. Offsets of contents count from the end of the header, and those
-//! in pointers from its front.
+//! in pointers from its prefix.
 
 use crate::holds::all_hold;
-use dns_wire::{Head, read_head};
+use dns_wire::{LabelType, read_label_type};
 
 /// The label `a`, a root, and pointers to 0 and into the header, then an octet that begins nothing.
 const CONTENTS: &[u8] = b"\x01a\0\xc0\x0c\xc0\x0b\x40";
 
 /// Whether a label of this size is at the offset.
 fn is_label(start: usize, at: usize, size: usize) -> bool {
-    match read_head(CONTENTS, start, at) {
-        Ok(Head::Label(found)) => found == size,
+    match read_label_type(CONTENTS, start, at) {
+        Ok(LabelType::Label(found)) => found == size,
         _ => false,
     }
 }
 
 /// Whether the root is at the offset.
 fn is_root(start: usize, at: usize) -> bool {
-    matches!(read_head(CONTENTS, start, at), Ok(Head::Root))
+    matches!(read_label_type(CONTENTS, start, at), Ok(LabelType::Root))
 }
 
 /// Whether a pointer to the other offset is at the offset.
 fn is_pointer(start: usize, at: usize, target: usize) -> bool {
-    match read_head(CONTENTS, start, at) {
-        Ok(Head::Pointer(found)) => found == target,
+    match read_label_type(CONTENTS, start, at) {
+        Ok(LabelType::Pointer(found)) => found == target,
         _ => false,
     }
 }
 
 /// Whether what is at the offset is refused.
 fn is_refused(start: usize, at: usize) -> bool {
-    read_head(CONTENTS, start, at).is_err()
+    read_label_type(CONTENTS, start, at).is_err()
 }
 
 #[test]

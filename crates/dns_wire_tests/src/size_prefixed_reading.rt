@@ -16,7 +16,7 @@ fn splits_text(octets: &[u8], wanted: &str, left: &[u8]) -> bool {
     }
 }
 
-/// Whether no text after its size is at the front.
+/// Whether no text after its size is at the start.
 fn is_no_text(octets: &[u8]) -> bool {
     SizePrefixed::<u8, &str>::split_bytes(octets).is_err()
 }

@@ -21,9 +21,6 @@ fn show(rt: &HostRuntime, list: &CanonList) -> anyhow::Result<()> {
 
 fn main(rt: HostRuntime) -> anyhow::Result<()> {
     let message = hex::decode(rt.alloc(), MESSAGE)?;
-    match canonicalise(rt.alloc(), &message) {
-        Ok(list) => show(&rt, &list)?,
-        Err(error) => println!(rt; "{error:?}")?,
-    }
-    Ok(())
+    let list = canonicalise(rt.alloc(), &message)?;
+    show(&rt, &list)
 }

@@ -5,10 +5,10 @@ ghost use Rattle.std.specs.List.{AllByRecursion};
 ghost use Rattle.dns_wire.specs.Reading.{all_of};
 ghost use Rattle.dns_wire.specs.Names.{plain_name, name_labels};
 ghost use Rattle.dns_wire.specs.Reversed.{reversed_name, reversed_name_labels};
-ghost use Rattle.dns_wire.specs.Compression.{longest_kept, KeptSuffix, LongestKept, with_more, noted, Run, ArePlaces, FitsIn, Grows};
+ghost use Rattle.dns_wire.specs.Compression.{longest_recorded, RecordedSuffix, LongestRecorded, with_more, recorded, Run, ArePlaces, FitsIn, Grows};
 
+use crate::compression::reverse::reverse_name;
 use crate::compression::suffix::{count_labels, suffix_before};
-use crate::compression::turn::turn_name;
 use crate::sizes::{LAST_PLACE, MAX_LABEL_SIZE, MAX_PLACES};
 use arrayvec::ArrayVec;
 use std::marker::Model;
@@ -18,7 +18,7 @@ use std::marker::Model;
 /// of the header: at most 128, rising, and each at most 16,371, as far as a pointer reaches.
 #[derive(Drop)]
 pub struct NameCompressor {
-    kept: ArrayVec<u16, MAX_PLACES>,
+    recorded: ArrayVec<u16, MAX_PLACES>,
 }
 
 impl Model for NameCompressor {
@@ -27,9 +27,9 @@ impl Model for NameCompressor {
 
     ghost Value = { List ℕ };
 
-    ghost view = { λ c. c.kept.items };
+    ghost view = { λ c. c.recorded.items };
 
-    ghost invariant = { λ c. ArePlaces c.kept.items };
+    ghost invariant = { λ c. ArePlaces c.recorded.items };
 }
 
 impl NameCompressor {
@@ -38,73 +38,73 @@ impl NameCompressor {
         ensures { result ≡ [] }
     {
         NameCompressor {
-            kept: ArrayVec::new(),
+            recorded: ArrayVec::new(),
         }
     }
 
     /// The places, in order.
     pub fn places(&self) -> &[u16]
         ensures exact { result.now ≡ self.now }
-        ensures kept { ArePlaces self.now }
+        ensures recorded { ArePlaces self.now }
     {
-        self.kept.as_slice()
+        self.recorded.as_slice()
     }
 
-    /// Keeps the first `len` places alone, of which there are so many.
+    /// Keeps the first `len` places alone, of which there are that many.
     pub fn truncate(&mut self, len: usize)
         requires { len ≤ length self.old }
         ensures exact { self.new ≡ take len self.old }
         ensures fits { (contents : List ℕ) → FitsIn self.old contents → FitsIn self.new contents }
     {
-        self.kept.truncate(len);
+        self.recorded.truncate(len);
     }
 
-    /// The longest suffix of the name that is the name at a kept place, ASCII case aside: how many octets
+    /// The longest suffix of the name that is the name at a recorded place, ignoring ASCII case: how many octets
     /// of the name are before it, and the smallest such place. It is none exactly where no suffix of at
-    /// least one label is at a kept place.
+    /// least one label is at a recorded place.
     pub fn compress_name(&self, contents: &[u8], name: &[u8]) -> Option<(usize, u16)>
         requires { all_of (plain_name name.now) ≡ Some (name_labels name.now) }
-        ensures exact { result ≡ longest_kept contents.now self.now 0 (name_labels name.now) }
-        ensures longest { IfSome result (λ k. LongestKept contents.now self.now (name_labels name.now) k.0 k.1) }
-        ensures none { IfNone result ((front place : ℕ) → ¬ KeptSuffix contents.now self.now (name_labels name.now) front place) }
+        ensures exact { result ≡ longest_recorded contents.now self.now 0 (name_labels name.now) }
+        ensures longest { IfSome result (λ k. LongestRecorded contents.now self.now (name_labels name.now) k.0 k.1) }
+        ensures none { IfNone result ((prefix place : ℕ) → ¬ RecordedSuffix contents.now self.now (name_labels name.now) prefix place) }
     {
         let count = count_labels(name);
         let mut best = None;
-        let mut front = name.len();
-        for place in self.kept.as_slice() {
-            if let Some(found) = suffix_before(contents, *place as usize, name, count, front) {
+        let mut prefix = name.len();
+        for place in self.recorded.as_slice() {
+            if let Some(found) = suffix_before(contents, *place as usize, name, count, prefix) {
                 if found == 0 {
                     return Some((0, *place));
                 }
                 best = Some((found, *place));
-                front = found;
+                prefix = found;
             }
         }
         best
     }
 
     /// As `compress_name` of the name whose octets from the root on these are: the octets before the suffix
-    /// are counted from the front of the name.
+    /// are counted from the start of the name.
     pub fn compress_revname(&self, contents: &[u8], name: &[u8]) -> Option<(usize, u16)>
         requires { reversed_name name.now ≡ Some (reversed_name_labels name.now) }
-        ensures exact { result ≡ longest_kept contents.now self.now 0 (reversed_name_labels name.now) }
-        ensures longest { IfSome result (λ k. LongestKept contents.now self.now (reversed_name_labels name.now) k.0 k.1) }
-        ensures none { IfNone result ((front place : ℕ) → ¬ KeptSuffix contents.now self.now (reversed_name_labels name.now) front place) }
+        ensures exact { result ≡ longest_recorded contents.now self.now 0 (reversed_name_labels name.now) }
+        ensures longest { IfSome result (λ k. LongestRecorded contents.now self.now (reversed_name_labels name.now) k.0 k.1) }
+        ensures none { IfNone result ((prefix place : ℕ) → ¬ RecordedSuffix contents.now self.now (reversed_name_labels name.now) prefix place) }
     {
         let mut buffer = [0; 255];
         let forward = &mut buffer[..name.len()];
-        turn_name(name, forward);
+        reverse_name(name, forward);
         self.compress_name(contents, forward)
     }
 
     /// Keeps the places of the labels that were written from `start` to `end`, as far as a pointer reaches
     /// them and while there are fewer than 128. The labels end in the root, or in a pointer that leads to a
-    /// kept place.
+    /// recorded place.
     pub fn note(&mut self, contents: &[u8], start: usize, end: usize)
         requires within { end ≤ length contents.now }
         requires fits { FitsIn self.old (take start contents.now) }
         requires run { Run (take end contents.now) self.old start start }
-        ensures exact { self.new ≡ noted self.old (take end contents.now) start }
+        ensures exact { self.new ≡ recorded self.old (take end contents.now) start }
         ensures grows { Grows self.old self.new start }
         ensures fits { FitsIn self.new (take end contents.now) }
     {
@@ -119,13 +119,13 @@ impl NameCompressor {
         }
     }
 
-    /// Keeps a place behind the others, if a pointer reaches it and there is room.
+    /// Keeps a place after the others, if a pointer reaches it and there is room.
     fn keep(&mut self, place: usize)
-        requires { AllByRecursion (λ kept. kept < place) self.old }
+        requires { AllByRecursion (λ recorded. recorded < place) self.old }
         ensures { self.new ≡ with_more self.old (place ∷ []) }
     {
-        if !self.kept.is_full() && place <= LAST_PLACE {
-            self.kept.push(place as u16);
+        if !self.recorded.is_full() && place <= LAST_PLACE {
+            self.recorded.push(place as u16);
         }
     }
 }

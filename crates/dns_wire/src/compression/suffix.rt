@@ -6,9 +6,9 @@ ghost use Rattle.dns_wire.specs.Names.{plain_name, name_labels};
 ghost use Rattle.dns_wire.specs.Compression.{stands_at};
 ghost use Rattle.dns_wire.specs.Searching.{FirstOf, count_at, suffix_at, before_limit};
 
-use crate::follow::{Head, NameCursor};
+use crate::name_cursor::{LabelType, NameCursor};
 
-/// The first label of a name's octets, and the octets of the name behind it; none where the name is the
+/// The first label of a name's octets, and the octets of the name after it; none where the name is the
 /// root.
 fn first_label(name: &[u8]) -> Option<(&[u8], &[u8])>
     requires { all_of (plain_name name.now) ≡ Some (name_labels name.now) }
@@ -18,8 +18,8 @@ fn first_label(name: &[u8]) -> Option<(&[u8], &[u8])>
     if size == 0 {
         return None;
     }
-    let (_head, behind) = name.split_at(1);
-    let (label, rest) = behind.split_at(size);
+    let (_head, trailing) = name.split_at(1);
+    let (label, rest) = trailing.split_at(size);
     Some((label, rest))
 }
 
@@ -38,7 +38,7 @@ pub(crate) fn count_labels(name: &[u8]) -> usize
     count
 }
 
-/// How many labels are read at the place, if they are at most so many.
+/// How many labels are read at the place, if they are at most that many.
 fn count_labels_at(contents: &[u8], place: usize, most: usize) -> Option<usize>
     requires { most < 128 }
     ensures exact { result ≡ count_at contents.now place most }
@@ -47,21 +47,21 @@ fn count_labels_at(contents: &[u8], place: usize, most: usize) -> Option<usize>
     let mut seen = 0;
     let mut cursor = NameCursor::new(place);
     loop {
-        match cursor.next_head(contents) {
+        match cursor.next_label_type(contents) {
             Err(_) => return None,
-            Ok(Head::Root) => return Some(seen),
-            Ok(Head::Label(_)) => {
+            Ok(LabelType::Root) => return Some(seen),
+            Ok(LabelType::Label(_)) => {
                 if seen == most {
                     return None;
                 }
                 seen += 1;
             }
-            Ok(Head::Pointer(_)) => {}
+            Ok(LabelType::Pointer(_)) => {}
         }
     }
 }
 
-/// Whether the name at the place is this one, ASCII case aside.
+/// Whether the name at the place is this one, ignoring ASCII case.
 fn is_name_at(contents: &[u8], place: usize, name: &[u8]) -> bool
     requires { all_of (plain_name name.now) ≡ Some (name_labels name.now) }
     ensures { result ≡ stands_at contents.now (name_labels name.now) place }
@@ -69,10 +69,10 @@ fn is_name_at(contents: &[u8], place: usize, name: &[u8]) -> bool
     let mut rest = name;
     let mut cursor = NameCursor::new(place);
     loop {
-        match cursor.next_head(contents) {
+        match cursor.next_label_type(contents) {
             Err(_) => return false,
-            Ok(Head::Root) => return first_label(rest).is_none(),
-            Ok(Head::Label(size)) => {
+            Ok(LabelType::Root) => return first_label(rest).is_none(),
+            Ok(LabelType::Label(size)) => {
                 let Some((label, next)) = first_label(rest) else {
                     return false;
                 };
@@ -82,12 +82,12 @@ fn is_name_at(contents: &[u8], place: usize, name: &[u8]) -> bool
                 }
                 rest = next;
             }
-            Ok(Head::Pointer(_)) => {}
+            Ok(LabelType::Pointer(_)) => {}
         }
     }
 }
 
-/// Behind how many of its octets the name, which has `count` labels, has a suffix that is the name at the
+/// After how many of its octets the name, which has `count` labels, has a suffix that is the name at the
 /// place; none where that is none before `limit` octets. The suffix has as many labels as the name at the
 /// place, so that one comparison is enough.
 pub(crate) fn suffix_before(
@@ -103,19 +103,19 @@ pub(crate) fn suffix_before(
     ensures { result ≡ before_limit limit (suffix_at contents.now place 0 (name_labels name.now)) }
 {
     let size = count_labels_at(contents, place, count)?;
-    let mut front = 0;
+    let mut prefix = 0;
     let mut rest = name;
     let mut left = count;
     while left > size {
         let Some((label, next)) = first_label(rest) else {
             break;
         };
-        front += 1 + label.len();
+        prefix += 1 + label.len();
         rest = next;
         left -= 1;
     }
-    if size > 0 && front < limit && is_name_at(contents, place, rest) {
-        Some(front)
+    if size > 0 && prefix < limit && is_name_at(contents, place, rest) {
+        Some(prefix)
     } else {
         None
     }

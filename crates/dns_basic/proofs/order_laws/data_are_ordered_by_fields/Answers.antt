@@ -1,4 +1,4 @@
-use Rattle.dns_record.proofs.Compared.{then_equal}
+use Rattle.dns_record.proofs.ComparedOctets.{then_equal}
 use Rattle.dns_basic.proofs.order_laws.data_are_ordered_by_fields.Goals as goal
 
 pub returns : goal.returns

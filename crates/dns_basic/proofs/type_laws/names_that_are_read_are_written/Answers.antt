@@ -1,4 +1,4 @@
-use Rattle.dns_record.proofs.Named.{data_again}
+use Rattle.dns_record.proofs.CompressibleNames.{data_again}
 use Rattle.dns_basic.proofs.type_laws.names_that_are_read_are_written.Goals as goal
 
 pub returns : goal.returns

@@ -1,5 +1,5 @@
-use Rattle.dns_text.proofs.Transfers.{front_of_puts}
+use Rattle.dns_text.proofs.Transfers.{prefix_of_puts}
 use Rattle.dns_canon.proofs.command.run.Goals as goal
 
-pub returns-clause-told : goal.returns-clause-told
-returns-clause-told g c = front_of_puts _ _ _ c.tell.result c.tell.ensures.told
+pub returns-clause-reported : goal.returns-clause-reported
+returns-clause-reported g c = prefix_of_puts _ _ _ c.tell.result c.tell.ensures.reported

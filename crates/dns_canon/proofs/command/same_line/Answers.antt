@@ -1,10 +1,10 @@
 use Rattle.std.proofs.Common.{refl, sym, map, ◌∙◌}
-use Rattle.dns_canon.proofs.Sorting.{keys_lent, keys_seen}
+use Rattle.dns_canon.proofs.SortedReferences.{keys_lent, keys_seen}
 use Rattle.std.proofs.lemmas.Result.{err_from_is_err_and}
 use Rattle.dns_canon.specs.Parts.{first_text, second_text}
 use Rattle.dns_canon.specs.declared.status.Status.TheVariants.{Done}
 use Rattle.dns_canon.proofs.Pairs.{both_spelled, called, first_refused, second_refused}
-use Rattle.dns_canon.proofs.Sameness.{told}
+use Rattle.dns_canon.proofs.ReportedSameness.{reported}
 use Rattle.dns_canon.proofs.command.same_line.Goals as goal
 
 pub returns-in_err-first_records-clause-err : goal.returns-in_err-first_records-clause-err
@@ -37,6 +37,6 @@ returns-clause-ok c =
     let second = c.deref-6.result.now in
     let sorted = keys_lent valid.0 _ c.deref-3.result.now _ first valid.2 c.deref-3.ensures.value c.in_ok-first_order.ensures.keys c.deref-5.ensures.value in
     let sorted-too = keys_lent also.0 _ c.deref-4.result.now _ second also.2 c.deref-4.ensures.value c.in_ok-second_order.ensures.keys c.deref-6.ensures.value in
-    let word = told (first_text t) (second_text t) m n valid.0 also.0 (map (λ r. r.now) first) (map (λ r. r.now) second) c.sameness.result.now both.1 both.2 valid.1 also.1 sorted sorted-too
+    let word = reported (first_text t) (second_text t) m n valid.0 also.0 (map (λ r. r.now) first) (map (λ r. r.now) second) c.sameness.result.now both.1 both.2 valid.1 also.1 sorted sorted-too
     (λ e. c.sameness.ensures.same (sym (keys_seen first) ∙ e ∙ keys_seen second)) (λ other. c.sameness.ensures.different (λ e. other (keys_seen first ∙ e ∙ sym (keys_seen second)))) in
     (called t Done (m, n, valid.0, also.0, both, valid.1, also.1), (m, n, valid.0, also.0, both.1, both.2, valid.1, also.1, word))

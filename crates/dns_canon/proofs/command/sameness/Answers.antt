@@ -1,5 +1,5 @@
 use Rattle.std.proofs.Common.{◌∙◌, sym}
-use Rattle.dns_canon.proofs.Sorting.{lent_tie}
+use Rattle.dns_canon.proofs.SortedReferences.{lent_tie}
 use Rattle.dns_canon.proofs.command.sameness.Goals as goal
 
 pub returns-then-eq-clause-different : goal.returns-then-eq-clause-different

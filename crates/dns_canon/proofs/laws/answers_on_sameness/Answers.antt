@@ -1,4 +1,4 @@
-use Rattle.dns_canon.proofs.Sameness.{prints_same, prints_different, prints_a_word}
+use Rattle.dns_canon.proofs.ReportedSameness.{prints_same, prints_different, prints_a_word}
 use Rattle.dns_canon.proofs.laws.answers_on_sameness.Goals as goal
 
 pub returns : goal.returns

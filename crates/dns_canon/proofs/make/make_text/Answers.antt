@@ -2,13 +2,13 @@ use Rattle.std.proofs.Common.{ap, subst, sym, ◌∙◌, arith, length}
 use Rattle.std.proofs.lemmas.List.{length-map}
 use Rattle.std.specs.Prelude.{sum_by}
 use Rattle.std.proofs.lemmas.Result.{err_from_is_err_and}
-use Rattle.dns_message.specs.Canonical.{canon}
+use Rattle.dns_message.specs.Canonical.{canonical_wire}
 use Rattle.dns_message.specs.Headers.{header_bits}
 use Rattle.dns_message.specs.Messages.{Valid}
 use Rattle.dns_canon.specs.Statuses.{canon_status}
 use Rattle.dns_canon.proofs.Exclusive.{memory_alone}
-use Rattle.dns_canon.proofs.Sorting.{octets_lent}
-use Rattle.dns_canon.proofs.MadeLemmas.{none_made, all_made, valid_made, output_short, printed_so}
+use Rattle.dns_canon.proofs.SortedReferences.{octets_lent}
+use Rattle.dns_canon.proofs.MadeLemmas.{none_made, all_made, valid_made, canonical_list_short, printed_so}
 use Rattle.dns_canon.proofs.make.make_text.Goals as goal
 
 pub push_records-requires-clause-none : goal.push_records-requires-clause-none
@@ -31,7 +31,7 @@ octets_in-requires c =
     let octets = c.as_bytes-message.ensures ∙ c.message.ensures.octets in
     let all = all_made c.args.count c.push_records.new.builder found.0 c.in_ok-push_records.ensures (subst (λ m. Valid m found.0) octets found.1) in
     let list = octets_lent found.0 c.in_ok-records.records.items c.deref.result.now c.in_ok-order.order.items c.deref-2.result.now found.2 c.deref.ensures.value c.in_ok-order.ensures.octets c.deref-2.ensures.value in
-    omega (arith, ap (sum_by length) (list ∙ all.0), output_short c.args.count c.requires)
+    omega (arith, ap (sum_by length) (list ∙ all.0), canonical_list_short c.args.count c.requires)
 
 pub returns-clause-ok : goal.returns-clause-ok
 returns-clause-ok c =
@@ -40,5 +40,5 @@ returns-clause-ok c =
     let all = all_made c.args.count c.push_records.new.builder found.0 c.in_ok-push_records.ensures (subst (λ m. Valid m found.0) octets found.1) in
     let list = octets_lent found.0 c.in_ok-records.records.items c.deref.result.now c.in_ok-order.order.items c.deref-2.result.now found.2 c.deref.ensures.value c.in_ok-order.ensures.octets c.deref-2.ensures.value ∙ all.0 in
     ap (λ v. v.items) c.into_bytes.ensures.value ∙ c.in_ok-line.ensures.ok ∙ printed_so c.args.count c.len.result c.octets_in.result (length c.as_bytes-message.result.now)
-    (omega (arith, c.len.ensures, c.in_ok-order.order.ok, c.deref-2.ensures.len, length-map c.deref-2.result.now (λ r. canon r.now), ap length list))
+    (omega (arith, c.len.ensures, c.in_ok-order.order.ok, c.deref-2.ensures.len, length-map c.deref-2.result.now (λ r. canonical_wire r.now), ap length list))
     (c.octets_in.ensures ∙ ap (sum_by length) list) (ap length octets ∙ all.1)

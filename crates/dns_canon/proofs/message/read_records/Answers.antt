@@ -17,12 +17,12 @@ loop-place-smaller c =
 
 pub loop-place-preserved : goal.loop-place-preserved
 loop-place-preserved c =
-    read_more c.args.message.now c.loop-place.parser c.next_item.new.self c.in-Some.place c.in-Ok-item.item c.loop-place.records.items _ c.loop-place.invariant c.in-Some.ensures.kept
+    read_more c.args.message.now c.loop-place.parser c.next_item.new.self c.in-Some.place c.in-Ok-item.item c.loop-place.records.items _ c.loop-place.invariant c.in-Some.ensures.unchanged
     (rw c.in-Ok-item.is at c.in-Some.ensures.gives) (sym (append-nil c.loop-place.records.items) ∙ ap (λ more. c.loop-place.records.items ++ more) (sym c.in_default-of.ensures))
 
 pub loop-place-preserved-in-Continue-branch-2 : goal.loop-place-preserved-in-Continue-branch-2
 loop-place-preserved-in-Continue-branch-2 c =
-    read_more c.args.message.now c.loop-place.parser c.next_item.new.self c.in-Some.place c.in-Ok-item.item c.loop-place.records.items _ c.loop-place.invariant c.in-Some.ensures.kept
+    read_more c.args.message.now c.loop-place.parser c.next_item.new.self c.in-Some.place c.in-Ok-item.item c.loop-place.records.items _ c.loop-place.invariant c.in-Some.ensures.unchanged
     (rw c.in-Ok-item.is at c.in-Some.ensures.gives) (c.in_ok-push.ensures.items ∙ ap (λ more. c.loop-place.records.items ++ more) (sym c.in-Some-of.ensures))
 
 pub returns-clause-read : goal.returns-clause-read

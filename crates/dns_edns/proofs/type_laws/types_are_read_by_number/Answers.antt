@@ -1,7 +1,7 @@
 use Rattle.std.proofs.Common.{refl, ap}
 use Rattle.dns_record.specs.Data.{of_type}
-use Rattle.dns_record.proofs.Named.{bare_data}
+use Rattle.dns_record.proofs.CompressibleNames.{uncompressed_data}
 use Rattle.dns_edns.proofs.type_laws.types_are_read_by_number.Goals as goal
 
 pub returns : goal.returns
-returns c = record { opt = λ rtype bytes. ap (of_type 41 rtype) (bare_data 41 refl bytes) }
+returns c = record { opt = λ rtype bytes. ap (of_type 41 rtype) (uncompressed_data 41 refl bytes) }

@@ -1,4 +1,4 @@
-use Rattle.dns_label.proofs.Filled.{label_takes, label_again}
+use Rattle.dns_label.proofs.FilledLabels.{label_takes, label_again}
 use Rattle.dns_label.proofs.laws.one_label.Goals as goal
 
 pub returns-clause-spelled : goal.returns-clause-spelled

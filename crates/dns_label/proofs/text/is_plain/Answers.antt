@@ -1,5 +1,5 @@
 use Rattle.std.proofs.Common.{◌∙◌, sym}
-use Rattle.dns_label.proofs.Plain.{plain_letter, plain_mark}
+use Rattle.dns_label.proofs.PlainOctets.{plain_letter, plain_mark}
 use Rattle.dns_label.proofs.text.is_plain.Goals as goal
 
 pub returns-then-is_ascii_alphanumeric : goal.returns-then-is_ascii_alphanumeric

@@ -7,8 +7,8 @@ returns-clause-parsed c = λ text contents. (parsed_takes text contents, λ h. p
 pub returns-clause-split : goal.returns-clause-split
 returns-clause-split c = split_takes
 
-pub returns-clause-front : goal.returns-clause-front
-returns-clause-front c = split_again
+pub returns-clause-prefix : goal.returns-clause-prefix
+returns-clause-prefix c = split_again
 
 pub returns-clause-never : goal.returns-clause-never
 returns-clause-never c = split_never

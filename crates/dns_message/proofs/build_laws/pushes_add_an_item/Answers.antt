@@ -1,5 +1,5 @@
-use Rattle.dns_message.proofs.Pushed.{pushed_whole, records_asked, records_told}
+use Rattle.dns_message.proofs.Pushed.{pushed_whole, records_of_question, records_of_record}
 use Rattle.dns_message.proofs.build_laws.pushes_add_an_item.Goals as goal
 
 pub returns : goal.returns
-returns c = record { item = pushed_whole; asked = records_asked; told = records_told }
+returns c = record { item = pushed_whole; question_item = records_of_question; record_item = records_of_record }

@@ -1,4 +1,4 @@
-use Rattle.dns_message.proofs.Texts.{texts_one, message_texts}
+use Rattle.dns_message.proofs.ListTexts.{texts_one, message_texts}
 use Rattle.dns_message.proofs.laws.canonical_texts.Goals as goal
 
 pub returns : goal.returns

@@ -1,4 +1,4 @@
-use Rattle.dns_message.proofs.Sameness.{outputs, message_outputs}
+use Rattle.dns_message.proofs.CanonicalListSameness.{outputs, message_outputs}
 use Rattle.dns_message.proofs.laws.equal_outputs.Goals as goal
 
 pub returns : goal.returns

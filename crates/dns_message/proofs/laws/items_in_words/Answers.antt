@@ -1,4 +1,4 @@
-use Rattle.dns_message.proofs.Standing.{item_is, item_found, items_one}
+use Rattle.dns_message.proofs.ItemLemmas.{item_is, item_found, items_one}
 use Rattle.dns_message.proofs.laws.items_in_words.Goals as goal
 
 pub returns : goal.returns

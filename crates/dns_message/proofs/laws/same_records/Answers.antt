@@ -1,4 +1,4 @@
-use Rattle.dns_message.proofs.Sameness.{same_lists}
+use Rattle.dns_message.proofs.CanonicalListSameness.{same_lists}
 use Rattle.dns_message.proofs.laws.same_records.Goals as goal
 
 pub returns : goal.returns

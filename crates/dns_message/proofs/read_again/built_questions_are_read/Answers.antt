@@ -1,4 +1,4 @@
-use Rattle.dns_message.proofs.Rebuilt.{question_read_again}
+use Rattle.dns_message.proofs.BuiltLemmas.{question_read_again}
 use Rattle.dns_message.proofs.read_again.built_questions_are_read.Goals as goal
 
 pub returns : goal.returns

@@ -1,4 +1,4 @@
-use Rattle.dns_message.proofs.Rebuilt.{record_read_again}
+use Rattle.dns_message.proofs.BuiltLemmas.{record_read_again}
 use Rattle.dns_message.proofs.read_again.built_records_are_read.Goals as goal
 
 pub returns : goal.returns

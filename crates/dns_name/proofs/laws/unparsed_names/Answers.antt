@@ -1,5 +1,5 @@
-use Rattle.dns_name.proofs.Standing.{unparsed_takes, unparsed_read}
-use Rattle.dns_name.proofs.StandingAt.{unparsed_stands, unparsed_found}
+use Rattle.dns_name.proofs.UnparsedNames.{unparsed_takes, unparsed_read}
+use Rattle.dns_name.proofs.UnparsedNamesAt.{unparsed_stands, unparsed_found}
 use Rattle.dns_name.proofs.laws.unparsed_names.Goals as goal
 
 pub returns : goal.returns

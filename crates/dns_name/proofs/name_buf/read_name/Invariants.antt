@@ -1,5 +1,5 @@
 use Rattle.std.proofs.Common.{length, take, ◌+◌, ◌-◌, ◌≡◌, ◌<◌}
-use Rattle.dns_name.proofs.Counted.{Counted}
+use Rattle.dns_name.proofs.CountedSteps.{Counted}
 use Rattle.dns_name.proofs.Followed.{Followed}
 use Rattle.dns_name.proofs.name_buf.read_name.Given as goal
 

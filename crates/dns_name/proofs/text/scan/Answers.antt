@@ -1,6 +1,6 @@
 use Rattle.std.proofs.Common.{◌≡◌, ◌<◌, List, [], ◌∷◌, ℕ, Bool, true, false, length, ap, sym, ◌∙◌, arith}
 use Rattle.std.proofs.lemmas.Result.{err_from_is_err_and}
-use Rattle.dns_name.proofs.Texts.{begun, gone_on, ended_scan, failed_scan, overlong_scan, empty_scan, label_shorter}
+use Rattle.dns_name.proofs.NameTexts.{begun, gone_on, ended_scan, failed_scan, overlong_scan, empty_scan, label_shorter}
 use Rattle.dns_name.proofs.text.scan.Goals as goal
 
 pub loop-last-init : goal.loop-last-init

@@ -1,5 +1,5 @@
 use Rattle.std.proofs.Common.{length}
-use Rattle.dns_name.proofs.Texts.{Underway}
+use Rattle.dns_name.proofs.NameTexts.{Underway}
 use Rattle.dns_name.proofs.text.scan.Given as goal
 
 -- the labels are read, and the rest is left

@@ -1,4 +1,4 @@
-use Rattle.dns_name.proofs.Texts.{parsed_takes, parsed_again, split_takes, split_again, split_never}
+use Rattle.dns_name.proofs.NameTexts.{parsed_takes, parsed_again, split_takes, split_again, split_never}
 use Rattle.dns_name.proofs.text_laws.name_texts.Goals as goal
 
 pub returns-clause-parsed : goal.returns-clause-parsed
@@ -7,8 +7,8 @@ returns-clause-parsed c = λ text labels. (parsed_takes text labels, λ h. parse
 pub returns-clause-split : goal.returns-clause-split
 returns-clause-split c = split_takes
 
-pub returns-clause-front : goal.returns-clause-front
-returns-clause-front c = split_again
+pub returns-clause-prefix : goal.returns-clause-prefix
+returns-clause-prefix c = split_again
 
 pub returns-clause-never : goal.returns-clause-never
 returns-clause-never c = split_never

@@ -1,4 +1,4 @@
-use Rattle.dns_name.proofs.Texts.{names_plain, names_shown, parsed_takes}
+use Rattle.dns_name.proofs.NameTexts.{names_plain, names_shown, parsed_takes}
 use Rattle.dns_name.proofs.text_laws.plain_names_are_printed.Goals as goal
 
 pub returns-clause-printed : goal.returns-clause-printed

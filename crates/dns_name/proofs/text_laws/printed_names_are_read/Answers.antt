@@ -1,7 +1,7 @@
 use Rattle.std.proofs.Common.{ap}
 use Rattle.dns_name.specs.Json.{named}
 use Rattle.dns_name.specs.Text.{shown_name}
-use Rattle.dns_name.proofs.Texts.{names_spell, parsed_again, split_again}
+use Rattle.dns_name.proofs.NameTexts.{names_spell, parsed_again, split_again}
 use Rattle.dns_name.proofs.text_laws.printed_names_are_read.Goals as goal
 
 pub returns-clause-parsed : goal.returns-clause-parsed

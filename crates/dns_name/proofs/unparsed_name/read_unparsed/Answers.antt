@@ -1,7 +1,7 @@
 use Rattle.std.proofs.Common.{arith, ◌+◌, inl, inr, refl, Some, None, get_or}
 use Rattle.dns_wire.proofs.Walk.{walked_more}
 use Rattle.dns_name.specs.Unparsed.{pointed_offset}
-use Rattle.dns_name.proofs.Standing.{UnparsedEnds, walked_to_root, walked_to_pointer, walked_on, walked_to_bad, walked_to_half}
+use Rattle.dns_name.proofs.UnparsedNames.{UnparsedEnds, walked_to_root, walked_to_pointer, walked_on, walked_to_bad, walked_to_half}
 use Rattle.dns_name.proofs.unparsed_name.read_unparsed.Goals as goal
 use Rattle.dns_name.proofs.unparsed_name.read_unparsed.Goals.{Then-head-eq0, Else-left-lt2, then-size-gt-MAX_LABEL_SIZE-via-then-size-gt-MAX_LABEL_SIZE, then-size-gt-MAX_LABEL_SIZE-via-else-size-gt-MAX_LABEL_SIZE+then-left-size}
 

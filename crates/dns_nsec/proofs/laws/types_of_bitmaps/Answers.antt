@@ -1,5 +1,5 @@
-use Rattle.dns_nsec.proofs.Rising.{types_rise}
-use Rattle.dns_nsec.proofs.Alike.{bitmaps_same, no_types_no_octets}
+use Rattle.dns_nsec.proofs.RisingTypes.{types_rise}
+use Rattle.dns_nsec.proofs.AlikeBitmaps.{bitmaps_same, no_types_no_octets}
 use Rattle.dns_nsec.proofs.laws.types_of_bitmaps.Goals as goal
 
 pub returns-clause-rise : goal.returns-clause-rise

@@ -1,5 +1,5 @@
-use Rattle.dns_num.proofs.Placed.{prefixed_is, prefixed_found}
-use Rattle.dns_num.proofs.Counted.{read_back, stands_so}
+use Rattle.dns_num.proofs.PrefixedAt.{prefixed_is, prefixed_found}
+use Rattle.dns_num.proofs.CountedData.{read_back, stands_so}
 use Rattle.dns_num.proofs.laws.prefixed_data.Goals as goal
 
 pub returns-clause-read : goal.returns-clause-read

@@ -1,6 +1,6 @@
 use Rattle.std.proofs.Math.Bool.{and-true}
 use Rattle.dns_plain.specs.Strings.{strings_in}
-use Rattle.dns_plain.proofs.Strings.{strings_as_fields}
+use Rattle.dns_plain.proofs.TxtLemmas.{strings_as_fields}
 use Rattle.dns_plain.proofs.order_laws.data_are_equal_by_fields.Goals as goal
 
 pub returns : goal.returns

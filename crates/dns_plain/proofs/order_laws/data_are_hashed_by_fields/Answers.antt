@@ -1,6 +1,6 @@
 use Rattle.std.proofs.lemmas.List.{append-nil}
 use Rattle.dns_plain.specs.Strings.{strings_in}
-use Rattle.dns_plain.proofs.Strings.{strings_fed}
+use Rattle.dns_plain.proofs.TxtLemmas.{strings_fed}
 use Rattle.dns_plain.proofs.order_laws.data_are_hashed_by_fields.Goals as goal
 
 pub returns : goal.returns

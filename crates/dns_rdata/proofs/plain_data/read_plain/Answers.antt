@@ -1,12 +1,12 @@
 use Rattle.std.proofs.Common.{◌≡◌, false, refl, rules}
-use Rattle.dns_record.specs.Rows.{has_row}
+use Rattle.dns_record.specs.Formats.{has_rdata_format}
 use Rattle.dns_plain.specs.Types.{a_fields, hinfo_fields, txt_fields, srv_fields, aaaa_fields, dname_fields}
 use Rattle.dns_edns.specs.Types.{opt_fields}
 use Rattle.dns_sec.specs.Types.{ds_fields, cds_fields, rrsig_fields, dnskey_fields, cdnskey_fields, zonemd_fields}
 use Rattle.dns_nsec.specs.Types.{nsec_fields, nsec3_fields, nsec3param_fields}
-use Rattle.dns_rdata.specs.Plain.{no_pointed}
+use Rattle.dns_rdata.specs.Plain.{no_compressible}
 use Rattle.dns_rdata.specs.declared.record_data.RecordData.TheVariants.{A, HInfo, Txt, Srv, Aaaa, DName, Opt, Ds, Rrsig, Nsec, DNSKey, Nsec3, Nsec3Param, Cds, CDNSKey, ZoneMD}
-use Rattle.dns_rdata.proofs.Plain.{plain_made, plain_is_not, named_types, unknown_read}
+use Rattle.dns_rdata.proofs.UncompressedData.{plain_made, plain_is_not, compressible_types, unknown_read}
 use Rattle.dns_rdata.proofs.plain_data.read_plain.Goals as goal
 
 pub returns-in-A : goal.returns-in-A
@@ -60,11 +60,11 @@ returns-in-ZONEMD g c = plain_made ZoneMD (zonemd_fields (λ digest. digest.now)
 pub returns-in_default : goal.returns-in_default
 returns-in_default g c =
     let n = c.args.rtype.code.value in
-    let not-ns = plain_is_not n 2 c.requires named_types.0 in
-    let not-cname = plain_is_not n 5 c.requires named_types.1 in
-    let not-soa = plain_is_not n 6 c.requires named_types.2 in
-    let not-ptr = plain_is_not n 12 c.requires named_types.3 in
-    let not-mx = plain_is_not n 15 c.requires named_types.4 in
-    let not-rp = plain_is_not n 17 c.requires named_types.5 in
-    let none : has_row n ≡ false = search rules in
-    (unknown_read no_pointed n c.args.bytes.now none, (refl, none))
+    let not-ns = plain_is_not n 2 c.requires compressible_types.0 in
+    let not-cname = plain_is_not n 5 c.requires compressible_types.1 in
+    let not-soa = plain_is_not n 6 c.requires compressible_types.2 in
+    let not-ptr = plain_is_not n 12 c.requires compressible_types.3 in
+    let not-mx = plain_is_not n 15 c.requires compressible_types.4 in
+    let not-rp = plain_is_not n 17 c.requires compressible_types.5 in
+    let none : has_rdata_format n ≡ false = search rules in
+    (unknown_read no_compressible n c.args.bytes.now none, (refl, none))

@@ -7,7 +7,7 @@ use Rattle.dns_text.proofs.transfer.put_all.Given as goal
 abbrev pub invariant-loop-sent : goal.invariant-loop-sent
 invariant-loop-sent g l = record {
   within : l.sent ≤ length l.text;
-  told : Appends (g.K.Sink.written l.initial.sink) (g.K.Sink.written l.sink) (take l.sent l.text);
+  reported : Appends (g.K.Sink.written l.initial.sink) (g.K.Sink.written l.sink) (take l.sent l.text);
   flag : IfSome (g.K.Sink.is_flushed l.initial.sink) (λ _. IsSome (g.K.Sink.is_flushed l.sink));
   steady : g.K.Sink.faults l.sink ≡ g.K.Sink.faults l.initial.sink;
 }

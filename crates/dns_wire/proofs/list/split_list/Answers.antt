@@ -1,6 +1,6 @@
 use Rattle.std.proofs.Common.{arith, sym, ◌∙◌, ◌≡◌, ap, List, [], ◌∷◌, ◌++◌, ◌-◌}
 use Rattle.std.specs.Prelude.{map}
-use Rattle.dns_wire.specs.Lists.{with_front, list_of}
+use Rattle.dns_wire.specs.Lists.{with_prefix, list_of}
 use Rattle.std.proofs.lemmas.List.{map-append}
 use Rattle.dns_wire.proofs.Listed.{list_ended, list_refused, list_step}
 use Rattle.dns_wire.proofs.list.split_list.Goals as goal
@@ -12,7 +12,7 @@ pub loop-left-preserved : goal.loop-left-preserved
 loop-left-preserved g c =
     let seen = g.T.ParseBytes.seen in
     let grown : map seen c.push.new.self.items ≡ map seen c.loop-left.values.items ++ seen c.in-Ok.value ∷ [] = ap (map seen) c.in-Ok-push.ensures.items ∙ map-append seen c.loop-left.values.items (c.in-Ok.value ∷ []) in
-    ap (λ (front : List g.T.ParseBytes.Seen). with_front front (list_of g.T.ParseBytes.reads (c.loop-left.left - 1) c.in-Ok.next.now)) grown
+    ap (λ (prefix : List g.T.ParseBytes.Seen). with_prefix prefix (list_of g.T.ParseBytes.reads (c.loop-left.left - 1) c.in-Ok.next.now)) grown
     ∙ sym (list_step g.T.ParseBytes.reads (map seen c.loop-left.values.items) _ c.loop-left.left (seen c.in-Ok.value) c.in-Ok.next.now (omega arith) c.in-Ok.ensures.exact)
     ∙ c.loop-left.invariant
 

@@ -2,7 +2,7 @@ use Rattle.std.proofs.Common.{sym, ◌∙◌, true}
 use Rattle.dns_basic.specs.Types.{cname_fields}
 use Rattle.std.specs.Prelude.{map}
 use Rattle.dns_record.specs.Fields.{named_by}
-use Rattle.dns_record.proofs.Compared.{fields_compared}
+use Rattle.dns_record.proofs.ComparedOctets.{fields_compared}
 use Rattle.dns_basic.proofs.cname.CNameCanonicalRecordData.cmp_canonical.Goals as goal
 
 pub returns : goal.returns

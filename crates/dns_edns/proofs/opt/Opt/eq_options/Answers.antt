@@ -1,6 +1,6 @@
 use Rattle.std.proofs.Common.{refl, sym, ap, ◌∙◌, arith, Ok}
 use Rattle.dns_edns.specs.Suiting.{seen_option}
-use Rattle.dns_edns.proofs.Matching.{both_start, one_more, differs, too_few, no_more, not_false, both_done}
+use Rattle.dns_edns.proofs.MatchingOptions.{both_start, one_more, differs, too_few, no_more, not_false, both_done}
 use Rattle.dns_edns.proofs.opt.Opt.eq_options.Goals as goal
 
 pub loop-option-init : goal.loop-option-init

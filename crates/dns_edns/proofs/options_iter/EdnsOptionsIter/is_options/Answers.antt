@@ -1,7 +1,7 @@
 use Rattle.std.proofs.Common.{arith, sym}
 use Rattle.std.proofs.lemmas.Bool.Decides.{nat_tests}
 use Rattle.dns_record.proofs.Opted.{option_shorter}
-use Rattle.dns_edns.proofs.Counted.{options_start, options_step, options_bad, options_done}
+use Rattle.dns_edns.proofs.CountedOptions.{options_start, options_step, options_bad, options_done}
 use Rattle.dns_edns.proofs.options_iter.EdnsOptionsIter.is_options.Goals as goal
 
 pub loop-rest-init : goal.loop-rest-init

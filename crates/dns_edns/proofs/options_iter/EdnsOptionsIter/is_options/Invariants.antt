@@ -1,5 +1,5 @@
 use Rattle.std.proofs.Common.{length}
-use Rattle.dns_edns.proofs.Counted.{OptionsLeft}
+use Rattle.dns_edns.proofs.CountedOptions.{OptionsLeft}
 use Rattle.dns_edns.proofs.options_iter.EdnsOptionsIter.is_options.Given as goal
 
 abbrev pub invariant-loop-rest : goal.invariant-loop-rest

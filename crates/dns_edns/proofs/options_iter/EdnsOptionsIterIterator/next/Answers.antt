@@ -1,5 +1,5 @@
 use Rattle.std.proofs.Common.{◌∙◌, sym, ap, length, arith}
-use Rattle.dns_edns.proofs.Counted.{options_behind}
+use Rattle.dns_edns.proofs.CountedOptions.{options_after}
 use Rattle.dns_edns.proofs.Items.{first_item, no_item}
 use Rattle.dns_edns.proofs.options_iter.EdnsOptionsIterIterator.next.Goals as goal
 use Rattle.dns_edns.proofs.options_iter.EdnsOptionsIterIterator.next.Goals.{in-Ok-known, in-Err-known}
@@ -23,4 +23,4 @@ returns-after-known-clause-goes c =
     ]
 
 pub invariant_of-self-inside : goal.invariant_of-self-inside
-invariant_of-self-inside c = (options_behind _ _ _ c.self.inside.are_options c.in-Ok.ensures.exact, tt)
+invariant_of-self-inside c = (options_after _ _ _ c.self.inside.are_options c.in-Ok.ensures.exact, tt)

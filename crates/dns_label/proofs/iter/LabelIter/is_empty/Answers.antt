@@ -2,7 +2,7 @@ use Rattle.std.proofs.Common.{◌≡◌, ◌∙◌, List, [], ◌∷◌, length,
 use Rattle.std.specs.Prelude.{◌↔◌, ◌==◌, IsTrue}
 use Rattle.std.proofs.lemmas.Bool.Decides.{nat_tests}
 use Rattle.dns_label.specs.Labels.{AreLabels, sequence_labels}
-use Rattle.dns_label.proofs.Filled.{none_left, nothing_in}
+use Rattle.dns_label.proofs.FilledLabels.{none_left, nothing_in}
 use Rattle.dns_label.proofs.iter.LabelIter.is_empty.Goals as goal
 
 empty_test : (octets : List ℕ) (r : Bool) → r ≡ (length octets == 0) → AreLabels octets → IsTrue r ↔ (sequence_labels octets ≡ [])

@@ -1,5 +1,5 @@
 use Rattle.std.proofs.Common.{◌∙◌, sym, ap, length, arith}
-use Rattle.dns_label.proofs.Filled.{first_in, last_label}
+use Rattle.dns_label.proofs.FilledLabels.{first_in, last_label}
 use Rattle.dns_label.proofs.iter.LabelIterIterator.next.Goals as goal
 
 pub returns-in-Err-clause-steps : goal.returns-in-Err-clause-steps

@@ -1,5 +1,5 @@
 use Rattle.std.proofs.Common.{arith, ap, length}
-use Rattle.dns_label.proofs.Filled.{label_octets}
+use Rattle.dns_label.proofs.FilledLabels.{label_octets}
 use Rattle.dns_label.proofs.label.Label.as_wire.Goals as goal
 
 pub returns-clause-wire : goal.returns-clause-wire

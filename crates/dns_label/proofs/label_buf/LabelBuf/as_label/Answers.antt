@@ -1,5 +1,5 @@
-use Rattle.dns_label.proofs.Filled.{label_alone}
-use Rattle.dns_label.proofs.Stored.{in_use}
+use Rattle.dns_label.proofs.FilledLabels.{label_alone}
+use Rattle.dns_label.proofs.StoredLabels.{in_use}
 use Rattle.dns_label.proofs.label_buf.LabelBuf.as_label.Goals as goal
 
 pub invariant_of-result : goal.invariant_of-result

@@ -1,5 +1,5 @@
 use Rattle.std.proofs.Common.{refl, rules}
-use Rattle.dns_wire.proofs.Stored.{stored_over}
+use Rattle.dns_wire.proofs.StorageLemmas.{stored_over}
 use Rattle.dns_label.proofs.label_buf.LabelBuf.contents_mut.Goals as goal
 
 pub returns : goal.returns

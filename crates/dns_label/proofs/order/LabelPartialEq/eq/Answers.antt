@@ -1,6 +1,6 @@
 use Rattle.std.proofs.Common.{◌∙◌, ap, sym}
 use Rattle.std.specs.Str.{str_to_ascii_lowercase}
-use Rattle.dns_label.proofs.Compared.{same_labels}
+use Rattle.dns_label.proofs.ComparedLabels.{same_labels}
 use Rattle.dns_label.proofs.order.LabelPartialEq.eq.Goals as goal
 
 pub returns : goal.returns

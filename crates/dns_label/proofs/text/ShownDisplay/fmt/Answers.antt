@@ -1,6 +1,6 @@
 use Rattle.std.proofs.Common.{refl, sym, ◌∙◌, arith}
 use Rattle.std.proofs.Output.{has_written_append, has_written_of_eq}
-use Rattle.dns_label.proofs.Plain.{written_itself, written_marked, written_digits}
+use Rattle.dns_label.proofs.PlainOctets.{written_itself, written_marked, written_digits}
 use Rattle.dns_label.proofs.text.ShownDisplay.fmt.Goals as goal
 
 pub returns-then-is_plain-clause-writes : goal.returns-then-is_plain-clause-writes

@@ -8,5 +8,5 @@ use Rattle.dns_message.proofs.canonical_record.CanonicalRecord.alike.Goals as go
 
 pub returns-clause-exact : goal.returns-clause-exact
 returns-clause-exact c =
-    let told = c.is_eq.ensures ∙ ap is_eq c.cmp_but_ttl.ensures in
-    subst (λ (b : Bool). IsTrue b ↔ Alike c.args.self.now c.args.other.now) (sym told) (alike_tested c.args.self.now c.args.other.now)
+    let layout_matches = c.is_eq.ensures ∙ ap is_eq c.cmp_but_ttl.ensures in
+    subst (λ (b : Bool). IsTrue b ↔ Alike c.args.self.now c.args.other.now) (sym layout_matches) (alike_tested c.args.self.now c.args.other.now)

@@ -38,13 +38,13 @@ use Rattle.dns_wire.specs.contracts.error.TruncationError as TE
 use Rattle.dns_message.specs.contracts.canonical_record.CanonicalRecord.put as G
 use Rattle.dns_message.specs.contracts.canonical_record.CanonicalRecord.write as F
 use Rattle.dns_message.specs.contracts.canonical_record.CanonicalRecord as CR
-use Rattle.dns_message.specs.Canonical.{canon}
+use Rattle.dns_message.specs.Canonical.{canonical_wire}
 use Rattle.dns_message.proofs.canonical_record.CanonicalRecord.put.Met as G-thm
 use Rattle.dns_wire.proofs.Lent.{rest_lent, lends_rest, Before, AsLong, lent_ok, lent_err}
 use Rattle.std.specs.Borrow.{LendsSoOk, Array}
 use base.Stored.{coded_list}
 use denote.FollowSlice.{heres_id}
-use Rattle.dns_wire.proofs.Told.{refused_val, cases, refusal, accepted, says_three, after, head, arm_body}
+use Rattle.dns_wire.proofs.ResultLemmas.{refused_val, cases, refusal, accepted, says_three, after, head, arm_body}
 use Rattle.dns_message.proofs.canonical_record.CanonicalRecord.write.Statement.{statement}
 use Rattle.dns_message.proofs.canonical_record.CanonicalRecord.write.Code as code
 
@@ -65,7 +65,7 @@ write_spec 𝓤 𝓛 𝓜 𝓡 wired =
     (λ κs qs bounds a _ are.
     let κ = κs.1.1.0 in let q = qs.1.1.0 in
     let buffer = a.1.0 in let b = buffer.ref_ptr.0 in let o = buffer.ref_ptr.1 in let γ = buffer.ghost_name in let xs = buffer.now in
-    let octets : List ℕ = canon a.0.now in
+    let octets : List ℕ = canonical_wire a.0.now in
     let vss : Valss (types_at T.signature.params κs) = (shr_vals a.0, (mut_slice_vals buffer, tt)) in let y : W.Ghost = ((κs, qs, bounds, a, vss), tt) in
     let room : Room u8 (length xs) = are.1.0.0.1 in
     qed 𝓛 (((‵ (flft κs.0 qs.0) ⊛ ‵ (flft κs.1.0 qs.1.0) ⊛ ‵ (flft κ q) ⊛ ‵ ftrue) ⊛ ‵ (owns (types_at T.signature.params κs) a vss)) ∷ raw (emp 𝓤) ∷ []) ∵
@@ -76,7 +76,7 @@ write_spec 𝓤 𝓛 𝓜 𝓡 wired =
     let En : Env 𝓤 H = env fn.locals l in
     sets ! (addr ! (from ! (fld ! refl (hop ! (look_in_at ! 2 (sub ! 0 refl (whole !))) (stop !))))) refl (tt, tt) $
     sets ! (agg ! (and_then ! (get ! refl) (and_then ! (get_in ! (fld ! refl (stop !)) (sub ! 1 refl (whole !))) (no_more !)))) refl (tt, (tt, (record { fits = count }, tt))) $
-    -- the buffer is lent again for α
+    -- the buffer is borrowed again for α
     lft_new ! tt (λ α. move ! (1 ∷ 2 ∷ []) $ fsplit ! $ fsplit ! $ drop ! $ fjoin ! $
     use2 𝓛 (later (some (λ (δ : GName). ‵ ((Table.MutSlice erased (α ∷ []) u8).own_val (record { ref_ptr = (b, o); ghost_name = δ; now = xs })) ⊛ (kept_f 𝓛 u8 κ q (α ∷ []) γ δ xs b o))))
     (sl_relend 𝓛 u8 κ q (α ∷ []) b o γ xs) $ await ! tt $ pick ! (λ δ. split ! $
@@ -101,7 +101,7 @@ write_spec 𝓤 𝓛 𝓜 𝓡 wired =
     move ! (4 ∷ []) $ cases ! (λ (t : Result ℕ (TE.the_row).Denot). Builds ⊤ octets xs 0 ys t) res v built
     (λ end said fits is.
     let stands : Stands octets xs 0 ys end = said.ok.1 in
-    let front : List ℕ = take end ys in let back : List ℕ = drop_list end ys in
+    let prefix : List ℕ = take end ys in let back : List ℕ = drop_list end ys in
     let le : end ≤ length xs = stands.within in
     let good : length xs - end < 2 ^ 64 = omega arith in
     lands_as ! is refl (tt, (record { fits = lit< tt }, (record { fits = fits }, tt))) $
@@ -115,18 +115,18 @@ write_spec 𝓤 𝓛 𝓜 𝓡 wired =
     exec ! C Λ En (after 4 fn.body) (at_ret En (W.post y)) $
     sets ! (of_opd ! (get ! refl)) refl (tt, (record { fits = lit< tt }, ((tt, (record { fits = good }, tt)), tt))) $
     let long : length octets ≡ end = omega (arith, stands.end_is) in
-    let at_front : front ≡ octets = ap (take end) stands.new_is ∙ take_at octets (drop_list end xs) end long in
+    let at_prefix : prefix ≡ octets = ap (take end) stands.new_is ∙ take_at octets (drop_list end xs) end long in
     let at_back : back ≡ drop_list (length octets) xs = ap (drop_list end) stands.new_is ∙ drop_at octets (drop_list end xs) end long ∙ ap (λ (n : ℕ). drop_list n xs) (sym long) in
     let left : length back ≡ length xs - end = length-drop end ys ∙ ap (λ (n : ℕ). n - end) same in
-    let on : at o 1 (length front) ≡ end + o = at_mul o 1 (length front) ∙ omega (arith, long, ap length at_front) in
+    let on : at o 1 (length prefix) ≡ end + o = at_mul o 1 (length prefix) ∙ omega (arith, long, ap length at_prefix) in
     fsplit ! $ feq_i ! (List Val) (slice_val (b, o) (length ys) ∷ []) (slice_val (b, o) (length ys) ∷ []) refl $ fjoin ! $ fjoin ! $
-    use2 𝓛 (later (some (rest_lent 𝓛 (named 2) κ q b o γ u8 ys front back (sym (take-append-drop end ys)) (end + o) on)))
-    (lends_rest 𝓛 (named 2) κ q b o γ u8 ys front back (sym (take-append-drop end ys)) (end + o) on (omega arith, omega arith) (slice_val (b, o) (length ys) ∷ [])) $ await ! tt $ pick ! (λ δ'.
+    use2 𝓛 (later (some (rest_lent 𝓛 (named 2) κ q b o γ u8 ys prefix back (sym (take-append-drop end ys)) (end + o) on)))
+    (lends_rest 𝓛 (named 2) κ q b o γ u8 ys prefix back (sym (take-append-drop end ys)) (end + o) on (omega arith, omega arith) (slice_val (b, o) (length ys) ∷ [])) $ await ! tt $ pick ! (λ δ'.
     let rest : MutBor (List ℕ) = record { ref_ptr = (b, end + o); ghost_name = δ'; now = back } in let word : Val = slice_val (b, end + o) (length xs - end) in
     returns ! (look_at ! 0 refl) $ free_all ! refl $ split3 ! $
     rewrite ! 0 (λ (k : ℕ). ‵ ((MutSlice (named 2) κ u8).own_val rest (slice_val (b, end + o) k ∷ []))) left refl $
     use1 𝓛 (‵ ((RS.the_row (MutSlice (named 2) κ u8) TE.the_row).own_val (Ok rest) (live 0 (of_list (word ∷ [])) ∷ []))) (accepted 𝓛 (MutSlice (named 2) κ u8) rest word) $ move ! (2 ∷ []) $
-    use1 𝓛 (‵ (LendsSoOk (Array u8 0) (Array u8 0) buffer {E = (TE.the_row).Denot} (Ok rest) (Before octets) (AsLong xs))) (lent_ok 𝓛 (TE.the_row).Denot buffer rest (AsLong xs) front octets at_front) $
+    use1 𝓛 (‵ (LendsSoOk (Array u8 0) (Array u8 0) buffer {E = (TE.the_row).Denot} (Ok rest) (Before octets) (AsLong xs))) (lent_ok 𝓛 (TE.the_row).Denot buffer rest (AsLong xs) prefix octets at_prefix) $
     -- [what the buffer ends as; the result; its token; two tokens]
     suffices ! _ (ends_at 𝓛 T stayed c y (live 0 (of_list (word ∷ []))) (Ok rest) (tt, (tt, tt)) (tt, (tt, tt))) $
     nothing ! $ nothing ! $ fjoin ! $ nothing ! $ fjoin ! $ move ! (0 ∷ 2 ∷ []) $ join ! $ nothing ! $ move ! (3 ∷ 0 ∷ []) $ join ! $ move ! (4 ∷ 0 ∷ []) $ join ! $ move ! (3 ∷ 0 ∷ []) $ join ! $ join ! $ frame ! $

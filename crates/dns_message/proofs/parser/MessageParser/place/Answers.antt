@@ -1,6 +1,6 @@
 use Rattle.std.proofs.Common.{ℕ, ap, ◌∙◌, arith, get_or}
 use Rattle.dns_message.specs.Messages.{counts_of}
-use Rattle.dns_message.proofs.Placed.{count_at, placed_first, placed_later, placed_here, placed_last}
+use Rattle.dns_message.proofs.NextItem.{count_at, placed_first, placed_later, placed_here, placed_last}
 use Rattle.dns_message.proofs.parser.MessageParser.place.Goals as goal
 
 pub loop-section-init : goal.loop-section-init

@@ -1,4 +1,4 @@
-use Rattle.dns_message.proofs.Placed.{PlacedSoFar}
+use Rattle.dns_message.proofs.NextItem.{PlacedSoFar}
 use Rattle.dns_message.proofs.parser.MessageParser.place.Given as goal
 
 abbrev pub invariant-loop-section : goal.invariant-loop-section

@@ -3,7 +3,7 @@ use Rattle.std.specs.Str.{str_to_ascii_lowercase}
 use Rattle.dns_wire.specs.Names.{wire, lowered, name_labels}
 use Rattle.dns_wire.proofs.Spelled.{name_octets}
 use Rattle.dns_name.specs.Composed.{octets_cmp}
-use Rattle.dns_name.proofs.Sameness.{octets_lowered}
+use Rattle.dns_name.proofs.NameSameness.{octets_lowered}
 use Rattle.dns_name.proofs.canonical_name.NameCanonicalName.cmp_lowercase_composed.Goals as goal
 
 pub returns-clause-order : goal.returns-clause-order

@@ -1,6 +1,6 @@
 use Rattle.std.proofs.Common.{ap, ◌∙◌}
 use Rattle.std.specs.Str.{str_to_ascii_lowercase}
-use Rattle.dns_name.proofs.Sameness.{octets_lowered}
+use Rattle.dns_name.proofs.NameSameness.{octets_lowered}
 use Rattle.dns_name.proofs.hash.NameHash.hash.Goals as goal
 
 pub returns : goal.returns

@@ -4,7 +4,7 @@ use Rattle.dns_name.proofs.labels_buf.LabelsBuf.into_name.Goals as goal
 use Rattle.dns_name.proofs.labels_buf.LabelsBuf.into_name.Goals.{After-copy_at}
 
 named : (c : After-copy_at) → Rooted (take (c.self.inside.size + 1) c.copy_at.new.buffer) c.args.self
-named c = rooted _ _ _ c.self.invariant.2 c.self.invariant.3 c.self.view_is c.requires c.copy_at.ensures
+named c = rooted _ _ _ c.self.invariant.2 c.self.invariant.3 c.self.view_is c.requires c.copy_at.ensures.prefix
 
 pub from_buffer-requires-clause-name : goal.from_buffer-requires-clause-name
 from_buffer-requires-clause-name c = (named (goal.at.from_buffer-requires-clause-name c).After-copy_at).whole

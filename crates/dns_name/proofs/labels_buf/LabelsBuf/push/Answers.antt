@@ -9,7 +9,7 @@ wire_is c = c.as_wire-wire.ensures.wire ∙ ap label_wire c.as_label.ensures.con
 
 grown : (c : After-copy_at) → Held (take (c.self.inside.size + length c.as_wire-wire.result.now) c.copy_at.new.buffer) (c.args.self.now ++ c.args.label.now ∷ [])
 grown c =
-    held_more _ _ _ _ _ c.self.invariant.2 c.self.invariant.3 c.self.view_is (wire_is c) (c.requires.some, omega (arith, c.as_label.ensures.short)) c.copy_at.ensures
+    held_more _ _ _ _ _ c.self.invariant.2 c.self.invariant.3 c.self.view_is (wire_is c) (c.requires.some, omega (arith, c.as_label.ensures.short)) c.copy_at.ensures.prefix
 
 pub invariant_of-self : goal.invariant_of-self
 invariant_of-self c =

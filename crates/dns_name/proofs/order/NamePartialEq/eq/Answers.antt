@@ -2,7 +2,7 @@ use Rattle.std.proofs.Common.{◌∙◌, ap, sym, length}
 use Rattle.std.proofs.lemmas.Bool.{eqb-true, eq-eqb}
 use Rattle.std.specs.Str.{str_to_ascii_lowercase}
 use Rattle.dns_name.proofs.Agreed.{end_whole, end_all, low_long}
-use Rattle.dns_name.proofs.Sameness.{same_names}
+use Rattle.dns_name.proofs.NameSameness.{same_names}
 use Rattle.dns_name.proofs.order.NamePartialEq.eq.Goals as goal
 
 pub returns-then-octets-others : goal.returns-then-octets-others

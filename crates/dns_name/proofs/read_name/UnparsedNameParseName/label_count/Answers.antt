@@ -1,6 +1,6 @@
 use Rattle.std.proofs.Common.{arith}
 use Rattle.dns_name.specs.Unparsed.{unparsed_of}
-use Rattle.dns_name.proofs.Standing.{unparsed_octets, few_unparsed}
+use Rattle.dns_name.proofs.UnparsedNames.{unparsed_octets, few_unparsed}
 use Rattle.dns_name.proofs.read_name.UnparsedNameParseName.label_count.Goals as goal
 
 pub loop-label-init : goal.loop-label-init

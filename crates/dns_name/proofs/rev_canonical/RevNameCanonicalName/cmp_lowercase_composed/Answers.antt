@@ -6,10 +6,10 @@ use Rattle.std.proofs.lemmas.List.{reverse-reverse}
 use Rattle.dns_wire.proofs.Backward.{reversed_size}
 use Rattle.dns_wire.proofs.Lowered.{name_lowered}
 use Rattle.dns_wire.specs.Names.{lowered}
-use Rattle.dns_wire.specs.Reversed.{row_labels, reversed_name_labels}
-use Rattle.dns_name.specs.RowOrder.{head_cmp, ordered_by}
-use Rattle.dns_name.specs.declared.row_order.LabelOrder.TheVariants.{LowercaseComposed}
-use Rattle.dns_name.proofs.Aligned.{seen_by, composed_by_heads}
+use Rattle.dns_wire.specs.Reversed.{relative_labels, reversed_name_labels}
+use Rattle.dns_name.specs.RelativeOrder.{composed_label_cmp, ordered_by}
+use Rattle.dns_name.specs.declared.relative_order.LabelOrder.TheVariants.{LowercaseComposed}
+use Rattle.dns_name.proofs.Aligned.{seen_by, composed_by_labels_wire}
 use Rattle.dns_name.proofs.rev_canonical.RevNameCanonicalName.cmp_lowercase_composed.Goals as goal
 
 pub returns-clause-order : goal.returns-clause-order
@@ -17,10 +17,10 @@ returns-clause-order c =
     let a = reversed_name_labels c.args.self.now.slice.now in
     let b = reversed_name_labels c.args.other.now.slice.now in
     c.compare_from_last.ensures
-    ∙ ap (λ l. slice_cmp (ordered_by LowercaseComposed) l (reverse (row_labels c.row-2.result.slice.now))) (ap reverse c.row.ensures.labels ∙ reverse-reverse a)
-    ∙ ap (slice_cmp (ordered_by LowercaseComposed) a) (ap reverse c.row-2.ensures.labels ∙ reverse-reverse b)
-    ∙ seen_by str_to_ascii_lowercase head_cmp a b
-    ∙ sym (composed_by_heads (lowered a) (lowered b) (name_lowered a (reversed_size _ _ c.args.self.now.is_name).name).sizes (name_lowered b (reversed_size _ _ c.args.other.now.is_name).name).sizes)
+    ∙ ap (λ l. slice_cmp (ordered_by LowercaseComposed) l (reverse (relative_labels c.relative-2.result.slice.now))) (ap reverse c.relative.ensures.labels ∙ reverse-reverse a)
+    ∙ ap (slice_cmp (ordered_by LowercaseComposed) a) (ap reverse c.relative-2.ensures.labels ∙ reverse-reverse b)
+    ∙ seen_by str_to_ascii_lowercase composed_label_cmp a b
+    ∙ sym (composed_by_labels_wire (lowered a) (lowered b) (name_lowered a (reversed_size _ _ c.args.self.now.is_name).name).sizes (name_lowered b (reversed_size _ _ c.args.other.now.is_name).name).sizes)
 
 pub returns-clause-names : goal.returns-clause-names
 returns-clause-names c = ((reversed_size _ _ c.args.self.now.is_name).name, (reversed_size _ _ c.args.other.now.is_name).name)

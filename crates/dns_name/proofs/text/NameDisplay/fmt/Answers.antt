@@ -4,11 +4,11 @@ use Rattle.std.proofs.lemmas.List.{append-nil}
 use Rattle.dns_label.specs.Labels.{contents_of}
 use Rattle.dns_label.specs.Text.{shown_label}
 use Rattle.dns_name.specs.Text.{shown_name}
-use Rattle.dns_name.proofs.Buffered.{row_held}
+use Rattle.dns_name.proofs.Buffered.{relative_held}
 use Rattle.dns_name.proofs.text.NameDisplay.fmt.Goals as goal
 
 pub new-label-items-requires : goal.new-label-items-requires
-new-label-items-requires g c = (row_held _ c.row.result.are_labels).0
+new-label-items-requires g c = (relative_held _ c.relative.result.are_labels).0
 
 pub loop-label-preserved : goal.loop-label-preserved
 loop-label-preserved g c =
@@ -28,5 +28,5 @@ returns-clause-writes g c =
     (sym (append-nil now.0)
     ∙ ap (λ l. now.0 ++ shown_name l) (sym c.in-None.ensures.steps.0)
     ∙ now.2
-    ∙ ap shown_name (c.into_iter-label-iterator.ensures.into_iter_gives ∙ c.new-label-items.ensures ∙ (row_held _ c.row.result.are_labels).1 ∙ c.row.ensures.labels))
+    ∙ ap shown_name (c.into_iter-label-iterator.ensures.into_iter_gives ∙ c.new-label-items.ensures ∙ (relative_held _ c.relative.result.are_labels).1 ∙ c.relative.ensures.labels))
     now.1

@@ -1,4 +1,4 @@
-use Rattle.dns_name.proofs.Standing.{unparsed_octets, unparsed_size}
+use Rattle.dns_name.proofs.UnparsedNames.{unparsed_octets, unparsed_size}
 use Rattle.dns_name.proofs.unparsed_name.UnparsedName.as_bytes.Goals as goal
 
 pub returns-clause-wire : goal.returns-clause-wire

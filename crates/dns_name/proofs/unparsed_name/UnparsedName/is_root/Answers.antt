@@ -1,7 +1,7 @@
 use Rattle.std.proofs.Common.{ap, ◌≡◌, ◌∙◌, sym, arith, length}
 use Rattle.std.proofs.lemmas.Bool.Decides.{nat_tests}
 use Rattle.dns_name.specs.Unparsed.{unparsed_wire}
-use Rattle.dns_name.proofs.Standing.{root_alone_unparsed}
+use Rattle.dns_name.proofs.UnparsedNames.{root_alone_unparsed}
 use Rattle.dns_name.proofs.unparsed_name.UnparsedName.is_root.Goals as goal
 
 pub returns : goal.returns

@@ -1,5 +1,5 @@
 use Rattle.std.proofs.Common.{[], Some, None, sym, ap, ◌∙◌}
-use Rattle.dns_name.proofs.Standing.{unparsed_again, root_is_unparsed}
+use Rattle.dns_name.proofs.UnparsedNames.{unparsed_again, root_is_unparsed}
 use Rattle.dns_name.proofs.unparsed_name.UnparsedName.root.Goals as goal
 
 pub invariant_of-result : goal.invariant_of-result

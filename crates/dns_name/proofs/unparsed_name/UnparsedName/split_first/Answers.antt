@@ -1,6 +1,6 @@
 use Rattle.std.proofs.Common.{arith, refl, ap, get_or}
 use Rattle.dns_name.specs.Unparsed.{Unparsed}
-use Rattle.dns_name.proofs.Standing.{FirstStanding, first_head, first_standing, unparsed_size}
+use Rattle.dns_name.proofs.UnparsedNames.{FirstStanding, first_label_type, first_standing, unparsed_size}
 use Rattle.dns_name.proofs.unparsed_name.UnparsedName.split_first.Goals as goal
 use Rattle.dns_name.proofs.unparsed_name.UnparsedName.split_first.Goals.{Else-size-ge-POINTER_TAG, then-size-eq0-via-then-size-eq0, then-size-eq0-via-else-size-eq0+then-size-ge-POINTER_TAG}
 
@@ -12,7 +12,7 @@ bounds-self-0 c = (unparsed_size _ _ c.args.self.now.is_name).0
 
 pub returns-then-size-eq0 : goal.returns-then-size-eq0
 returns-then-size-eq0 c =
-    let head = first_head _ _ c.args.self.now.is_name in
+    let head = first_label_type _ _ c.args.self.now.is_name in
     elim c.then-size-eq0.branch [
       | then-size-eq0-via-then-size-eq0 w ↦ ap (λ (n : Unparsed). n.0) (head.root w.if-size-eq0.true)
       | then-size-eq0-via-else-size-eq0+then-size-ge-POINTER_TAG w ↦ (head.pointer w.if-size-ge-POINTER_TAG.true).1

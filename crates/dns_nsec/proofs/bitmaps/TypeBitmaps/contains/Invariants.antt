@@ -1,6 +1,6 @@
 use Rattle.std.proofs.Common.{◌≡◌, length}
 use Rattle.dns_nsec.specs.Bitmaps.{types_in}
-use Rattle.dns_nsec.proofs.Named.{is_in}
+use Rattle.dns_nsec.proofs.NamedTypes.{is_in}
 use Rattle.dns_nsec.proofs.bitmaps.TypeBitmaps.contains.Given as goal
 
 abbrev pub invariant-loop-window : goal.invariant-loop-window

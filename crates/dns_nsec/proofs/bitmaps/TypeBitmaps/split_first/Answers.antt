@@ -1,5 +1,5 @@
 use Rattle.std.proofs.Common.{List, ℕ, Option, subst}
-use Rattle.dns_record.specs.Windows.{Window}
+use Rattle.dns_record.specs.TypeBitMaps.{Window}
 use Rattle.dns_nsec.proofs.Parted.{FirstOf, first_window, windows_rise}
 use Rattle.dns_nsec.proofs.bitmaps.TypeBitmaps.split_first.Goals as goal
 

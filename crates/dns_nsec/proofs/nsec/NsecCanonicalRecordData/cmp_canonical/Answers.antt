@@ -2,7 +2,7 @@ use Rattle.std.proofs.Common.{sym, ap, ◌∙◌, false, nat_cmp}
 use Rattle.std.specs.Ordering.{ordering_then}
 use Rattle.std.specs.Cmp.Lexicographic.{slice_cmp}
 use Rattle.std.specs.declared.cmp.Ordering.{Ordering}
-use Rattle.dns_record.proofs.Compared.{fields_compared, decided, undecided}
+use Rattle.dns_record.proofs.ComparedOctets.{fields_compared, decided, undecided}
 use Rattle.dns_nsec.specs.Types.{nsec_fields}
 use Rattle.dns_nsec.proofs.nsec.NsecCanonicalRecordData.cmp_canonical.Goals as goal
 

@@ -1,5 +1,5 @@
 use Rattle.std.proofs.Common.{sym, ◌∙◌, false}
-use Rattle.dns_record.proofs.Compared.{fields_compared, then_assoc}
+use Rattle.dns_record.proofs.ComparedOctets.{fields_compared, then_assoc}
 use Rattle.dns_nsec.specs.Types.{nsec3param_fields}
 use Rattle.dns_nsec.proofs.nsec3param.Nsec3ParamCanonicalRecordData.cmp_canonical.Goals as goal
 

@@ -1,6 +1,6 @@
 use Rattle.std.proofs.Common.{arith, ◌*◌, ◌++◌, ℕ, List, length, ap}
 use Rattle.dns_nsec.specs.Bitmaps.{bits_of, types_in}
-use Rattle.dns_nsec.proofs.Bits.{bits_count, none_left}
+use Rattle.dns_nsec.proofs.WindowBits.{bits_count, none_left}
 use Rattle.dns_nsec.proofs.type_iter.TypeIter.new.Goals as goal
 
 pub returns : goal.returns

@@ -1,6 +1,6 @@
 use Rattle.std.proofs.Common.{◌∙◌, ◌+◌, ◌∷◌, sym, ap, length, arith}
 use Rattle.dns_nsec.specs.Seen.{window_seen}
-use Rattle.dns_nsec.proofs.Named.{coming, coming_found, coming_none, coming_next}
+use Rattle.dns_nsec.proofs.NamedTypes.{coming, coming_found, coming_none, coming_next}
 use Rattle.dns_nsec.proofs.type_iter.TypeIterIterator.next.Goals as goal
 
 pub loop-place-init : goal.loop-place-init
@@ -25,24 +25,24 @@ returns-in-Some-clause-goes c =
     let e = c.loop-place.invariant.0 ∙ coming_found w.number c.loop-place.from c.in-Some.place w.bits.now c.loop-place.rest.slice.now c.in-Some.ensures.1 in
     record { on = λ _. (tt, tt, omega (arith, ap length e)); keeps = tt; rests = λ _. tt }
 
-pub invariant_of-self-in_err-behind : goal.invariant_of-self-in_err-behind
-invariant_of-self-in_err-behind c = (c.loop-place.invariant.3, c.loop-place.invariant.4)
+pub invariant_of-self-in_err-trailing : goal.invariant_of-self-in_err-trailing
+invariant_of-self-in_err-trailing c = (c.loop-place.invariant.3, c.loop-place.invariant.4)
 
-pub returns-in_err-behind-clause-steps : goal.returns-in_err-behind-clause-steps
-returns-in_err-behind-clause-steps c =
+pub returns-in_err-trailing-clause-steps : goal.returns-in_err-trailing-clause-steps
+returns-in_err-trailing-clause-steps c =
     let w = c.loop-place.window in
-    let e = c.loop-place.invariant.0 ∙ coming_none w.number c.loop-place.from w.bits.now c.loop-place.rest.slice.now c.in_default.ensures c.in_err-behind.ensures.windows in
+    let e = c.loop-place.invariant.0 ∙ coming_none w.number c.loop-place.from w.bits.now c.loop-place.rest.slice.now c.in_default.ensures c.in_err-trailing.ensures.windows in
     rw c.from_residual.ensures (e, sym c.loop-place.invariant.1 ∙ e)
 
 pub loop-place-smaller : goal.loop-place-smaller
-loop-place-smaller c = c.in_ok-behind.ensures.shorter
+loop-place-smaller c = c.in_ok-trailing.ensures.shorter
 
 pub loop-place-preserved : goal.loop-place-preserved
 loop-place-preserved c =
     let w = c.loop-place.window in (
-      c.loop-place.invariant.0 ∙ coming_next w.number c.loop-place.from w.bits.now c.loop-place.rest.slice.now c.in_ok-behind.later.slice.now (window_seen c.in_ok-behind.behind) c.in_default.ensures c.in_ok-behind.ensures.windows,
+      c.loop-place.invariant.0 ∙ coming_next w.number c.loop-place.from w.bits.now c.loop-place.rest.slice.now c.in_ok-trailing.later.slice.now (window_seen c.in_ok-trailing.trailing) c.in_default.ensures c.in_ok-trailing.ensures.windows,
       c.loop-place.invariant.1,
-      c.in_ok-behind.ensures.few,
+      c.in_ok-trailing.ensures.few,
       c.loop-place.invariant.3,
       c.loop-place.invariant.4,
     )

@@ -1,5 +1,5 @@
 use Rattle.std.proofs.Common.{◌≡◌, ◌≤◌, length}
-use Rattle.dns_nsec.proofs.Named.{coming}
+use Rattle.dns_nsec.proofs.NamedTypes.{coming}
 use Rattle.dns_nsec.proofs.type_iter.TypeIterIterator.next.Given as goal
 
 abbrev pub invariant-loop-place : goal.invariant-loop-place

@@ -1,7 +1,7 @@
 use Rattle.std.proofs.Common.{arith, ◌*◌, ◌∙◌, sym}
 use Rattle.std.proofs.lemmas.Bool.Decides.{nat_tests}
 use Rattle.dns_nsec.specs.Bitmaps.{bits_of}
-use Rattle.dns_nsec.proofs.Bits.{bits_count, step_set, step_clear, none_left}
+use Rattle.dns_nsec.proofs.WindowBits.{bits_count, step_set, step_clear, none_left}
 use Rattle.dns_nsec.proofs.window.Window.next_set.Goals as goal
 
 pub returns-then-is_set : goal.returns-then-is_set

@@ -4,14 +4,14 @@ use Rattle.std.proofs.lemmas.Nat.Bits.{bit_at_set_same, bit_at_set_other, bit_at
 use Rattle.dns_num.proofs.OneBit.{others_cleared}
 use Rattle.dns_num.proofs.number16.U16.with_bit.Goals as goal
 
-pub returns-then-value-clause-told : goal.returns-then-value-clause-told
-returns-then-value-clause-told c = rw (c.new.ensures, c.if-value.true) (bit_at_set_same w16 c.args.self.value c.args.place c.requires)
+pub returns-then-value-clause-set : goal.returns-then-value-clause-set
+returns-then-value-clause-set c = rw (c.new.ensures, c.if-value.true) (bit_at_set_same w16 c.args.self.value c.args.place c.requires)
 
 pub returns-then-value-clause-others : goal.returns-then-value-clause-others
 returns-then-value-clause-others c = rw c.new.ensures (bit_at_set_other w16 c.args.self.value c.args.place c.requires)
 
-pub returns-else-value-clause-told : goal.returns-else-value-clause-told
-returns-else-value-clause-told c = rw (c.new-else-value.ensures, c.if-value.false) (bit_at_clear_same w16 c.args.self.value c.args.place c.requires)
+pub returns-else-value-clause-set : goal.returns-else-value-clause-set
+returns-else-value-clause-set c = rw (c.new-else-value.ensures, c.if-value.false) (bit_at_clear_same w16 c.args.self.value c.args.place c.requires)
 
 pub returns-else-value-clause-others : goal.returns-else-value-clause-others
 returns-else-value-clause-others c = rw c.new-else-value.ensures (others_cleared w16 c.args.self.value c.args.place c.requires (omega (arith, c.well_formed)))

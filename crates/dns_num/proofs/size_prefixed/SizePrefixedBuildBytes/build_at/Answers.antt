@@ -1,6 +1,6 @@
 use Rattle.std.proofs.Common.{arith}
 use Rattle.std.proofs.lemmas.Result.{err_from_is_err_and}
-use Rattle.dns_num.proofs.Prefixes.{refused_inside}
+use Rattle.dns_num.proofs.SizePrefixes.{refused_inside}
 use Rattle.dns_num.proofs.size_prefixed.SizePrefixedBuildBytes.build_at.Goals as goal
 
 pub returns-in_err-end : goal.returns-in_err-end

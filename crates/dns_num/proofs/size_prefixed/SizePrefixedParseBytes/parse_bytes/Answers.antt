@@ -1,4 +1,4 @@
-use Rattle.dns_num.proofs.Prefixes.{not_whole}
+use Rattle.dns_num.proofs.SizePrefixes.{not_whole}
 use Rattle.dns_num.proofs.size_prefixed.SizePrefixedParseBytes.parse_bytes.Goals as goal
 
 pub returns-then-content-size : goal.returns-then-content-size

@@ -1,7 +1,7 @@
 use Rattle.std.proofs.Common.{sym, ◌∙◌, false, [], ◌∷◌}
 use Rattle.dns_record.specs.CharStrs.{octets_of}
 use Rattle.dns_record.specs.Fields.FieldOf.{Sized}
-use Rattle.dns_record.proofs.Compared.{first_ties, first_decides, last_decides}
+use Rattle.dns_record.proofs.ComparedOctets.{first_ties, first_decides, last_decides}
 use Rattle.dns_plain.proofs.hinfo.HInfoCanonicalRecordData.cmp_canonical.Goals as goal
 
 pub returns-in-Equal : goal.returns-in-Equal

@@ -1,5 +1,5 @@
 use Rattle.std.proofs.Common.{◌∙◌, sym, ap, length, arith}
-use Rattle.dns_plain.proofs.Strings.{first_string, no_string}
+use Rattle.dns_plain.proofs.TxtLemmas.{first_string, no_string}
 use Rattle.dns_plain.proofs.txt_iter.TxtIterIterator.next.Goals as goal
 
 pub returns-in-Err-clause-steps : goal.returns-in-Err-clause-steps

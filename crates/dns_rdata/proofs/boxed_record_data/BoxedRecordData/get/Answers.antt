@@ -4,8 +4,8 @@ use Rattle.dns_name.specs.declared.name.Name.{Name}
 use Rattle.dns_record.specs.Data.{data_as}
 use Rattle.dns_record.specs.Fields.{named_by}
 use Rattle.dns_rdata.specs.Data.{data_fields}
-use Rattle.dns_rdata.specs.Spelled.{data_spelled}
-use Rattle.dns_rdata.specs.Written.{fields_written}
+use Rattle.dns_rdata.specs.FormatLemmas.{data_spelled}
+use Rattle.dns_rdata.specs.CanonicalSizes.{fields_written}
 use Rattle.dns_rdata.proofs.boxed_record_data.BoxedRecordData.get.Goals as goal
 
 pub returns-clause-written : goal.returns-clause-written

@@ -35,4 +35,4 @@ pub returns-in-Mx : goal.returns-in-Mx
 returns-in-Mx g c =
     let (shown, returned, shows) = c.map_name_by_ref-in-Mx.ensures.name in
     let (last, called) = post_steps g.F.FnMut c.args.f (shown, tt) c.map_name_by_ref-in-Mx.result.exchange (search (rules, of_calls)) returned in
-    rw c.in-Mx.is (c.map_name_by_ref-in-Mx.result.exchange, last, record { shown = shown; shows = shows; called = called }, ap (λ preference. Mx (record { preference = preference; exchange = c.map_name_by_ref-in-Mx.result.exchange })) c.map_name_by_ref-in-Mx.ensures.kept)
+    rw c.in-Mx.is (c.map_name_by_ref-in-Mx.result.exchange, last, record { shown = shown; shows = shows; called = called }, ap (λ preference. Mx (record { preference = preference; exchange = c.map_name_by_ref-in-Mx.result.exchange })) c.map_name_by_ref-in-Mx.ensures.unchanged)

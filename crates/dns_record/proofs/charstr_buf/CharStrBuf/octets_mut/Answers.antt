@@ -1,5 +1,5 @@
 use Rattle.std.proofs.Common.{refl, rules}
-use Rattle.dns_wire.proofs.Stored.{stored_over}
+use Rattle.dns_wire.proofs.StorageLemmas.{stored_over}
 use Rattle.dns_record.proofs.charstr_buf.CharStrBuf.octets_mut.Goals as goal
 
 pub returns : goal.returns

@@ -1,5 +1,5 @@
 use Rattle.std.proofs.Common.{sym, ◌∙◌, ◌<◌, ◌^◌, false, arith}
-use Rattle.dns_record.proofs.Compared.{fields_compared, then_assoc}
+use Rattle.dns_record.proofs.ComparedOctets.{fields_compared, then_assoc}
 use Rattle.dns_sec.specs.Flags.{key_flag_bits}
 use Rattle.dns_sec.specs.Types.{dnskey_fields}
 use Rattle.dns_sec.proofs.dnskey.DNSKeyCanonicalRecordData.cmp_canonical.Goals as goal

@@ -4,7 +4,7 @@ use Rattle.std.specs.Cmp.Lexicographic.{slice_cmp}
 use Rattle.std.specs.declared.cmp.Ordering.{Ordering}
 use Rattle.std.proofs.Common.{nat_cmp}
 use Rattle.dns_wire.proofs.Spelled.{name_octets}
-use Rattle.dns_record.proofs.Compared.{decided, undecided}
+use Rattle.dns_record.proofs.ComparedOctets.{decided, undecided}
 use Rattle.dns_sec.proofs.Ordered.{IsWell, signed_cmp, signatures_compared}
 use Rattle.dns_sec.proofs.rrsig.RrsigCanonicalRecordData.cmp_canonical.Goals as goal
 

@@ -1,6 +1,6 @@
 use Rattle.std.proofs.lemmas.Result.{err_from_is_err_and}
 use Rattle.std.proofs.lemmas.List.Elements.{All-get_or, All-more}
-use Rattle.dns_wire.proofs.Standing.{stands_then}
+use Rattle.dns_wire.proofs.BuildingLemmas.{stands_then}
 use Rattle.dns_wire.proofs.Several.{one_more, no_longer, refused_later}
 use Rattle.dns_wire.proofs.build.BuildBytes.build_all_at.Goals as goal
 

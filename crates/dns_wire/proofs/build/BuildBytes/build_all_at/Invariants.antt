@@ -3,7 +3,7 @@ use Rattle.std.specs.List.{All, flat_map}
 use Rattle.dns_wire.specs.Building.{Stands}
 use Rattle.dns_wire.proofs.build.BuildBytes.build_all_at.Given as goal
 
--- the values so far fit, and stand in front of the place
+-- the values so far fit, and stand before the place
 abbrev pub invariant-loop-value : goal.invariant-loop-value
 invariant-loop-value g l = record {
   fits : All g.Self.BuildBytes.fits (take l.value-index l.values);

@@ -1,4 +1,4 @@
-use Rattle.dns_wire.proofs.Standing.{builds_then}
+use Rattle.dns_wire.proofs.BuildingLemmas.{builds_then}
 use Rattle.dns_wire.proofs.builders.Tuple2BuildBytes.build_at.Goals as goal
 
 pub returns : goal.returns

@@ -1,5 +1,5 @@
 use Rattle.std.proofs.Common.{arith}
-use Rattle.dns_wire.proofs.Matching.{name_few}
+use Rattle.dns_wire.proofs.MatchingNames.{name_few}
 use Rattle.dns_wire.proofs.compression.suffix.count_labels.Goals as goal
 
 pub loop-label-init : goal.loop-label-init

@@ -1,5 +1,5 @@
 use Rattle.std.proofs.Common.{arith}
-use Rattle.dns_wire.proofs.Matching.{counting_none, counting_bad, counting_root, counting_full, counting_label, counting_pointer}
+use Rattle.dns_wire.proofs.MatchingNames.{counting_none, counting_bad, counting_root, counting_full, counting_label, counting_pointer}
 use Rattle.dns_wire.proofs.compression.suffix.count_labels_at.Goals as goal
 
 pub loop-seen-init : goal.loop-seen-init

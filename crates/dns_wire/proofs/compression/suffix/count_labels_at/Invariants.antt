@@ -1,5 +1,5 @@
 use Rattle.std.proofs.Common.{◌+◌, ◌-◌}
-use Rattle.dns_wire.proofs.Matching.{Counting}
+use Rattle.dns_wire.proofs.MatchingNames.{Counting}
 use Rattle.dns_wire.proofs.compression.suffix.count_labels_at.Given as goal
 
 abbrev pub invariant-loop-seen : goal.invariant-loop-seen

@@ -1,7 +1,7 @@
 use Rattle.std.proofs.Common.{arith, refl}
 use Rattle.std.proofs.lemmas.List.{length-drop}
 use Rattle.dns_wire.proofs.Spelled.{name_nonempty, root_first, first_label}
-use Rattle.dns_wire.proofs.Matching.{first_of_name}
+use Rattle.dns_wire.proofs.MatchingNames.{first_of_name}
 use Rattle.dns_wire.proofs.compression.suffix.first_label.Goals as goal
 
 pub bounds-name-0 : goal.bounds-name-0

@@ -1,6 +1,6 @@
 use Rattle.std.proofs.Common.{length, ◌+◌}
 use Rattle.dns_wire.specs.Names.{name_labels}
-use Rattle.dns_wire.proofs.Matching.{Matches}
+use Rattle.dns_wire.proofs.MatchingNames.{Matches}
 use Rattle.dns_wire.proofs.compression.suffix.is_name_at.Given as goal
 
 abbrev pub invariant-loop-size : goal.invariant-loop-size

@@ -7,11 +7,11 @@ use Rattle.dns_wire.proofs.compression.suffix.suffix_before.Given as goal
 abbrev pub invariant-loop-left : goal.invariant-loop-left
 invariant-loop-left l = record {
   whole : all_of (plain_name l.rest) ≡ Some (name_labels l.rest);
-  size : l.front + length l.rest ≡ length l.name;
+  size : l.prefix + length l.rest ≡ length l.name;
   short : length l.name ≤ 255;
   left : l.left ≡ length (name_labels l.rest);
   enough : l.size ≤ l.left;
-  same : suffix_at l.contents l.place l.front (name_labels l.rest) ≡ suffix_at l.contents l.place 0 (name_labels l.name);
+  same : suffix_at l.contents l.place l.prefix (name_labels l.rest) ≡ suffix_at l.contents l.place 0 (name_labels l.name);
 }
 
 abbrev pub decreases-loop-left : goal.decreases-loop-left

@@ -48,12 +48,12 @@ use Rattle.dns_wire.proofs.Cells.{args, S, start, Left, octets_out, octets_in}
 use Rattle.dns_wire.proofs.storage.Storage.part_mut.Statement.{statement}
 use Rattle.dns_wire.proofs.storage.Storage.part_mut.Code as code
 
--- as many octets as were lent, between the others, are the array when it is written over
+-- as many octets as were borrowed, between the others, are the array when it is written over
 written_over : (xs ws : List ℕ) (i m : ℕ) → i + m ≤ length xs → length ws ≡ m → take i xs ++ (ws ++ drop_list m (drop_list i xs)) ≡ overwritten xs i ws
 written_over xs ws i m room e =
-    let behind : drop_list m (drop_list i xs) ≡ drop_list (i + length ws) xs = drop-drop m i xs ∙ ap (λ (n : ℕ). drop_list n xs) (omega arith) in
+    let trailing : drop_list m (drop_list i xs) ≡ drop_list (i + length ws) xs = drop-drop m i xs ∙ ap (λ (n : ℕ). drop_list n xs) (omega arith) in
     let long : length (take i xs ++ (ws ++ drop_list (i + length ws) xs)) ≤ length xs = omega (arith, length-append (take i xs) (ws ++ drop_list (i + length ws) xs), length-append ws (drop_list (i + length ws) xs), length-drop (i + length ws) xs, length-take-le i xs (omega arith)) in
-    ap (λ (l : List ℕ). take i xs ++ (ws ++ l)) behind ∙ sym (take_all (length xs) (take i xs ++ (ws ++ drop_list (i + length ws) xs)) long)
+    ap (λ (l : List ℕ). take i xs ++ (ws ++ l)) trailing ∙ sym (take_all (length xs) (take i xs ++ (ws ++ drop_list (i + length ws) xs)) long)
 
 module _ (n : ℕ) where
   abbrev function : Fn
@@ -69,7 +69,7 @@ module _ (n : ℕ) where
     open 𝓛 use {H, A}
 
     module _ (κ : Lft) (q : Share) (b o : ℕ) (γ : GName) (d : (S n).Denot) (i j : ℕ) where
-      -- how many octets are lent, and where they lie
+      -- how many octets are borrowed, and where they lie
       abbrev m : ℕ
       m = j - i
 
@@ -79,8 +79,8 @@ module _ (n : ℕ) where
       abbrev spot : ℕ
       spot = i + begin
 
-      abbrev front : List ℕ
-      front = take i d.octets
+      abbrev prefix : List ℕ
+      prefix = take i d.octets
 
       abbrev lent_out : List ℕ
       lent_out = take m (drop_list i d.octets)
@@ -98,21 +98,21 @@ module _ (n : ℕ) where
       past from = at from (mem u8).size
 
       abbrev Rest : SProp 𝓤
-      Rest = sep 𝓤 (sem 𝓛 (octets front begin)) (sep 𝓤 (sem 𝓛 (octets back (past spot (length lent_out)))) (Left n 𝓛 b o))
+      Rest = sep 𝓤 (sem 𝓛 (octets prefix begin)) (sep 𝓤 (sem 𝓛 (octets back (past spot (length lent_out)))) (Left n 𝓛 b o))
 
-      begins : i ≤ length d.octets → past begin (length front) ≡ spot
-      begins le = at_byte begin (length front) ∙ ap (λ (k : ℕ). k + begin) (length-take-le i d.octets le)
+      begins : i ≤ length d.octets → past begin (length prefix) ≡ spot
+      begins le = at_byte begin (length prefix) ∙ ap (λ (k : ℕ). k + begin) (length-take-le i d.octets le)
 
       put : i ≤ j → j ≤ n → length d.octets ≡ n → (ws : List ℕ) → length ws ≡ length lent_out → ent 𝓤 (sep 𝓤 (sem 𝓛 (octets ws spot)) Rest) (sem 𝓛 ((mem (S n)).own_at (after ws) b o))
       put order room long ws e =
           let count : length lent_out ≡ m = length-take-le m (drop_list i d.octets) (omega (arith, length-drop i d.octets)) in
-          let same : front ++ (ws ++ back) ≡ (after ws).octets = written_over d.octets ws i m (omega arith) (e ∙ count) in
-          let as_long : length (after ws).octets ≡ n = omega (arith, ap length same, length-append front (ws ++ back), length-append ws back, length-drop m (drop_list i d.octets), length-drop i d.octets, length-take-le i d.octets (omega arith), count) in
-          qed 𝓛 (‵ (octets ws spot) ∷ ‵ (octets front begin) ∷ ‵ (octets back (past spot (length lent_out))) ∷ raw (Left n 𝓛 b o) ∷ []) ∵
+          let same : prefix ++ (ws ++ back) ≡ (after ws).octets = written_over d.octets ws i m (omega arith) (e ∙ count) in
+          let as_long : length (after ws).octets ≡ n = omega (arith, ap length same, length-append prefix (ws ++ back), length-append ws back, length-drop m (drop_list i d.octets), length-drop i d.octets, length-take-le i d.octets (omega arith), count) in
+          qed 𝓛 (‵ (octets ws spot) ∷ ‵ (octets prefix begin) ∷ ‵ (octets back (past spot (length lent_out))) ∷ raw (Left n 𝓛 b o) ∷ []) ∵
           rewrite ! 2 (λ (k : ℕ). ‵ (octets back (past spot k))) (sym e) refl $ move ! (0 ∷ 2 ∷ []) $
           use2 𝓛 (‵ (octets (ws ++ back) spot)) (join_app 𝓛 (mem u8) ws back b spot) $
           rewrite ! 0 (λ (k : ℕ). ‵ (octets (ws ++ back) k)) (sym (begins (omega arith))) refl $ move ! (1 ∷ 0 ∷ []) $
-          use2 𝓛 (‵ (octets (front ++ (ws ++ back)) begin)) (join_app 𝓛 (mem u8) front (ws ++ back) b begin) $
+          use2 𝓛 (‵ (octets (prefix ++ (ws ++ back)) begin)) (join_app 𝓛 (mem u8) prefix (ws ++ back) b begin) $
           rewrite ! 0 (λ (l : List ℕ). ‵ (octets l begin)) same refl $
           by ! (octets_in n 𝓛 b o (after ws) as_long)
 
@@ -132,7 +132,7 @@ module _ (n : ℕ) where
           let count : length lent_out ≡ m = length-take-le m (drop_list i d.octets) (omega (arith, length-drop i d.octets)) in
           let fits : Room u8 (length lent_out) = (omega arith, omega arith) in
           rewrite ! 0 (λ (l : List ℕ). ‵ (octets l begin)) (sym (take-append-drop i d.octets)) refl $
-          use1 𝓛 (‵ (octets front begin) ⊛ ‵ (octets (drop_list i d.octets) (past begin (length front)))) (cut_app 𝓛 (mem u8) front (drop_list i d.octets) b begin) $
+          use1 𝓛 (‵ (octets prefix begin) ⊛ ‵ (octets (drop_list i d.octets) (past begin (length prefix)))) (cut_app 𝓛 (mem u8) prefix (drop_list i d.octets) b begin) $
           split ! $ rewrite ! 1 (λ (k : ℕ). ‵ (octets (drop_list i d.octets) k)) (begins (omega arith)) refl $ move ! (1 ∷ 0 ∷ []) $
           rewrite ! 0 (λ (l : List ℕ). ‵ (octets l spot)) (sym (take-append-drop m (drop_list i d.octets))) refl $
           use1 𝓛 (‵ (octets lent_out spot) ⊛ ‵ (octets back (past spot (length lent_out)))) (cut_app 𝓛 (mem u8) lent_out back b spot) $

@@ -1,0 +1,70 @@
+-- What a command calls for, by the text that it reads.
+use Rattle.dns_canon.specs.declared.words.TheConstants.{LIMIT, LIMIT_OF_TWO}
+use Rattle.std.specs.Prelude.{ℕ, ◌+◌, ◌≤◌, List, [], ◌∷◌, length, map, Option, Some, None, Bool, true, false, nat_lt, if◌then◌else◌}
+use Rattle.dns_wire.specs.Hexadecimal.{Spells, spelled, trim}
+use Rattle.dns_wire.specs.Steps.{◌>>=◌}
+use Rattle.dns_message.specs.Messages.{Reading, message_reading}
+use Rattle.dns_message.specs.Messages.Reading.{Short as TooShort, Stopped, Whole}
+use Rattle.dns_canon.specs.Parts.{first_text, second_text}
+use Rattle.dns_canon.specs.declared.status.Status.{Status}
+use Rattle.dns_canon.specs.declared.status.Status.TheVariants.{Done, Short, Item, BadHex, TooLong, Usage}
+use Rattle.dns_canon.specs.declared.words.Command.{Command}
+use Rattle.dns_canon.specs.declared.words.Command.TheVariants.{Canon, Same, Make}
+
+-- ---- what a command reads
+
+-- whether a command reads a text; `make` reads none, nor do words that are no command
+abbrev pub reads : Option Command → Bool
+reads None = false
+reads (Some Canon) = true
+reads (Some Same) = true
+reads (Some (Make count)) = false
+
+-- the text that is read, as far as the source tells what it has left
+abbrev pub text_read : Option Command → Option (List ℕ) → Option (List ℕ)
+text_read command left = if reads command then left else Some []
+
+-- the most octets of the text
+abbrev pub limit_of : Command → ℕ
+limit_of Canon = LIMIT
+limit_of Same = LIMIT_OF_TWO
+limit_of (Make count) = 0
+
+-- the texts of the messages in it
+abbrev pub texts_in : Command → List ℕ → List (List ℕ)
+texts_in Canon text = text ∷ []
+texts_in Same text = first_text text ∷ second_text text ∷ []
+texts_in (Make count) text = []
+
+-- ---- the expected status
+
+-- the octets that each text spells; none where one of them spells none
+abbrev pub all_spelled : List (List ℕ) → Option (List (List ℕ))
+all_spelled [] = Some []
+all_spelled (text ∷ texts) = do
+  message ← spelled (trim text)
+  messages ← all_spelled texts
+  Some (message ∷ messages)
+
+-- the refusal of the first message that is not read whole, where messages count from this number
+abbrev pub first_refusal : ℕ → List Reading → Status
+first_refusal number [] = Done
+first_refusal number (TooShort ∷ later) = Short number
+first_refusal number (Stopped items section index place ∷ later) = Item number section index
+first_refusal number (Whole items end ∷ later) = first_refusal (number + 1) later
+
+-- texts that are no digits are refused before any message
+abbrev pub on_messages : Option (List (List ℕ)) → Status
+on_messages None = BadHex
+on_messages (Some messages) = first_refusal 0 (map message_reading messages)
+
+-- the status that a text calls for, which is one: `expected_statuses_in_words` says it in other words
+abbrev pub expected_status : Option Command → List ℕ → Status
+expected_status None text = Usage
+expected_status (Some command) text = if nat_lt (limit_of command) (length text) then TooLong else on_messages (all_spelled (texts_in command text))
+
+-- ---- two messages
+
+-- the text has at most 262,144 octets, and its parts spell these messages
+abbrev pub SpellsBoth : List ℕ → List ℕ → List ℕ → Type 0
+SpellsBoth text m n = (length text ≤ LIMIT_OF_TWO) × Spells (first_text text) m × Spells (second_text text) n

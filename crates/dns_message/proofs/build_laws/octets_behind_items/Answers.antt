@@ -1,5 +1,0 @@
-use Rattle.dns_message.proofs.Extended.{item_more}
-use Rattle.dns_message.proofs.build_laws.octets_behind_items.Goals as goal
-
-pub returns : goal.returns
-returns c = item_more

@@ -1,9 +1,0 @@
-use Rattle.std.proofs.Common.{◌≡◌, ◌≤◌, length, drop}
-use Rattle.dns_wire.specs.Reversed.{row_labels}
-use Rattle.dns_name.proofs.label_row.LabelRow.skip.Given as goal
-
-abbrev pub invariant-loop-left : goal.invariant-loop-left
-invariant-loop-left l = (drop l.left (row_labels l.rest.slice.now) ≡ drop l.count (row_labels l.self.slice.now)) × (l.left ≤ length (row_labels l.rest.slice.now))
-
-abbrev pub decreases-loop-left : goal.decreases-loop-left
-decreases-loop-left l = l.left

@@ -1,0 +1,152 @@
+-- Strings that are read one by one: what they are of all the octets, and what is left of a test.
+use Rattle.std.proofs.Common.{◌≡◌, ℕ, zero, suc, ◌<◌, ◌≤◌, true, false, ltb, Bool, List, [], ◌∷◌, length, Option, Some, None, refl, sym, ap, ◌∙◌, arith}
+use Rattle.std.specs.Prelude.{◌↔◌, IsTrue, map}
+use Rattle.std.specs.Cmp.Lexicographic.{pointwise, pointwise_decides, bytes_decides}
+use Rattle.std.specs.Cmp.Derive.Mapped.{pointwise-map}
+use Rattle.std.specs.Str.{str_to_ascii_lowercase}
+use Rattle.std.proofs.lemmas.Bool.{le-ltb, lt-ltb}
+use Rattle.std.proofs.lemmas.List.{length-append}
+use Rattle.dns_wire.specs.Names.{lowered}
+use Rattle.dns_record.specs.CharStrHashing.{charstr_writes}
+use Rattle.dns_record.specs.CharStrs.{charstr_wire, same_charstr}
+use Rattle.dns_record.specs.FieldOrder.{field_eq, fields_eq, fields_writes}
+use Rattle.dns_record.specs.Fields.FieldOf.{Sized}
+use Rattle.dns_record.specs.CharacterStrings.{character_string, after_text, character_strings_within, is_character_strings, is_text_data, character_strings_octets}
+use Rattle.dns_record.proofs.Places.{text_spelled, text_read}
+use Rattle.dns_record.proofs.CharacterStringLemmas.{character_strings_are}
+use Rattle.dns_plain.specs.Strings.{then_strings, strings_within, strings_in, same_strings, strings_writes, lowered_from_same}
+
+-- ---- the strings of octets
+
+strings_again : (steps : ℕ) (strings : List (List ℕ)) → length (character_strings_octets strings) ≤ steps → strings_within steps (character_strings_octets strings) ≡ strings
+unfolding strings_within
+strings_again zero [] enough = refl
+strings_again (suc steps) [] enough = refl
+strings_again zero (found ∷ others) enough = absurd (omega arith)
+strings_again (suc steps) (found ∷ others) enough =
+    ap (then_strings (λ more. strings_within steps more)) (text_read found (character_strings_octets others))
+    ∙ ap (λ (l : List (List ℕ)). found ∷ l) (strings_again steps others (omega (arith, enough, length-append found (character_strings_octets others))))
+
+pub strings_read : (strings : List (List ℕ)) → strings_in (character_strings_octets strings) ≡ strings
+unfolding strings_in
+strings_read strings = strings_again (length (character_strings_octets strings)) strings (omega arith)
+
+-- TXT data are the octets of their strings
+pub character_strings_whole : (bytes : List ℕ) → is_text_data bytes ≡ true → character_strings_octets (strings_in bytes) ≡ bytes
+character_strings_whole bytes e =
+    let t = character_strings_are bytes e in
+    ap character_strings_octets (ap strings_in t.is ∙ strings_read (t.first ∷ t.others)) ∙ sym t.is
+
+-- of which there is one
+pub character_strings_some : (bytes : List ℕ) → is_text_data bytes ≡ true → (strings_in bytes ≡ []) → ⊥
+character_strings_some bytes e none =
+    let t = character_strings_are bytes e in
+    let h : t.first ∷ t.others ≡ [] = sym (ap strings_in t.is ∙ strings_read (t.first ∷ t.others)) ∙ none in
+    absurd cc
+
+-- and no more than there are octets
+many_octets : (strings : List (List ℕ)) → length strings ≤ length (character_strings_octets strings)
+many_octets [] = omega arith
+many_octets (found ∷ others) = omega (arith, many_octets others, length-append found (character_strings_octets others))
+
+pub character_strings_few : (bytes : List ℕ) → is_text_data bytes ≡ true → length (strings_in bytes) ≤ 65535
+character_strings_few bytes e = omega (arith, many_octets (strings_in bytes), ap length (character_strings_whole bytes e), (character_strings_are bytes e).short)
+
+-- ---- the first of them
+
+pub text_shorter : (bytes found rest : List ℕ) → character_string bytes ≡ Some (found, rest) → length rest < length bytes
+text_shorter bytes found rest e = omega (arith, ap length (text_spelled bytes found rest e), length-append found rest)
+
+-- more steps than octets change nothing
+enough_steps : (steps others : ℕ) (bytes : List ℕ) → length bytes ≤ steps → length bytes ≤ others → strings_within steps bytes ≡ strings_within others bytes
+unfolding strings_within
+enough_steps zero zero bytes enough also = refl
+enough_steps zero (suc others) [] enough also = refl
+enough_steps zero (suc others) (size ∷ more) enough also = absurd (omega arith)
+enough_steps (suc steps) zero [] enough also = refl
+enough_steps (suc steps) zero (size ∷ more) enough also = absurd (omega arith)
+enough_steps (suc steps) (suc others) bytes enough also = by (character_string bytes) refl (λ rest h k. enough_steps steps others rest h k) where
+  by : (read : Option (List ℕ × List ℕ)) → character_string bytes ≡ read → ((rest : List ℕ) → length rest ≤ steps → length rest ≤ others → strings_within steps rest ≡ strings_within others rest)
+      → then_strings (λ more. strings_within steps more) read ≡ then_strings (λ more. strings_within others more) read
+  by None e again = refl
+  by (Some (found, rest)) e again =
+      let less = text_shorter bytes found rest e in
+      ap (λ (l : List (List ℕ)). found ∷ l) (again rest (omega arith) (omega arith))
+
+pub first_string : (bytes found rest : List ℕ) → character_string bytes ≡ Some (found, rest) → strings_in bytes ≡ found ∷ strings_in rest
+unfolding strings_in strings_within
+first_string [] found rest e = absurd cc
+first_string (size ∷ more) found rest e =
+    let less = text_shorter (size ∷ more) found rest e in
+    ap (then_strings (λ (l : List ℕ). strings_within (length more) l)) e
+    ∙ ap (λ (l : List (List ℕ)). found ∷ l) (enough_steps (length more) (length rest) rest (omega arith) (omega arith))
+
+pub no_string : (bytes : List ℕ) → character_string bytes ≡ None → strings_in bytes ≡ []
+unfolding strings_in strings_within
+no_string [] e = refl
+no_string (size ∷ more) e = ap (then_strings (λ (l : List ℕ). strings_within (length more) l)) e
+
+-- ---- the test
+
+-- what is left answers for the whole
+pub record CharacterStringsLeft (bytes rest : List ℕ) : Type 0 where
+  pub steps : ℕ
+  pub enough : length rest < steps
+  pub same : character_strings_within steps rest ≡ is_text_data bytes
+
+pub character_strings_start : (bytes : List ℕ) → 0 < length bytes → length bytes ≤ 65535 → CharacterStringsLeft bytes bytes
+unfolding is_text_data is_character_strings
+character_strings_start [] some few = absurd (omega arith)
+character_strings_start (x ∷ bytes) some few =
+    let short : ltb 65535 (length (x ∷ bytes)) ≡ false = le-ltb _ _ few in
+    record { steps = suc (length (x ∷ bytes)); enough = omega arith; same = rw short refl }
+
+pub character_strings_done : (bytes rest : List ℕ) → CharacterStringsLeft bytes rest → length rest ≡ 0 → is_text_data bytes ≡ true
+unfolding character_strings_within
+character_strings_done bytes [] left e = by left.steps left.enough left.same where
+  by : (steps : ℕ) → 0 < steps → character_strings_within steps [] ≡ is_text_data bytes → is_text_data bytes ≡ true
+  by zero some same = absurd (omega arith)
+  by (suc steps) some same = sym same
+character_strings_done bytes (x ∷ rest) left e = absurd (omega arith)
+
+pub character_strings_bad : (bytes rest : List ℕ) → CharacterStringsLeft bytes rest → 0 < length rest → character_string rest ≡ None → is_text_data bytes ≡ false
+unfolding character_strings_within
+character_strings_bad bytes [] left some e = absurd (omega arith)
+character_strings_bad bytes (x ∷ rest) left some e = by left.steps left.enough left.same where
+  by : (steps : ℕ) → length (x ∷ rest) < steps → character_strings_within steps (x ∷ rest) ≡ is_text_data bytes → is_text_data bytes ≡ false
+  by zero enough same = absurd (omega arith)
+  by (suc steps) enough same = sym same ∙ ap (after_text (λ more. character_strings_within steps more)) e
+
+pub character_strings_step : (bytes rest found later : List ℕ) → CharacterStringsLeft bytes rest → 0 < length rest → character_string rest ≡ Some (found, later) → CharacterStringsLeft bytes later
+unfolding character_strings_within
+character_strings_step bytes [] found later left some e = absurd (omega arith)
+character_strings_step bytes (x ∷ rest) found later left some e = by left.steps left.enough left.same where
+  by : (steps : ℕ) → length (x ∷ rest) < steps → character_strings_within steps (x ∷ rest) ≡ is_text_data bytes → CharacterStringsLeft bytes later
+  by zero enough same = absurd (omega arith)
+  by (suc steps) enough same =
+      let less = text_shorter (x ∷ rest) found later e in
+      record { steps = steps; enough = omega arith; same = sym (ap (after_text (λ more. character_strings_within steps more)) e) ∙ same }
+
+-- no string, and more octets than a size can say
+pub none_read : (bytes : List ℕ) → length bytes ≡ 0 → is_text_data bytes ≡ false
+unfolding is_text_data is_character_strings
+none_read [] e = refl
+none_read (x ∷ bytes) e = absurd (omega arith)
+
+pub many_read : (bytes : List ℕ) → 65535 < length bytes → is_text_data bytes ≡ false
+unfolding is_text_data
+many_read bytes many = rw (lt-ltb 65535 (length bytes) many) refl
+
+-- ---- equality
+
+pub same_is : (a b : List (List ℕ)) → IsTrue (same_strings a b) ↔ (lowered a ≡ lowered b)
+same_is a b = (lowered_from_same a b, λ e. sym (pointwise-map str_to_ascii_lowercase (pointwise _) a b) ∙ (pointwise_decides bytes_decides (lowered a) (lowered b)).1 e)
+
+-- ---- strings as fields
+
+pub strings_as_fields : (named uncompressed : List (List ℕ) → List (List ℕ) → Bool) (a b : List (List ℕ)) → same_strings a b ≡ fields_eq named uncompressed same_charstr (map Sized a) (map Sized b)
+strings_as_fields named uncompressed a b = sym (pointwise-map Sized (field_eq named uncompressed same_charstr) a b)
+
+pub strings_fed : (named uncompressed : List (List ℕ) → List (List ℕ)) (strings : List (List ℕ)) → strings_writes strings ≡ fields_writes named uncompressed charstr_writes (map Sized strings)
+strings_fed named uncompressed [] = refl
+strings_fed named uncompressed (string ∷ strings) = ap (λ (l : List (List ℕ)). charstr_wire (str_to_ascii_lowercase string) ∷ l) (strings_fed named uncompressed strings)

@@ -1,0 +1,107 @@
+-- The fields that an RDATA format reads are of its kinds, so that the numbers of two such lists have the same widths.
+use Rattle.std.proofs.Common.{◌≡◌, ℕ, true, List, [], ◌∷◌, ◌++◌, Option, Some, None, refl, sym, subst, ◌∙◌}
+use Rattle.std.specs.Prelude.{map}
+use Rattle.std.proofs.lemmas.Option.{some_pair_parts}
+use Rattle.dns_wire.specs.Names.{plain_name}
+use Rattle.dns_wire.specs.Reading.{octet, octets, number, all_of}
+use Rattle.dns_record.specs.Data.{data_as}
+use Rattle.dns_record.specs.Fields.{Field}
+use Rattle.dns_record.specs.Fields.FieldOf.{Compressible, Uncompressed, Raw, Sized, Byte, Number}
+use Rattle.dns_record.specs.Kinds.{Kind, field_of, fields_of}
+use Rattle.dns_record.specs.Kinds.Kind.{OneByte, OneNumber, SoMany, CompressibleName, UncompressedName, CharacterString, CharacterStrings, Options, TypeBitMaps, NonEmptyTypeBitMaps, Rest}
+use Rattle.dns_record.specs.Options.{options}
+use Rattle.dns_record.specs.Formats.{rdata_format, format_txt}
+use Rattle.dns_record.specs.CharacterStrings.{character_string, character_strings}
+use Rattle.dns_record.specs.TypeBitMaps.{bitmap, some_bitmap}
+use Rattle.dns_record.proofs.Stepped.{stepped}
+use Rattle.dns_rdata.specs.Boxed.{is_readable, spelled}
+use Rattle.dns_rdata.specs.FormatLemmas.{put_in, spelled_is}
+
+-- a field that is read for a kind
+abbrev pub OfKind : Kind → Field → Type 0
+OfKind OneByte (Byte b) = Unit {0}
+OfKind (OneNumber w) (Number v n) = v ≡ w
+OfKind (SoMany n) (Raw octets) = Unit {0}
+OfKind CompressibleName (Compressible labels) = Unit {0}
+OfKind UncompressedName (Uncompressed labels) = Unit {0}
+OfKind CharacterString (Sized octets) = Unit {0}
+OfKind CharacterStrings (Raw octets) = Unit {0}
+OfKind Options (Raw octets) = Unit {0}
+OfKind TypeBitMaps (Raw octets) = Unit {0}
+OfKind NonEmptyTypeBitMaps (Raw octets) = Unit {0}
+OfKind Rest (Raw octets) = Unit {0}
+OfKind kind field = ⊥
+
+-- fields that are read for kinds
+abbrev pub OfKinds : List Kind → List Field → Type 0
+OfKinds [] [] = Unit {0}
+OfKinds (kind ∷ kinds) (field ∷ fields) = OfKind kind field × OfKinds kinds fields
+OfKinds kinds fields = ⊥
+
+-- ---- what was read
+
+field_shaped : (kind : Kind) (bytes : List ℕ) (field : Field) (rest : List ℕ) → field_of plain_name kind bytes ≡ Some (field, rest) → OfKind kind field
+field_shaped OneByte bytes field rest e = subst (OfKind OneByte) (put_in Byte (octet bytes) field rest e).is tt
+field_shaped (OneNumber w) bytes field rest e = subst (OfKind (OneNumber w)) (put_in (Number w) (number w bytes) field rest e).is refl
+field_shaped (SoMany n) bytes field rest e = subst (OfKind (SoMany n)) (put_in Raw (octets n bytes) field rest e).is tt
+field_shaped CompressibleName bytes field rest e = subst (OfKind CompressibleName) (put_in Compressible (plain_name bytes) field rest e).is tt
+field_shaped UncompressedName bytes field rest e = subst (OfKind UncompressedName) (put_in Uncompressed (plain_name bytes) field rest e).is tt
+field_shaped CharacterString bytes field rest e = subst (OfKind CharacterString) (put_in Sized (character_string bytes) field rest e).is tt
+field_shaped CharacterStrings bytes field rest e = subst (OfKind CharacterStrings) (put_in Raw (character_strings bytes) field rest e).is tt
+field_shaped Options bytes field rest e = subst (OfKind Options) (put_in Raw (options bytes) field rest e).is tt
+field_shaped TypeBitMaps bytes field rest e = subst (OfKind TypeBitMaps) (put_in Raw (bitmap bytes) field rest e).is tt
+field_shaped NonEmptyTypeBitMaps bytes field rest e = subst (OfKind NonEmptyTypeBitMaps) (put_in Raw (some_bitmap bytes) field rest e).is tt
+field_shaped Rest bytes field rest e = subst (OfKind Rest) (some_pair_parts (Raw bytes) field [] rest e).0 tt
+
+fields_shaped : (kinds : List Kind) (bytes : List ℕ) (fields : List Field) (rest : List ℕ) → fields_of plain_name kinds bytes ≡ Some (fields, rest) → OfKinds kinds fields
+fields_shaped [] bytes fields rest e = subst (OfKinds []) (some_pair_parts [] fields bytes rest e).0 tt
+fields_shaped (kind ∷ kinds) bytes fields rest e =
+    let f = stepped (field_of plain_name kind bytes) _ (fields, rest) e in
+    let o = stepped (fields_of plain_name kinds f.value.1) _ (fields, rest) f.later in
+    let same = some_pair_parts (f.value.0 ∷ o.value.0) fields o.value.1 rest o.later in
+    subst (OfKinds (kind ∷ kinds)) same.0 (field_shaped kind bytes f.value.0 f.value.1 f.first, fields_shaped kinds f.value.1 o.value.0 o.value.1 o.first)
+
+data_shaped : (rtype : ℕ) (bytes : List ℕ) (fields : List Field) → data_as plain_name rtype bytes ≡ Some fields → OfKinds (rdata_format rtype) fields
+unfolding data_as
+data_shaped rtype bytes fields e = by (fields_of plain_name (rdata_format rtype) bytes) refl e where
+  by : (read : Option (List Field × List ℕ)) → fields_of plain_name (rdata_format rtype) bytes ≡ read → all_of read ≡ Some fields → OfKinds (rdata_format rtype) fields
+  by None is h = absurd cc
+  by (Some (found, [])) is h =
+      let same : found ≡ fields = cc in
+      subst (OfKinds (rdata_format rtype)) same (fields_shaped (rdata_format rtype) bytes found [] is)
+  by (Some (found, x ∷ rest)) is h = absurd cc
+
+pub spelled_shaped : (rtype : ℕ) (bytes : List ℕ) → is_readable rtype bytes ≡ true → OfKinds (rdata_format rtype) (spelled rtype bytes)
+spelled_shaped rtype bytes e = data_shaped rtype bytes (spelled rtype bytes) (spelled_is rtype bytes e)
+
+-- TXT data are strings in one field
+pub text_shaped : (fields : List Field) → OfKinds format_txt fields → (octets : List ℕ) × (fields ≡ Raw octets ∷ [])
+text_shaped [] p = absurd p
+text_shaped (Raw octets ∷ []) p = (octets, refl)
+text_shaped (field ∷ []) p = absurd p.0
+text_shaped (field ∷ other ∷ fields) p = absurd p.1
+
+-- ---- widths
+
+-- where both are numbers, they have as many bits
+abbrev pub SameWidth : Field → Field → Type 0
+SameWidth (Number v a) (Number w b) = v ≡ w
+SameWidth f g = Unit {0}
+
+abbrev pub SameWidths : List Field → List Field → Type 0
+SameWidths (f ∷ fs) (g ∷ gs) = SameWidth f g × SameWidths fs gs
+SameWidths fs gs = Unit {0}
+
+width_of_kind : (kind : Kind) (f g : Field) → OfKind kind f → OfKind kind g → SameWidth f g
+width_of_kind (OneNumber w) (Number u a) (Number v b) p q = p ∙ sym q
+width_of_kind kind (Number u a) (Number v b) p q = absurd p
+width_of_kind kind f g p q = tt
+
+pub widths_of_format : (kinds : List Kind) (fs gs : List Field) → OfKinds kinds fs → OfKinds kinds gs → SameWidths fs gs
+widths_of_format (kind ∷ kinds) (f ∷ fs) (g ∷ gs) p q = (width_of_kind kind f g p.0 q.0, widths_of_format kinds fs gs p.1 q.1)
+widths_of_format [] (f ∷ fs) (g ∷ gs) p q = absurd p
+widths_of_format kinds fs gs p q = tt
+
+pub widths_of_strings : (strings others : List (List ℕ)) → SameWidths (map Sized strings ++ []) (map Sized others ++ [])
+widths_of_strings (a ∷ strings) (b ∷ others) = (tt, widths_of_strings strings others)
+widths_of_strings strings others = tt

@@ -1,0 +1,166 @@
+-- The places that are recorded after a name is written, in words.
+use Rattle.std.proofs.Common.{◌≡◌, ℕ, zero, suc, ◌+◌, ◌-◌, ◌<◌, ◌≤◌, ◌⊎◌, inl, inr, Bool, true, false, cond, List, [], ◌∷◌, ◌++◌, length, take, drop, refl, sym, ap, subst, ◌∙◌, append_assoc, arith}
+use Rattle.std.specs.Prelude.{slice_index, filter, Contains}
+use Rattle.std.specs.List.{AllByRecursion}
+use Rattle.std.proofs.lemmas.Bool.{cases_Bool}
+use Rattle.std.proofs.lemmas.Bool.Decides.{nat_tests}
+use Rattle.std.proofs.lemmas.List.{length-append, take-append-drop, take-take, take_all, take_at}
+use Rattle.std.proofs.lemmas.List.Elements.{Contains-append_left, Contains-append_right, Contains-append_cases}
+use Rattle.std.proofs.Math.Seq.{get_or-append_seam}
+use Rattle.dns_wire.specs.Compression.{BeginsAt, EndsLabels, is_label_size, is_within_reach, label_places, with_more, recorded}
+use Rattle.dns_wire.specs.Names.{IsLabel, labels_wire}
+use Rattle.dns_wire.specs.declared.sizes.TheConstants.{LAST_PLACE, MAX_PLACES}
+use Rattle.dns_wire.proofs.Noting.{label_step, filter_step}
+use Rattle.dns_wire.proofs.Walk.{labels_wire_long}
+
+-- ---- where labels begin
+
+abbrev offsets : ℕ → List (List ℕ) → List ℕ
+offsets start [] = []
+offsets start (label ∷ labels) = start ∷ offsets (start + 1 + length label) labels
+
+labels_at : (labels : List (List ℕ)) (most : ℕ) (contents tail : List ℕ) → AllByRecursion IsLabel labels → EndsLabels tail → length labels < most
+    → label_places most (contents ++ (labels_wire labels ++ tail)) (length contents) ≡ offsets (length contents) labels
+labels_at [] zero contents tail are ends long = absurd (omega arith)
+labels_at [] (suc most) contents [] are ends long = absurd ends
+labels_at [] (suc most) contents (octet ∷ rest) are ends long =
+    let text : List ℕ = contents ++ octet ∷ rest in
+    let here : slice_index text (length contents) ≡ octet = get_or-append_seam contents octet rest 0 in
+    let none : is_label_size (slice_index text (length contents)) ≡ false = ap is_label_size here ∙ no_size octet ends in
+    label_step text most (length contents) false none where
+      no_size : (octet : ℕ) → (octet ≡ 0) ⊎ (64 ≤ octet) → is_label_size octet ≡ false
+      no_size octet (inl is) = rw is refl
+      no_size octet (inr high) = grind (arith, nat_tests)
+labels_at (label ∷ labels) zero contents tail are ends long = absurd (omega arith)
+labels_at (label ∷ labels) (suc most) contents tail are ends long =
+    let rest : List ℕ = label ++ labels_wire labels in
+    let text : List ℕ = contents ++ (length label ∷ (rest ++ tail)) in
+    let here : slice_index text (length contents) ≡ length label = get_or-append_seam contents (length label) (rest ++ tail) 0 in
+    let some : 0 < length label = are.0.0 in
+    let few : length label < 64 = are.0.1 in
+    let size : is_label_size (length label) ≡ true = grind (arith, nat_tests) in
+    let longer : List ℕ = contents ++ (length label ∷ label) in
+    let long_is : length longer ≡ length contents + 1 + length label = length-append contents (length label ∷ label) ∙ omega arith in
+    let same : text ≡ longer ++ (labels_wire labels ++ tail) =
+    ap (λ (l : List ℕ). contents ++ (length label ∷ l)) (append_assoc label (labels_wire labels) tail) ∙ sym (append_assoc contents (length label ∷ label) (labels_wire labels ++ tail)) in
+    label_step text most (length contents) true (ap is_label_size here ∙ size)
+    ∙ ap (λ (n : ℕ). length contents ∷ label_places most text (length contents + 1 + n)) here
+    ∙ ap (λ (l : List ℕ). length contents ∷ label_places most l (length contents + 1 + length label)) same
+    ∙ ap (λ (n : ℕ). length contents ∷ label_places most (longer ++ (labels_wire labels ++ tail)) n) (sym long_is)
+    ∙ ap (λ (l : List ℕ). length contents ∷ l) (labels_at labels most longer tail are.1 ends (omega (arith, long)))
+    ∙ ap (λ (n : ℕ). length contents ∷ offsets n labels) long_is
+
+further_in : (start : ℕ) (label : List ℕ) (labels : List (List ℕ)) (place : ℕ) → BeginsAt (start + 1 + length label) labels place → BeginsAt start (label ∷ labels) place
+further_in start label labels place b = record {
+  before = label ∷ b.before;
+  label = b.label;
+  others = b.others;
+  labels_is = ap (λ (l : List (List ℕ)). label ∷ l) b.labels_is;
+  place_is = b.place_is ∙ omega (arith, length-append label (labels_wire b.before));
+}
+
+only : (x y : ℕ) → Contains (x ∷ []) y → x ≡ y
+only x y (zero, lt, is) = is
+only x y (suc k, lt, is) = absurd (omega arith)
+
+itself : (x : ℕ) → Contains (x ∷ []) x
+itself x = (0, omega arith, refl)
+
+offsets_in : (labels : List (List ℕ)) (start place : ℕ) → Contains (offsets start labels) place → BeginsAt start labels place
+offsets_in [] start place has = absurd (omega (arith, has.1))
+offsets_in (label ∷ labels) start place has =
+    elim (Contains-append_cases (start ∷ []) (offsets (start + 1 + length label) labels) place has) [
+      | inl first ↦ record { before = []; label = label; others = labels; labels_is = refl; place_is = sym (only start place first) ∙ omega arith }
+      | inr later ↦ further_in start label labels place (offsets_in labels (start + 1 + length label) place later)
+    ]
+
+offsets_have : (before : List (List ℕ)) (start : ℕ) (label : List ℕ) (others : List (List ℕ)) → Contains (offsets start (before ++ label ∷ others)) (start + length (labels_wire before))
+offsets_have [] start label others =
+    subst (Contains (start ∷ offsets (start + 1 + length label) others)) (omega arith)
+    (Contains-append_left (start ∷ []) (offsets (start + 1 + length label) others) start (itself start))
+offsets_have (first ∷ before) start label others =
+    let there : start + 1 + length first + length (labels_wire before) ≡ start + length (labels_wire (first ∷ before)) = omega (arith, length-append first (labels_wire before)) in
+    Contains-append_right (start ∷ []) (offsets (start + 1 + length first) (before ++ label ∷ others)) (start + length (labels_wire (first ∷ before)))
+    (subst (Contains (offsets (start + 1 + length first) (before ++ label ∷ others))) there (offsets_have before (start + 1 + length first) label others))
+
+offsets_few : (labels : List (List ℕ)) (start : ℕ) → length (offsets start labels) ≡ length labels
+offsets_few [] start = refl
+offsets_few (label ∷ labels) start = ap suc (offsets_few labels (start + 1 + length label))
+
+-- ---- those within reach
+
+reached : (xs : List ℕ) (place : ℕ) → Contains xs place → is_within_reach place ≡ true → Contains (filter is_within_reach xs) place
+reached [] place has low = absurd (omega (arith, has.1))
+reached (x ∷ xs) place has low = by (is_within_reach x) refl (λ later. reached xs place later low) (Contains-append_cases (x ∷ []) xs place has) where
+  by : (b : Bool) → is_within_reach x ≡ b → (Contains xs place → Contains (filter is_within_reach xs) place) → Contains (x ∷ []) place ⊎ Contains xs place → Contains (filter is_within_reach (x ∷ xs)) place
+  by true e more (inl first) = subst (λ (l : List ℕ). Contains l place) (sym (filter_step x xs true e)) (Contains-append_left (x ∷ []) (filter is_within_reach xs) place first)
+  by true e more (inr later) = subst (λ (l : List ℕ). Contains l place) (sym (filter_step x xs true e)) (Contains-append_right (x ∷ []) (filter is_within_reach xs) place (more later))
+  by false e more (inl first) = absurd (let h : is_within_reach place ≡ false = ap is_within_reach (sym (only x place first)) ∙ e in let g = sym low ∙ h in cc)
+  by false e more (inr later) = subst (λ (l : List ℕ). Contains l place) (sym (filter_step x xs false e)) (more later)
+
+in_reach : (xs : List ℕ) (place : ℕ) → Contains (filter is_within_reach xs) place → Contains xs place × (is_within_reach place ≡ true)
+in_reach [] place has = absurd (omega (arith, has.1))
+in_reach (x ∷ xs) place has = by (is_within_reach x) refl (λ later. in_reach xs place later) where
+  by : (b : Bool) → is_within_reach x ≡ b → (Contains (filter is_within_reach xs) place → Contains xs place × (is_within_reach place ≡ true)) → Contains (x ∷ xs) place × (is_within_reach place ≡ true)
+  by false e more =
+      let m = more (subst (λ (l : List ℕ). Contains l place) (filter_step x xs false e) has) in
+      (Contains-append_right (x ∷ []) xs place m.0, m.1)
+  by true e more =
+      elim (Contains-append_cases (x ∷ []) (filter is_within_reach xs) place (subst (λ (l : List ℕ). Contains l place) (filter_step x xs true e) has)) [
+        | inl first ↦ (Contains-append_left (x ∷ []) xs place first, ap is_within_reach (sym (only x place first)) ∙ e)
+        | inr later ↦ let m = more later in (Contains-append_right (x ∷ []) xs place m.0, m.1)
+      ]
+
+reached_few : (xs : List ℕ) → length (filter is_within_reach xs) ≤ length xs
+reached_few [] = omega arith
+reached_few (x ∷ xs) = by (is_within_reach x) refl (reached_few xs) where
+  by : (b : Bool) → is_within_reach x ≡ b → length (filter is_within_reach xs) ≤ length xs → length (filter is_within_reach (x ∷ xs)) ≤ length (x ∷ xs)
+  by true e few = omega (arith, ap length (filter_step x xs true e), few)
+  by false e few = omega (arith, ap length (filter_step x xs false e), few)
+
+-- ---- the places afterwards
+
+from_take : (n : ℕ) (xs : List ℕ) (place : ℕ) → Contains (take n xs) place → Contains xs place
+from_take n xs place has = subst (λ (l : List ℕ). Contains l place) (take-append-drop n xs) (Contains-append_left (take n xs) (drop n xs) place has)
+
+written_places : (contents places tail : List ℕ) (labels : List (List ℕ)) → AllByRecursion IsLabel labels → EndsLabels tail
+    → recorded places (contents ++ (labels_wire labels ++ tail)) (length contents) ≡ take MAX_PLACES (places ++ filter is_within_reach (offsets (length contents) labels))
+written_places contents places [] labels are ends = absurd ends
+written_places contents places (octet ∷ rest) labels are ends =
+    let written : List ℕ = contents ++ (labels_wire labels ++ octet ∷ rest) in
+    let long : length written ≡ length contents + (length (labels_wire labels) + suc (length rest)) =
+    length-append contents (labels_wire labels ++ octet ∷ rest) ∙ ap (λ (n : ℕ). length contents + n) (length-append (labels_wire labels) (octet ∷ rest)) in
+    ap (λ (l : List ℕ). take MAX_PLACES (places ++ filter is_within_reach l))
+    (labels_at labels (length written - length contents) contents (octet ∷ rest) are ends (omega (arith, long, labels_wire_long labels)))
+
+pub places_stay : (contents places : List ℕ) (start : ℕ) → length places ≤ MAX_PLACES → take (length places) (recorded places contents start) ≡ places
+places_stay contents places start few =
+    let more : List ℕ = filter is_within_reach (label_places (length contents - start) contents start) in
+    take-take (length places) MAX_PLACES (places ++ more) few ∙ take_at places more (length places) refl
+
+pub each_recorded : (contents places tail : List ℕ) (labels : List (List ℕ)) (place : ℕ) → AllByRecursion IsLabel labels → EndsLabels tail → length places + length labels ≤ MAX_PLACES
+    → BeginsAt (length contents) labels place → place ≤ LAST_PLACE → Contains (recorded places (contents ++ (labels_wire labels ++ tail)) (length contents)) place
+each_recorded contents places tail labels place are ends room b low =
+    let found : List ℕ = filter is_within_reach (offsets (length contents) labels) in
+    let few : length (places ++ found) ≤ MAX_PLACES = omega (arith, room, length-append places found, reached_few (offsets (length contents) labels), offsets_few labels (length contents)) in
+    let here : Contains (offsets (length contents) labels) place =
+    subst (λ (l : List (List ℕ)). Contains (offsets (length contents) l) place) (sym b.labels_is)
+    (subst (Contains (offsets (length contents) (b.before ++ b.label ∷ b.others))) (sym b.place_is) (offsets_have b.before (length contents) b.label b.others)) in
+    let test : is_within_reach place ≡ true = grind (arith, nat_tests) in
+    subst (λ (l : List ℕ). Contains l place) (sym (written_places contents places tail labels are ends ∙ take_all MAX_PLACES (places ++ found) few))
+    (Contains-append_right places found place (reached (offsets (length contents) labels) place here test))
+
+pub no_other_recorded : (contents places tail : List ℕ) (labels : List (List ℕ)) (place : ℕ) → AllByRecursion IsLabel labels → EndsLabels tail
+    → Contains (recorded places (contents ++ (labels_wire labels ++ tail)) (length contents)) place → Contains places place ⊎ (BeginsAt (length contents) labels place × place ≤ LAST_PLACE)
+no_other_recorded contents places tail labels place are ends has =
+    let found : List ℕ = filter is_within_reach (offsets (length contents) labels) in
+    let there : Contains (places ++ found) place = from_take MAX_PLACES (places ++ found) place (subst (λ (l : List ℕ). Contains l place) (written_places contents places tail labels are ends) has) in
+    elim (Contains-append_cases places found place there) [
+      | inl old ↦ inl old
+      | inr new ↦
+          let m = in_reach (offsets (length contents) labels) place new in
+          let low : place ≤ LAST_PLACE = within place m.1 in
+          inr (offsets_in labels (length contents) place m.0, low)
+    ] where
+      within : (place : ℕ) → is_within_reach place ≡ true → place ≤ LAST_PLACE
+      within place e = grind (arith, nat_tests)
