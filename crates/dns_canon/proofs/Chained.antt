@@ -8,7 +8,7 @@ use Rattle.dns_message.specs.Messages.Reading.{Stopped, Whole}
 use Rattle.dns_message.specs.Parsing.{parsed_message, given_count, next_start, has_ended, ahead, Parsed, GivesNext}
 use Rattle.dns_message.specs.Seen.{item_seen}
 use Rattle.dns_message.specs.declared.parser.MessageParser.{MessageParser}
-use Rattle.dns_message.specs.declared.parser.Place.{Place}
+use Rattle.dns_message.specs.declared.parser.ItemPosition.{ItemPosition}
 use Rattle.dns_message.proofs.Parsed.{starts, gives, refuses, ends}
 use Rattle.dns_message.proofs.SlotLemmas.{among_append}
 
@@ -55,23 +55,23 @@ read_none m parser not_opt whole start none = record {
   not_opt_is = none;
 }
 
-pub read_more : (m : List ℕ) (old new : MessageParser) (place : Place) (item : Parsed) (not_opt more : List RecordValue) → ReadSoFar m old not_opt → parsed_message new ≡ parsed_message old → GivesNext {E = ParseError} old (Some (place, Ok item)) new → more ≡ not_opt ++ not_opt_of (item_seen item ∷ []) → ReadSoFar m new more
-read_more m old new place item not_opt more so same given is = record {
+pub read_more : (m : List ℕ) (old new : MessageParser) (position : ItemPosition) (item : Parsed) (not_opt more : List RecordValue) → ReadSoFar m old not_opt → parsed_message new ≡ parsed_message old → GivesNext {E = ParseError} old (Some (position, Ok item)) new → more ≡ not_opt ++ not_opt_of (item_seen item ∷ []) → ReadSoFar m new more
+read_more m old new position item not_opt more so same given is = record {
   of_message = same ∙ so.of_message;
   items = so.items ++ item_seen item ∷ [];
-  read = one_more so.items (item_seen item) (ahead new) ∙ ap (with_items so.items) (sym (gives ParseError old new place item same given)) ∙ so.read;
+  read = one_more so.items (item_seen item) (ahead new) ∙ ap (with_items so.items) (sym (gives ParseError old new position item same given)) ∙ so.read;
   not_opt_is = is ∙ ap (λ (l : List RecordValue). l ++ not_opt_of (item_seen item ∷ [])) so.not_opt_is ∙ sym (not_opt_append so.items (item_seen item ∷ []));
 }
 
-pub read_fails : (m : List ℕ) (old new : MessageParser) (place : Place) (error : ParseError) (not_opt : List RecordValue) → ReadSoFar m old not_opt → GivesNext old (Some (place, Err error)) new → BadAt m place.section place.index
-read_fails m old new place error not_opt so refused =
-    (next_start old, (so.items, sym so.read ∙ ap (with_items so.items) (refuses old new place error refused) ∙ all_stopped so.items place.section place.index (next_start old)))
+pub read_fails : (m : List ℕ) (old new : MessageParser) (position : ItemPosition) (error : ParseError) (not_opt : List RecordValue) → ReadSoFar m old not_opt → GivesNext old (Some (position, Err error)) new → BadAt m position.section position.index
+read_fails m old new position error not_opt so refused =
+    (next_start old, (so.items, sym so.read ∙ ap (with_items so.items) (refuses old new position error refused) ∙ all_stopped so.items position.section position.index (next_start old)))
 
 read_all : (m : List ℕ) (old new : MessageParser) (not_opt : List RecordValue) → ReadSoFar m old not_opt → GivesNext {E = ParseError} old None new → (rs : List RecordValue) × Valid m rs × (not_opt ≡ filter is_not_opt rs)
 read_all m old new not_opt so over =
     (records_among so.items, (so.items, next_start old, sym so.read ∙ ap (with_items so.items) (ends ParseError old new over) ∙ all_whole so.items (next_start old), refl), so.not_opt_is)
 
 -- where no item is given, all were
-pub read_over : (m : List ℕ) (old new : MessageParser) (not_opt : List RecordValue) (given : Option (Place × Result Parsed ParseError)) → ReadSoFar m old not_opt → GivesNext old given new → ((x : Place × Result Parsed ParseError) → ¬ (given ≡ Some x)) → (rs : List RecordValue) × Valid m rs × (not_opt ≡ filter is_not_opt rs)
+pub read_over : (m : List ℕ) (old new : MessageParser) (not_opt : List RecordValue) (given : Option (ItemPosition × Result Parsed ParseError)) → ReadSoFar m old not_opt → GivesNext old given new → ((x : ItemPosition × Result Parsed ParseError) → ¬ (given ≡ Some x)) → (rs : List RecordValue) × Valid m rs × (not_opt ≡ filter is_not_opt rs)
 read_over m old new not_opt None so over none = read_all m old new not_opt so over
 read_over m old new not_opt (Some x) so over none = absurd (none x refl)

@@ -7,8 +7,8 @@ use Rattle.std.proofs.lemmas.Bool.{agree_below, agree_below_at, and_parts, le-le
 use Rattle.std.proofs.lemmas.Fmt.{decimal_by_steps, decimal_nonempty, length-decimal-le}
 use Rattle.std.proofs.lemmas.List.{length-append}
 use Rattle.dns_wire.specs.Reading.{AreOctets}
-use Rattle.dns_label.specs.Text.{is_plain, Spells}
-use Rattle.dns_label.specs.Text.Spells.{ended, itself}
+use Rattle.dns_label.specs.Text.{is_plain, SpellsLabel}
+use Rattle.dns_label.specs.Text.SpellsLabel.{ended, itself}
 use Rattle.dns_message.proofs.Octets.{no_octets, one_more}
 use Rattle.dns_canon.specs.Generated.{numbered}
 
@@ -59,7 +59,7 @@ numbered_long word n small =
 
 -- ---- what they are
 
-pub plain_spells : (text : List ℕ) → AllByRecursion IsPlain text → Spells text text
+pub plain_spells : (text : List ℕ) → AllByRecursion IsPlain text → SpellsLabel text text
 plain_spells [] all = ended
 plain_spells (octet ∷ text) (one, all) = itself octet text text one.0 (plain_spells text all)
 

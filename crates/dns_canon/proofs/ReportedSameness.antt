@@ -1,4 +1,4 @@
--- What equal canonical lists tell of two messages.
+-- What equal canonical lists say of two messages.
 use Rattle.std.proofs.Common.{◌≡◌, ℕ, map, ◌⊎◌, inl, inr, Bool, true, false, List, [], ◌∷◌, ◌++◌, codes, refl, sym, ◌∙◌, subst}
 use Rattle.std.specs.Prelude.{◌↔◌}
 use Rattle.std.specs.Cmp.Lexicographic.{pointwise}
@@ -36,9 +36,9 @@ reported t u m n rs ss records others printed first second valid also sorted sor
 -- ---- in words
 
 -- what is printed is the line on the records of the messages that the parts spell
-tells : (t m n : List ℕ) (rs ss : List RecordValue) (printed : List ℕ) → Spells (first_text t) m → Spells (second_text t) n → Valid m rs → Valid n ss → Prints command.Same t printed
+says : (t m n : List ℕ) (rs ss : List RecordValue) (printed : List ℕ) → Spells (first_text t) m → Spells (second_text t) n → Valid m rs → Valid n ss → Prints command.Same t printed
     → ReportsSameness rs ss printed
-tells t m n rs ss printed first second valid also (m', n', rs', ss', first', second', valid', also', line) =
+says t m n rs ss printed first second valid also (m', n', rs', ss', first', second', valid', also', line) =
     let m-is : m' ≡ m = let e = sym first' ∙ first in cc in
     let n-is : n' ≡ n = let e = sym second' ∙ second in cc in
     let rs-is : rs' ≡ rs = valid_one m rs' rs (subst (λ (l : List ℕ). Valid l rs') m-is valid') valid in
@@ -47,7 +47,7 @@ tells t m n rs ss printed first second valid also (m', n', rs', ss', first', sec
 
 pub prints_same : (t m n : List ℕ) (rs ss : List RecordValue) → Spells (first_text t) m → Spells (second_text t) n → Valid m rs → Valid n ss → Prints command.Same t (codes "same" ++ 10 ∷ []) ↔ Same rs ss
 prints_same t m n rs ss first second valid also = (
-  λ prints. from (tells t m n rs ss (codes "same" ++ 10 ∷ []) first second valid also prints),
+  λ prints. from (says t m n rs ss (codes "same" ++ 10 ∷ []) first second valid also prints),
   λ same. (m, n, rs, ss, first, second, valid, also, inl (same, refl)),
 ) where
   from : ReportsSameness rs ss (codes "same" ++ 10 ∷ []) → Same rs ss
@@ -57,7 +57,7 @@ prints_same t m n rs ss first second valid also = (
 pub prints_different : (t m n : List ℕ) (rs ss : List RecordValue) → Spells (first_text t) m → Spells (second_text t) n → Valid m rs → Valid n ss
     → Prints command.Same t (codes "different" ++ 10 ∷ []) ↔ (¬ Same rs ss)
 prints_different t m n rs ss first second valid also = (
-  λ prints. from (tells t m n rs ss (codes "different" ++ 10 ∷ []) first second valid also prints),
+  λ prints. from (says t m n rs ss (codes "different" ++ 10 ∷ []) first second valid also prints),
   λ other. (m, n, rs, ss, first, second, valid, also, inr (other, refl)),
 ) where
   from : ReportsSameness rs ss (codes "different" ++ 10 ∷ []) → ¬ Same rs ss

@@ -1,4 +1,5 @@
 -- What a command calls for, by the text that it reads.
+use Rattle.dns_wire.specs.Octets.{Octets}
 use Rattle.dns_canon.specs.declared.words.TheConstants.{LIMIT, LIMIT_OF_TWO}
 use Rattle.std.specs.Prelude.{ℕ, ◌+◌, ◌≤◌, List, [], ◌∷◌, length, map, Option, Some, None, Bool, true, false, nat_lt, if◌then◌else◌}
 use Rattle.dns_wire.specs.Hexadecimal.{Spells, spelled, trim}
@@ -20,8 +21,8 @@ reads (Some Canon) = true
 reads (Some Same) = true
 reads (Some (Make count)) = false
 
--- the text that is read, as far as the source tells what it has left
-abbrev pub text_read : Option Command → Option (List ℕ) → Option (List ℕ)
+-- the text that is read, as far as the source reports what it has left
+abbrev pub text_read : Option Command → Option Octets → Option Octets
 text_read command left = if reads command then left else Some []
 
 -- the most octets of the text
@@ -31,7 +32,7 @@ limit_of Same = LIMIT_OF_TWO
 limit_of (Make count) = 0
 
 -- the texts of the messages in it
-abbrev pub texts_in : Command → List ℕ → List (List ℕ)
+abbrev pub texts_in : Command → Octets → List Octets
 texts_in Canon text = text ∷ []
 texts_in Same text = first_text text ∷ second_text text ∷ []
 texts_in (Make count) text = []
@@ -39,7 +40,7 @@ texts_in (Make count) text = []
 -- ---- the expected status
 
 -- the octets that each text spells; none where one of them spells none
-abbrev pub all_spelled : List (List ℕ) → Option (List (List ℕ))
+abbrev pub all_spelled : List Octets → Option (List Octets)
 all_spelled [] = Some []
 all_spelled (text ∷ texts) = do
   message ← spelled (trim text)
@@ -54,17 +55,17 @@ first_refusal number (Stopped items section index place ∷ later) = Item number
 first_refusal number (Whole items end ∷ later) = first_refusal (number + 1) later
 
 -- texts that are no digits are refused before any message
-abbrev pub on_messages : Option (List (List ℕ)) → Status
+abbrev pub on_messages : Option (List Octets) → Status
 on_messages None = BadHex
 on_messages (Some messages) = first_refusal 0 (map message_reading messages)
 
 -- the status that a text calls for, which is one: `expected_statuses_in_words` says it in other words
-abbrev pub expected_status : Option Command → List ℕ → Status
+abbrev pub expected_status : Option Command → Octets → Status
 expected_status None text = Usage
 expected_status (Some command) text = if nat_lt (limit_of command) (length text) then TooLong else on_messages (all_spelled (texts_in command text))
 
 -- ---- two messages
 
 -- the text has at most 262,144 octets, and its parts spell these messages
-abbrev pub SpellsBoth : List ℕ → List ℕ → List ℕ → Type 0
+abbrev pub SpellsBoth : Octets → Octets → Octets → Type 0
 SpellsBoth text m n = (length text ≤ LIMIT_OF_TWO) × Spells (first_text text) m × Spells (second_text text) n

@@ -1,4 +1,6 @@
 -- The records of `make`, the message that they make, and what is printed of it.
+use Rattle.dns_wire.specs.Compression.{written_octets}
+use Rattle.dns_wire.specs.Octets.{Octets, Labels}
 use Rattle.dns_wire.specs.declared.sizes.TheConstants.{HEADER_SIZE}
 use Rattle.std.specs.Prelude.{ℕ, zero, suc, ◌+◌, ◌/◌, ◌%◌, List, [], ◌∷◌, ◌++◌, codes, decimal, length, map, sum_by}
 use Rattle.std.specs.Int.{w16}
@@ -14,22 +16,22 @@ use Rattle.dns_message.specs.Order.{canonical_list}
 -- ---- the records
 
 -- a word and a number in decimal digits
-abbrev pub numbered : List ℕ → ℕ → List ℕ
+abbrev pub numbered : Octets → ℕ → Octets
 numbered word n = word ++ decimal n
 
 -- the owner of the record of a number: `h<i mod 97>.z<i mod 7>.Example.`
-abbrev pub generated_owner : ℕ → List (List ℕ)
+abbrev pub generated_owner : ℕ → Labels
 generated_owner i = numbered (codes "h") (i % 97) ∷ numbered (codes "z") (i % 7) ∷ codes "Example" ∷ []
 
 -- the server and the exchange in its data: `ns<i mod 5>.EXAMPLE.`, and `mx<i mod 3>.example.`
-abbrev pub generated_server : ℕ → List (List ℕ)
+abbrev pub generated_server : ℕ → Labels
 generated_server i = numbered (codes "ns") (i % 5) ∷ codes "EXAMPLE" ∷ []
 
-abbrev pub generated_exchange : ℕ → List (List ℕ)
+abbrev pub generated_exchange : ℕ → Labels
 generated_exchange i = numbered (codes "mx") (i % 3) ∷ codes "example" ∷ []
 
 -- the string in its data: `t<i>`
-abbrev pub generated_string : ℕ → List ℕ
+abbrev pub generated_string : ℕ → Octets
 generated_string i = numbered (codes "t") i
 
 -- the types take turns
@@ -64,13 +66,13 @@ generated count = map generated_record (range_with_len 0 count)
 -- ---- their message
 
 -- the octets after the header, where no name is known yet and each is shared from then on
-abbrev pub made : ℕ → List ℕ
-made count = (list_writes built (generated count) [] []).0
+abbrev pub made : ℕ → Octets
+made count = written_octets (list_writes built (generated count) [] [])
 
 -- ---- what is printed
 
 -- the number of canonical records, the number of their octets in all, and the size of the message, which has a header of 12 octets
-abbrev pub made_line : ℕ → List ℕ
+abbrev pub made_line : ℕ → Octets
 made_line count =
     codes "records " ++ (decimal (length (canonical_list (generated count)))
     ++ (codes " octets " ++ (decimal (sum_by length (canonical_list (generated count)))

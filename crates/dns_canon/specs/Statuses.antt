@@ -1,5 +1,6 @@
 -- How a run ends: codes, lines, and the status of each refusal.
-use Rattle.std.specs.Prelude.{ℕ, List, [], ◌∷◌, codes}
+use Rattle.std.specs.Prelude.{ℕ, [], ◌∷◌, codes}
+use Rattle.dns_wire.specs.Octets.{Octets}
 use Rattle.dns_text.specs.Notes.{note_line}
 use Rattle.dns_canon.specs.declared.error.CanonError.{CanonError}
 use Rattle.dns_canon.specs.declared.error.CanonError.TheVariants as canon
@@ -24,7 +25,7 @@ code_of Memory = 8
 -- ---- the line for a status
 
 -- the line that is noted for a status; nothing is noted for `Done`
-abbrev pub note_of : Status → List ℕ
+abbrev pub note_of : Status → Octets
 note_of Done = []
 note_of (Short message) = note_line (codes "short") (message ∷ [])
 note_of (Item message section index) = note_line (codes "item") (message ∷ section ∷ index ∷ [])

@@ -148,7 +148,7 @@ fn answer<S: Source, K: Sink>(alloc: Global, words: &Words, source: &mut S, sink
 }
 
 /// Writes the line for a status.
-fn tell<N: Sink>(notes: &mut N, status: Status) -> Result<(), Failed>
+fn report<N: Sink>(notes: &mut N, status: Status) -> Result<(), Failed>
     ensures quiet { status ≡ Status.Done → notes.new ≡ notes.old }
     ensures reported { Puts (N.written notes.old) (N.written notes.new) (note_of status) result }
     ensures cause { HasCause (N.faults notes.old) (N.faults notes.new) result }
@@ -183,7 +183,7 @@ pub fn run<S: Source, K: Sink, N: Sink>(
     sink: &mut K,
     notes: &mut N,
 ) -> Status
-    // Words that are no command are refused, whatever the source tells.
+    // Words that are no command are refused, whatever the source has.
     ensures usage { (result ≡ Status.Usage) ↔ (command_of words.now ≡ None) }
 
     // The answer is what the text calls for, or one that may come in its place.
@@ -221,6 +221,6 @@ pub fn run<S: Source, K: Sink, N: Sink>(
 {
     let status = answer(alloc, words, source, sink);
     // A fault of the notes changes no answer.
-    let _ = tell(notes, status);
+    let _ = report(notes, status);
     status
 }

@@ -1,6 +1,6 @@
 //! What follows from the definitions.
 
-ghost use Rattle.std.specs.Prelude.{◌≡◌, ◌≤◌, ◌<◌, ◌⊎◌, ◌↔◌, ℕ, List, [], ◌∷◌, ◌++◌, Some, None, codes, decimal, length};
+ghost use Rattle.std.specs.Prelude.{◌≡◌, ◌≤◌, ◌<◌, ◌⊎◌, ◌↔◌, ℕ, List, [], ◌∷◌, ◌++◌, Some, None, codes, decimal, length, IsTrue};
 ghost use Rattle.dns_wire.specs.Hexadecimal.{Spells, SpellsNothing, lines};
 ghost use Rattle.dns_message.specs.Messages.{RecordValue, Valid, BadAt};
 ghost use Rattle.dns_message.specs.Order.{canonical_list};
@@ -12,6 +12,7 @@ ghost use Rattle.dns_canon.specs.Words.{command_of};
 ghost use Rattle.dns_canon.specs.declared.words.TheConstants.{LIMIT, LIMIT_OF_TWO, MOST_RECORDS};
 ghost use Rattle.dns_wire.specs.declared.sizes.TheConstants.{HEADER_SIZE};
 
+use crate::error::CanonError;
 use crate::status::Status;
 use crate::words::Command;
 
@@ -69,4 +70,11 @@ pub fn expected_statuses_in_words()
     ensures same_too_long { (t : List ℕ) → (expected_status (Some Command.Same) t ≡ Status.TooLong) ↔ (LIMIT_OF_TWO < length t) }
     ensures make_done { (count : ℕ) → expected_status (Some (Command.Make count)) [] ≡ Status.Done }
     ensures usage { (t : List ℕ) → expected_status None t ≡ Status.Usage }
+{}
+
+/// Errors, statuses and commands are equal exactly where they are the same.
+pub fn equal_errors()
+    ensures canon { (a b : _) → IsTrue (⟦<CanonError as PartialEq>⟧.eq a b) ↔ (a ≡ b) }
+    ensures status { (a b : _) → IsTrue (⟦<Status as PartialEq>⟧.eq a b) ↔ (a ≡ b) }
+    ensures command { (a b : _) → IsTrue (⟦<Command as PartialEq>⟧.eq a b) ↔ (a ≡ b) }
 {}

@@ -17,7 +17,8 @@ pub use command::run;
 pub use dns_text::READ_CHUNK;
 pub use error::CanonError;
 pub use laws::{
-    answers_on_sameness, equal_lines, expected_statuses_in_words, parted_texts, words_of_commands,
+    answers_on_sameness, equal_errors, equal_lines, expected_statuses_in_words, parted_texts,
+    words_of_commands,
 };
 pub use status::Status;
 pub use words::{Command, LIMIT, LIMIT_OF_TWO, MOST_RECORDS, Words};

@@ -15,7 +15,7 @@ use std::alloc::Global;
 /// The fewest octets of a record: a root, and ten octets after it (RFC 1035 section 3.2.1).
 const FEWEST_OCTETS: usize = 11;
 
-/// Reads a whole message, and keeps its records but those of type OPT, in the message's order. Their data are borrowed by the
+/// Reads a whole message, and keeps its records but those of type OPT, in the message's order. Their data are borrowed from the
 /// message, and memory is taken once, for as many as the header counts and the contents can hold.
 pub(crate) fn read_records(
     alloc: Global,
@@ -31,11 +31,11 @@ pub(crate) fn read_records(
     let counted = usize::from(answers) + usize::from(authorities) + usize::from(additional);
     let held = parser.message().contents().len() / FEWEST_OCTETS;
     let mut records = Vec::with_capacity(alloc, counted.min(held))?;
-    while let Some((place, item)) = parser.next_item() {
+    while let Some((position, item)) = parser.next_item() {
         let Ok(item) = item else {
             return Err(CanonError::Item {
-                section: place.section,
-                index: place.index,
+                section: position.section,
+                index: position.index,
             });
         };
         if let Some(found) = CanonicalRecord::of(item) {

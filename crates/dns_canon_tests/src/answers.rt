@@ -11,7 +11,7 @@ pub(crate) const NEVER: u64 = 1000;
 #[derive(Clone, Copy)]
 pub(crate) struct Devices {
     /// The most octets that each takes or gives at a call, at least 1.
-    pub(crate) layout: [usize; 3],
+    pub(crate) pieces: [usize; 3],
     /// The call at which each fails.
     pub(crate) failing: [u64; 3],
     /// How many octets the sink holds, at most 200.
@@ -19,10 +19,10 @@ pub(crate) struct Devices {
 }
 
 impl Devices {
-    /// Devices of these parts that fail at these calls.
-    pub(crate) fn failing_at(layout: [usize; 3], failing: [u64; 3]) -> Devices {
+    /// Devices with pieces of at most these sizes, which fail at these calls.
+    pub(crate) fn failing_at(pieces: [usize; 3], failing: [u64; 3]) -> Devices {
         Devices {
-            layout,
+            pieces,
             failing,
             room: 200,
         }
@@ -78,9 +78,9 @@ pub(crate) fn answers(
     devices: Devices,
     (wanted, output, note): Wanted<'_>,
 ) -> bool {
-    let [source_piece, sink_piece, note_piece] = devices.layout;
-    let [read, write, layout_matches] = devices.failing;
-    let (reads, writes, notes) = ([read], [write], [layout_matches]);
+    let [source_piece, sink_piece, note_piece] = devices.pieces;
+    let [failing_read, failing_write, failing_note] = devices.failing;
+    let (reads, writes, notes) = ([failing_read], [failing_write], [failing_note]);
     let (mut room, mut line_room) = ([0u8; 200], [0u8; 20]);
     let mut source = source_of(text, source_piece, &reads);
     let mut sink = sink_into(&mut room[..devices.room.min(200)], sink_piece, &writes);

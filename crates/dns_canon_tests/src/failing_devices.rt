@@ -23,7 +23,7 @@ fn ends_at_read(
     answers(alloc, line, text, devices, wanted)
 }
 
-/// 156 octets in parts of seven take 23 reads, and another finds the end.
+/// 156 octets in pieces of seven take 23 reads, and another finds the end.
 #[test]
 fn each_read_of_canon_fails_in_turn(rt: HostRuntime) {
     for call in 0..25 {
@@ -40,7 +40,7 @@ fn each_read_of_canon_fails_in_turn(rt: HostRuntime) {
     }
 }
 
-/// 313 octets in parts of seven take 45 reads, and another finds the end.
+/// 313 octets in pieces of seven take 45 reads, and another finds the end.
 #[test]
 fn each_read_of_same_fails_in_turn(rt: HostRuntime) {
     for call in 0..47 {
@@ -51,14 +51,14 @@ fn each_read_of_same_fails_in_turn(rt: HostRuntime) {
     }
 }
 
-/// Whether `canon` for these digits, in parts of 4,096, ends as wanted where the source fails at a call.
+/// Whether `canon` for these digits, in pieces of 4,096, ends as wanted where the source fails at a call.
 fn ends_for_digits(alloc: Global, digits: &[u8], call: u64, wanted: Wanted<'_>) -> bool {
     let devices = Devices::failing_at([4096, 64, 64], [call, NEVER, NEVER]);
     let text = str::from_utf8(digits).unwrap_or("");
     answers(alloc, "canon", text, devices, wanted)
 }
 
-/// 131,073 digits in parts of 4,096 take 33 reads, and no read follows the one that finds the text too long.
+/// 131,073 digits in pieces of 4,096 take 33 reads, and no read follows the one that finds the text too long.
 #[test]
 fn no_read_follows_the_limit(rt: HostRuntime) {
     let digits = [b'0'; 131_073];
@@ -97,7 +97,7 @@ fn ends_at_write(
     answers(alloc, line, text, devices, wanted)
 }
 
-/// 152 octets in parts of seven take 22 writes, and another call flushes: where that fails, all lines are written.
+/// 152 octets in pieces of seven take 22 writes, and another call flushes: where that fails, all lines are written.
 #[test]
 fn each_write_of_canon_fails_in_turn(rt: HostRuntime) {
     for call in 0..24 {
@@ -124,7 +124,7 @@ fn each_write_of_a_word_fails_in_turn(rt: HostRuntime) {
     }
 }
 
-/// 31 octets in parts of seven take five writes, and another call flushes.
+/// 31 octets in pieces of seven take five writes, and another call flushes.
 #[test]
 fn each_write_of_make_fails_in_turn(rt: HostRuntime) {
     for call in 0..7 {
@@ -141,7 +141,7 @@ fn each_write_of_make_fails_in_turn(rt: HostRuntime) {
     }
 }
 
-/// 123 octets in parts of 40 take four reads, and another finds the end.
+/// 123 octets in pieces of 40 take four reads, and another finds the end.
 #[test]
 fn reads_of_two_messages_in_long_pieces_fail_in_turn(rt: HostRuntime) {
     for call in 0..5 {
@@ -170,7 +170,7 @@ fn reads_of_two_messages_in_long_pieces_fail_in_turn(rt: HostRuntime) {
     );
 }
 
-/// Five octets in parts of two take three writes, and another call flushes.
+/// Five octets in pieces of two take three writes, and another call flushes.
 #[test]
 fn writes_of_a_word_in_short_pieces_fail_in_turn(rt: HostRuntime) {
     let cases: [(u64, &[u8]); 4] = [(0, b""), (1, b"sa"), (2, b"same"), (3, b"same\n")];
@@ -231,7 +231,7 @@ fn worked_cases_of_devices(rt: HostRuntime) {
     ];
     for (name, text, read, write, room, written) in cases {
         let devices = Devices {
-            layout: [4096, 8, 64],
+            pieces: [4096, 8, 64],
             failing: [read, write, NEVER],
             room,
         };

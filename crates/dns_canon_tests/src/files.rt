@@ -31,7 +31,7 @@ fn writes_a_file(rt: &HostRuntime) -> io::Result<bool> {
     Ok(status == Status::Done && lines.as_slice() == ORDINARY_REPLY_LINES.as_bytes())
 }
 
-/// Whether a slice of ten octets takes ten of the first part, and then none, which is a write fault.
+/// Whether a slice of ten octets takes ten of the first piece, and then none, which is a write fault.
 fn fills_ten_octets(rt: &HostRuntime) -> io::Result<bool> {
     let mut buffer = [0u8; 10];
     let mut sink = WriteSink::new(buffer.as_mut_slice());

@@ -14,7 +14,7 @@ fn split_at<'a, T: SplitMessageBytes<'a>>(contents: &'a [u8], start: usize) -> O
     T::split_message_bytes(contents, start).ok()
 }
 
-/// Whether a value is written as the octets, to the prefix of twenty.
+/// Whether a value is written as the octets, at the start of twenty.
 fn writes<T: BuildBytes>(value: &T, octets: &[u8]) -> bool {
     let mut buffer = [0; 20];
     let left = match value.build_bytes(&mut buffer) {

@@ -1,5 +1,4 @@
 -- The crate's own lemmas.
-pub mod FlagBits
 mod CountedOptions
 pub mod Fronts
 pub mod Given

@@ -13,8 +13,8 @@ use dns_wire::{
     TruncationError, build_whole,
 };
 
-/// The bit DO (RFC 3225 section 3).
-const DNSSEC_OK: u16 = 0x8000;
+/// The place of the bit DO, counted from the lowest (RFC 3225 section 3).
+const DNSSEC_OK: u32 = 15;
 
 /// The flags of an EDNS record: 16 bits, two octets on the wire (RFC 6891 section 6.1.4).
 #[derive(Clone, Copy, Debug, Default, PartialEq, Eq, Hash)]
@@ -34,7 +34,7 @@ impl EdnsFlags {
     pub fn is_dnssec_ok(&self) -> bool
         ensures { IsTrue result ↔ (bit_at (flag_bits self.now) 15 ≡ 1) }
     {
-        self.bits.get() >> 15 & 1 == 1
+        self.bits.get() >> DNSSEC_OK & 1 == 1
     }
 
     /// The flags with the bit DO as given. Every other bit stays.
@@ -42,14 +42,8 @@ impl EdnsFlags {
         ensures set { bit_at (flag_bits result) 15 ≡ (if value then 1 else 0) }
         ensures others { (i : ℕ) → i ≢ 15 → bit_at (flag_bits result) i ≡ bit_at (flag_bits self) i }
     {
-        if value {
-            EdnsFlags {
-                bits: self.bits | DNSSEC_OK,
-            }
-        } else {
-            EdnsFlags {
-                bits: self.bits & !DNSSEC_OK,
-            }
+        EdnsFlags {
+            bits: self.bits.with_bit(DNSSEC_OK, value),
         }
     }
 }

@@ -6,7 +6,7 @@ ghost use Rattle.std.specs.Prelude.{◌≡◌, ◌↔◌, ◌≤◌, ◌<◌, �
 ghost use Rattle.dns_wire.specs.Building.{Builds};
 ghost use Rattle.dns_wire.specs.Reading.{Gives, plain_at};
 ghost use Rattle.dns_edns.specs.Options.{option_octets};
-ghost use Rattle.dns_edns.specs.Suiting.{Suited, suited, suited_option, seen_option, seen_item, code_of, content_of};
+ghost use Rattle.dns_edns.specs.Suiting.{Suited, suited, suited_option, seen_option, seen_item, option_code_of, option_content_of};
 
 use crate::client_cookie::ClientCookie;
 use crate::cookie::Cookie;
@@ -33,7 +33,7 @@ pub enum EdnsOption<'a> {
 impl EdnsOption<'_> {
     /// What the option is: 10 for both kinds of cookies, and 15 for an extended error.
     pub fn code(&self) -> OptionCode
-        ensures { result.code.value ≡ code_of (seen_option self.now) }
+        ensures { result.code.value ≡ option_code_of (seen_option self.now) }
     {
         match self {
             EdnsOption::ClientCookie(_) | EdnsOption::Cookie(_) => OptionCode::COOKIE,
@@ -130,9 +130,9 @@ fn build_option<T: BuildBytes>(
 
 /// `TruncationError` also comes where the data are more than 65,535 octets.
 impl BuildBytes for EdnsOption<'_> {
-    ghost octets = { λ v. option_octets (code_of (seen_option v)) (content_of (seen_option v)) };
+    ghost octets = { λ v. option_octets (option_code_of (seen_option v)) (option_content_of (seen_option v)) };
 
-    ghost fits = { λ v. length (content_of (seen_option v)) < 2 ^ 16 };
+    ghost fits = { λ v. length (option_content_of (seen_option v)) < 2 ^ 16 };
 
     fn build_at(&self, bytes: &mut [u8], start: usize) -> Result<usize, TruncationError> {
         match self {

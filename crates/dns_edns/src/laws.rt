@@ -133,3 +133,8 @@ pub fn takes_what_it_gives<H: KeyedHash>(
     };
     cookie.verify(addr, secret, from, until, hash)
 }
+
+/// Errors are equal exactly where they are the same.
+pub fn equal_errors()
+    ensures cookie { (a b : _) → IsTrue (⟦<CookieError as PartialEq>⟧.eq a b) ↔ (a ≡ b) }
+{}

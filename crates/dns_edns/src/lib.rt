@@ -28,9 +28,9 @@ pub use ext_error::ExtError;
 pub use ext_error_code::ExtErrorCode;
 pub use keyed_hash::KeyedHash;
 pub use laws::{
-    code_numbers, codes_are_compared_by_number, default_flags, ext_error_numbers, given_cookies,
-    option_data_are_equal_by_octets, options_are_equal_by_content, options_of_octets,
-    takes_what_it_gives,
+    code_numbers, codes_are_compared_by_number, default_flags, equal_errors, ext_error_numbers,
+    given_cookies, option_data_are_equal_by_octets, options_are_equal_by_content,
+    options_of_octets, takes_what_it_gives,
 };
 pub use opt::Opt;
 pub use option_code::OptionCode;

@@ -45,7 +45,7 @@ impl<'a> EdnsOptionsIter<'a> {
         true
     }
 
-    /// Goes over the options. The condition is that the octets are options: `is_options` tells.
+    /// Goes over the options. The condition is that the octets are options: `is_options` says so.
     pub fn new(options: &'a [u8]) -> EdnsOptionsIter<'a>
         requires { is_options options.now ≡ true }
         ensures { result ≡ items_in options.entry.now }

@@ -9,12 +9,12 @@ use Rattle.std.proofs.lemmas.Option.{some_pair_parts}
 use Rattle.dns_wire.specs.Names.{labels_wire}
 use Rattle.dns_wire.specs.Reading.{all_of}
 use Rattle.dns_wire.proofs.Spelled.{chosen}
-use Rattle.dns_label.specs.Labels.{IsShort, AreLabels, label_wire, plain_label, with_label, then_labels, labels_to_end, label_sequence, sequence_labels}
+use Rattle.dns_label.specs.Labels.{FitsLabel, AreLabels, label_wire, plain_label, with_label, then_labels, labels_to_end, label_sequence, sequence_labels}
 
 -- ---- one label
 
 -- a label's octets are read, whatever follows
-pub label_again : (contents rest : List ℕ) → IsShort contents → plain_label (length contents ∷ (contents ++ rest)) ≡ Some (contents, rest)
+pub label_again : (contents rest : List ℕ) → FitsLabel contents → plain_label (length contents ∷ (contents ++ rest)) ≡ Some (contents, rest)
 unfolding plain_label
 label_again contents rest short =
     let small : ltb 63 (length contents) ≡ false = le-ltb _ _ (omega arith) in
@@ -22,7 +22,7 @@ label_again contents rest short =
     rw (small, there, take_at contents rest (length contents) refl, drop_at contents rest (length contents) refl) refl
 
 -- what is read is spelled so
-pub label_takes : (bytes contents rest : List ℕ) → plain_label bytes ≡ Some (contents, rest) → IsShort contents × (bytes ≡ length contents ∷ (contents ++ rest))
+pub label_takes : (bytes contents rest : List ℕ) → plain_label bytes ≡ Some (contents, rest) → FitsLabel contents × (bytes ≡ length contents ∷ (contents ++ rest))
 unfolding plain_label
 label_takes [] contents rest e = absurd cc
 label_takes (size ∷ more) contents rest e =
@@ -43,22 +43,22 @@ all_of_is (Some (found, [])) contents e = ap (λ (o : List ℕ). Some (o, [])) (
 all_of_is (Some (found, x ∷ left)) contents e = absurd cc
 
 -- a label's octets are its length and its contents
-pub label_octets : (octets contents : List ℕ) → all_of (plain_label octets) ≡ Some contents → IsShort contents × (octets ≡ label_wire contents)
+pub label_octets : (octets contents : List ℕ) → all_of (plain_label octets) ≡ Some contents → FitsLabel contents × (octets ≡ label_wire contents)
 label_octets octets contents e =
     let t = label_takes octets contents [] (all_of_is (plain_label octets) contents e) in
     (t.0, t.1 ∙ ap (λ (l : List ℕ). length contents ∷ l) (append-nil contents))
 
 -- and octets that are so are a label's
-pub label_alone : (octets contents : List ℕ) → IsShort contents → octets ≡ label_wire contents → all_of (plain_label octets) ≡ Some contents
+pub label_alone : (octets contents : List ℕ) → FitsLabel contents → octets ≡ label_wire contents → all_of (plain_label octets) ≡ Some contents
 label_alone octets contents short e =
     ap (λ (o : List ℕ). all_of (plain_label o)) (e ∙ ap (λ (l : List ℕ). length contents ∷ l) (sym (append-nil contents))) ∙ ap all_of (label_again contents [] short)
 
 -- ---- labels one after another
 
 abbrev Takes : List ℕ → List (List ℕ) → Type 0
-Takes octets labels = AllByRecursion IsShort labels × (octets ≡ labels_wire labels)
+Takes octets labels = AllByRecursion FitsLabel labels × (octets ≡ labels_wire labels)
 
-with_label_takes : (octets contents rest : List ℕ) (read : Option (List (List ℕ))) (labels : List (List ℕ)) → IsShort contents → octets ≡ length contents ∷ (contents ++ rest)
+with_label_takes : (octets contents rest : List ℕ) (read : Option (List (List ℕ))) (labels : List (List ℕ)) → FitsLabel contents → octets ≡ length contents ∷ (contents ++ rest)
     → ((others : List (List ℕ)) → read ≡ Some others → Takes rest others) → with_label contents read ≡ Some labels → Takes octets labels
 with_label_takes octets contents rest None labels short parts later e = absurd cc
 with_label_takes octets contents rest (Some others) labels short parts later e =
@@ -81,7 +81,7 @@ labels_take (suc steps) [] labels e = let same : [] ≡ labels = cc in subst (Ta
 labels_take (suc steps) (size ∷ rest) labels e =
     then_labels_takes (size ∷ rest) (plain_label (size ∷ rest)) (λ more. labels_to_end steps more) labels refl (λ more others h. labels_take steps more others h) e
 
-labels_again : (steps : ℕ) (labels : List (List ℕ)) → AllByRecursion IsShort labels → length (labels_wire labels) ≤ steps → labels_to_end steps (labels_wire labels) ≡ Some labels
+labels_again : (steps : ℕ) (labels : List (List ℕ)) → AllByRecursion FitsLabel labels → length (labels_wire labels) ≤ steps → labels_to_end steps (labels_wire labels) ≡ Some labels
 unfolding labels_to_end
 labels_again zero [] sizes enough = refl
 labels_again (suc steps) [] sizes enough = refl
@@ -91,22 +91,22 @@ labels_again (suc steps) (contents ∷ others) sizes enough =
     ap (then_labels (λ more. labels_to_end steps more)) (label_again contents (labels_wire others) sizes.0) ∙ ap (with_label contents) (labels_again steps others sizes.1 room)
 
 -- octets that labels fill are those of the labels, each after its length
-pub list_takes : (octets : List ℕ) (labels : List (List ℕ)) → label_sequence octets ≡ Some labels → AllByRecursion IsShort labels × (octets ≡ labels_wire labels)
+pub list_takes : (octets : List ℕ) (labels : List (List ℕ)) → label_sequence octets ≡ Some labels → AllByRecursion FitsLabel labels × (octets ≡ labels_wire labels)
 unfolding label_sequence
 list_takes octets labels e = labels_take (length octets) octets labels e
 
 -- and such octets are filled by the labels
-pub list_again : (labels : List (List ℕ)) → AllByRecursion IsShort labels → label_sequence (labels_wire labels) ≡ Some labels
+pub list_again : (labels : List (List ℕ)) → AllByRecursion FitsLabel labels → label_sequence (labels_wire labels) ≡ Some labels
 unfolding label_sequence
 list_again labels sizes = labels_again (length (labels_wire labels)) labels sizes (omega arith)
 
-pub labels_in_wire : (octets : List ℕ) (labels : List (List ℕ)) → AllByRecursion IsShort labels → octets ≡ labels_wire labels → (label_sequence octets ≡ Some labels) × (sequence_labels octets ≡ labels)
+pub labels_in_wire : (octets : List ℕ) (labels : List (List ℕ)) → AllByRecursion FitsLabel labels → octets ≡ labels_wire labels → (label_sequence octets ≡ Some labels) × (sequence_labels octets ≡ labels)
 unfolding sequence_labels
 labels_in_wire octets labels sizes e =
     let read : label_sequence octets ≡ Some labels = ap label_sequence e ∙ list_again labels sizes in
     (read, ap (λ (o : Option (List (List ℕ))). unwrap_or o []) read)
 
-pub are_labels : (octets : List ℕ) (labels : List (List ℕ)) → AllByRecursion IsShort labels → octets ≡ labels_wire labels → AreLabels octets
+pub are_labels : (octets : List ℕ) (labels : List (List ℕ)) → AllByRecursion FitsLabel labels → octets ≡ labels_wire labels → AreLabels octets
 are_labels octets labels sizes e = let t = labels_in_wire octets labels sizes e in t.0 ∙ ap Some (sym t.1)
 
 -- ---- the first of them
@@ -118,7 +118,7 @@ last_label octets is none = by (sequence_labels octets) refl where
   by [] e = e
   by (contents ∷ others) e =
       let t = list_takes octets (sequence_labels octets) is in
-      let sizes : AllByRecursion IsShort (contents ∷ others) = subst (AllByRecursion IsShort) e t.0 in
+      let sizes : AllByRecursion FitsLabel (contents ∷ others) = subst (AllByRecursion FitsLabel) e t.0 in
       let parts : octets ≡ length contents ∷ (contents ++ labels_wire others) = t.1 ∙ ap labels_wire e in
       let read : plain_label octets ≡ Some (contents, labels_wire others) = ap plain_label parts ∙ label_again contents (labels_wire others) sizes.0 in
       absurd (let h = sym none ∙ read in cc)
@@ -137,7 +137,7 @@ first_in octets contents rest is read = by (sequence_labels octets) refl where
       absurd (let h : length contents ∷ (contents ++ rest) ≡ [] = sym s.1 ∙ t.1 ∙ ap labels_wire e in cc)
   by (label ∷ others) e =
       let t = list_takes octets (sequence_labels octets) is in
-      let sizes : AllByRecursion IsShort (label ∷ others) = subst (AllByRecursion IsShort) e t.0 in
+      let sizes : AllByRecursion FitsLabel (label ∷ others) = subst (AllByRecursion FitsLabel) e t.0 in
       let parts : octets ≡ length label ∷ (label ++ labels_wire others) = t.1 ∙ ap labels_wire e in
       let same = some_pair_parts contents label rest (labels_wire others) (sym read ∙ ap plain_label parts ∙ label_again label (labels_wire others) sizes.0) in
       let trailing = labels_in_wire rest others sizes.1 same.1 in

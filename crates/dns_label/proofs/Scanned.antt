@@ -9,14 +9,14 @@ use Rattle.std.proofs.lemmas.List.{append-nil, length-append}
 use Rattle.std.proofs.lemmas.Option.{some_pair_parts}
 use Rattle.dns_wire.proofs.Spelled.{chosen}
 use Rattle.dns_wire.specs.Reading.{AreOctets}
-use Rattle.dns_label.specs.Labels.{IsShort}
+use Rattle.dns_label.specs.Labels.{FitsLabel}
 use Rattle.dns_label.specs.declared.text_error.LabelParseError.{LabelParseError}
 use Rattle.dns_label.specs.declared.text_error.LabelParseError.TheVariants as parse_errors
 use Rattle.dns_label.specs.declared.text_error.LabelSplitError.TheVariants.{InvalidChar}
 use Rattle.dns_label.specs.declared.text_error.LabelSplitError.{LabelSplitError}
 use Rattle.dns_label.specs.declared.text_error.ScanFault.{ScanFault}
 use Rattle.dns_label.specs.declared.text_error.ScanFault.TheVariants.{Overlong, CutEscape, WrongEscape}
-use Rattle.dns_label.specs.Text.{is_plain, shown_octet, shown_label, three_digits, in_digits, escaped, next_octet, with_octet, then_octets, octets_within, label_scan, parse_error, prefix_label, whole_text, parsed_label, prefix_of_text, split_label, IsForeign, EndsLabel, Spells, IsPlainText}
+use Rattle.dns_label.specs.Text.{is_plain, shown_octet, shown_label, three_digits, in_digits, escaped, next_octet, with_octet, then_octets, octets_within, label_scan, parse_error, prefix_label, whole_label, parsed_label, label_at_start, split_label, IsForeign, EndsLabel, SpellsLabel, IsPlainText}
 
 -- ---- the next octet
 
@@ -169,18 +169,18 @@ with_is octet (Err fault) contents rest e = absurd cc
 pub record Takes (room : ℕ) (text contents rest : List ℕ) : Type 0 where
   pub prefix : List ℕ
   pub text_is : text ≡ prefix ++ rest
-  pub spells : Spells prefix contents
+  pub spells : SpellsLabel prefix contents
   pub fits : length contents ≤ room
   pub ends : EndsLabel rest
 
 -- a spelling with the spelling of an octet before
-pub further : (text octets prefix : List ℕ) (octet : ℕ) (rest more : List ℕ) → Next text octet more → more ≡ prefix ++ rest → Spells prefix octets → (whole : List ℕ) × (text ≡ whole ++ rest) × Spells whole (octet ∷ octets)
+pub further : (text octets prefix : List ℕ) (octet : ℕ) (rest more : List ℕ) → Next text octet more → more ≡ prefix ++ rest → SpellsLabel prefix octets → (whole : List ℕ) × (text ≡ whole ++ rest) × SpellsLabel whole (octet ∷ octets)
 further text octets prefix octet rest more (itself plain parts) trailing spells =
-    (octet ∷ prefix, parts ∙ ap (λ (l : List ℕ). octet ∷ l) trailing, Spells.itself octet prefix octets plain spells)
+    (octet ∷ prefix, parts ∙ ap (λ (l : List ℕ). octet ∷ l) trailing, SpellsLabel.itself octet prefix octets plain spells)
 further text octets prefix octet rest more (backslash graphic no_digit parts) trailing spells =
-    (92 ∷ octet ∷ prefix, parts ∙ ap (λ (l : List ℕ). 92 ∷ octet ∷ l) trailing, Spells.backslash octet prefix octets graphic no_digit spells)
+    (92 ∷ octet ∷ prefix, parts ∙ ap (λ (l : List ℕ). 92 ∷ octet ∷ l) trailing, SpellsLabel.backslash octet prefix octets graphic no_digit spells)
 further text octets prefix octet rest more (digits a b c is_a is_b is_c small value parts) trailing spells =
-    (92 ∷ a ∷ b ∷ c ∷ prefix, parts ∙ ap (λ (l : List ℕ). 92 ∷ a ∷ b ∷ c ∷ l) trailing, subst (λ (o : ℕ). Spells (92 ∷ a ∷ b ∷ c ∷ prefix) (o ∷ octets)) (sym value) (Spells.digits a b c prefix octets is_a is_b is_c small spells))
+    (92 ∷ a ∷ b ∷ c ∷ prefix, parts ∙ ap (λ (l : List ℕ). 92 ∷ a ∷ b ∷ c ∷ l) trailing, subst (λ (o : ℕ). SpellsLabel (92 ∷ a ∷ b ∷ c ∷ prefix) (o ∷ octets)) (sym value) (SpellsLabel.digits a b c prefix octets is_a is_b is_c small spells))
 
 stopped_takes : (room : ℕ) (text contents rest : List ℕ) → next_octet text ≡ Ok None → ◌≡◌ {A = Read} (Ok ([], text)) (Ok (contents, rest)) → Takes room text contents rest
 stopped_takes room text contents rest none e =
@@ -188,7 +188,7 @@ stopped_takes room text contents rest none e =
     record {
       prefix = [];
       text_is = same.1;
-      spells = subst (Spells []) same.0 Spells.ended;
+      spells = subst (SpellsLabel []) same.0 SpellsLabel.ended;
       fits = omega (arith, ap length same.0);
       ends = subst EndsLabel same.1 (none_ends text none);
     }
@@ -208,7 +208,7 @@ some_takes room reads text contents rest (Ok (Some (octet, more))) later is e =
     record {
       prefix = f.0;
       text_is = f.1;
-      spells = subst (Spells f.0) (sym w.2) f.2;
+      spells = subst (SpellsLabel f.0) (sym w.2) f.2;
       fits = omega (arith, ap length w.2, t.fits);
       ends = t.ends;
     }
@@ -243,33 +243,33 @@ unfolding octets_within
 within_full text octet more e = rw e refl
 
 -- what is spelled is read, where there is room
-pub within_again : (room : ℕ) (text contents rest : List ℕ) → Spells text contents → length contents ≤ room → EndsLabel rest → octets_within room (text ++ rest) ≡ Ok (contents, rest)
-within_again room text contents rest Spells.ended fits ends = within_ends room rest (ends_none rest ends)
-within_again zero text contents rest (Spells.itself octet more octets plain spells) fits ends = absurd (omega arith)
-within_again (suc room) text contents rest (Spells.itself octet more octets plain spells) fits ends =
+pub within_again : (room : ℕ) (text contents rest : List ℕ) → SpellsLabel text contents → length contents ≤ room → EndsLabel rest → octets_within room (text ++ rest) ≡ Ok (contents, rest)
+within_again room text contents rest SpellsLabel.ended fits ends = within_ends room rest (ends_none rest ends)
+within_again zero text contents rest (SpellsLabel.itself octet more octets plain spells) fits ends = absurd (omega arith)
+within_again (suc room) text contents rest (SpellsLabel.itself octet more octets plain spells) fits ends =
     within_step room (octet ∷ (more ++ rest)) octet (more ++ rest) (next_again _ octet (more ++ rest) (itself plain refl))
     ∙ ap (with_octet octet) (within_again room more octets rest spells (omega arith) ends)
-within_again zero text contents rest (Spells.backslash octet more octets graphic no_digit spells) fits ends = absurd (omega arith)
-within_again (suc room) text contents rest (Spells.backslash octet more octets graphic no_digit spells) fits ends =
+within_again zero text contents rest (SpellsLabel.backslash octet more octets graphic no_digit spells) fits ends = absurd (omega arith)
+within_again (suc room) text contents rest (SpellsLabel.backslash octet more octets graphic no_digit spells) fits ends =
     within_step room (92 ∷ octet ∷ (more ++ rest)) octet (more ++ rest) (next_again _ octet (more ++ rest) (backslash graphic no_digit refl))
     ∙ ap (with_octet octet) (within_again room more octets rest spells (omega arith) ends)
-within_again zero text contents rest (Spells.digits a b c more octets is_a is_b is_c small spells) fits ends = absurd (omega arith)
-within_again (suc room) text contents rest (Spells.digits a b c more octets is_a is_b is_c small spells) fits ends =
+within_again zero text contents rest (SpellsLabel.digits a b c more octets is_a is_b is_c small spells) fits ends = absurd (omega arith)
+within_again (suc room) text contents rest (SpellsLabel.digits a b c more octets is_a is_b is_c small spells) fits ends =
     within_step room (92 ∷ a ∷ b ∷ c ∷ (more ++ rest)) (three_digits a b c) (more ++ rest) (next_again _ (three_digits a b c) (more ++ rest) (digits a b c is_a is_b is_c small refl refl))
     ∙ ap (with_octet (three_digits a b c)) (within_again room more octets rest spells (omega arith) ends)
 
-pub scan_again : (text contents rest : List ℕ) → Spells text contents → length contents < 64 → EndsLabel rest → label_scan (text ++ rest) ≡ Ok (contents, rest)
+pub scan_again : (text contents rest : List ℕ) → SpellsLabel text contents → length contents < 64 → EndsLabel rest → label_scan (text ++ rest) ≡ Ok (contents, rest)
 unfolding label_scan
 scan_again text contents rest spells short ends = within_again 63 text contents rest spells (omega arith) ends
 
 -- a text spells one label only, and it ends in one place
-pub spelled_apart : (text other a b rest left : List ℕ) → text ++ rest ≡ other ++ left → Spells text a → Spells other b → EndsLabel rest → EndsLabel left → (a ≡ b) × (rest ≡ left)
+pub spelled_apart : (text other a b rest left : List ℕ) → text ++ rest ≡ other ++ left → SpellsLabel text a → SpellsLabel other b → EndsLabel rest → EndsLabel left → (a ≡ b) × (rest ≡ left)
 spelled_apart text other a b rest left same of_a of_b ends ends_left =
     let first : octets_within (length a + length b) (text ++ rest) ≡ Ok (a, rest) = within_again (length a + length b) text a rest of_a (omega arith) ends in
     let second : octets_within (length a + length b) (other ++ left) ≡ Ok (b, left) = within_again (length a + length b) other b left of_b (omega arith) ends_left in
     ok_parts a b rest left (sym first ∙ ap (octets_within (length a + length b)) same ∙ second)
 
-pub spelled_once : (text a b : List ℕ) → Spells text a → Spells text b → a ≡ b
+pub spelled_once : (text a b : List ℕ) → SpellsLabel text a → SpellsLabel text b → a ≡ b
 spelled_once text a b of_a of_b = (spelled_apart text text a b [] [] refl of_a of_b tt tt).0
 
 -- ---- what is printed
@@ -319,15 +319,15 @@ marked_digit octet marked =
     ]
 
 -- what is printed spells the label
-pub shown_spells : (contents : List ℕ) → AreOctets contents → Spells (shown_label contents) contents
-shown_spells [] octets = Spells.ended
+pub shown_spells : (contents : List ℕ) → AreOctets contents → SpellsLabel (shown_label contents) contents
+shown_spells [] octets = SpellsLabel.ended
 shown_spells (octet ∷ others) octets =
     let more = shown_spells others (λ (i : ℕ). octets (suc i)) in
     elim (shown_is octet (octets 0)) [
-      | Shown.itself plain text ↦ rw text (Spells.itself octet (shown_label others) others plain more)
-      | Shown.backslash graphic marked text ↦ rw text (Spells.backslash octet (shown_label others) others graphic (marked_digit octet marked) more)
+      | Shown.itself plain text ↦ rw text (SpellsLabel.itself octet (shown_label others) others plain more)
+      | Shown.backslash graphic marked text ↦ rw text (SpellsLabel.backslash octet (shown_label others) others graphic (marked_digit octet marked) more)
       | Shown.digits a b c is_a is_b is_c value dark text ↦
-          rw (text, ← value) (Spells.digits a b c (shown_label others) others is_a is_b is_c (omega (arith, value, octets 0)) more)
+          rw (text, ← value) (SpellsLabel.digits a b c (shown_label others) others is_a is_b is_c (omega (arith, value, octets 0)) more)
     ]
 
 pub shown_plain : (contents : List ℕ) → AreOctets contents → IsPlainText (shown_label contents)
@@ -344,7 +344,7 @@ shown_plain (octet ∷ others) octets =
 -- a text in plain spelling is what is printed of what it spells
 pub record Printed (text : List ℕ) : Type 0 where
   pub contents : List ℕ
-  pub spells : Spells text contents
+  pub spells : SpellsLabel text contents
   pub text_is : text ≡ shown_label contents
 
 -- the digits of a number are those that are printed
@@ -363,19 +363,19 @@ same_digits a b c n is_a is_b is_c value =
 
 pub plain_printed : (text : List ℕ) → IsPlainText text → Printed text
 unfolding shown_octet
-plain_printed text IsPlainText.ended = record { contents = []; spells = Spells.ended; text_is = refl }
+plain_printed text IsPlainText.ended = record { contents = []; spells = SpellsLabel.ended; text_is = refl }
 plain_printed text (IsPlainText.itself octet more plain is) =
     let p = plain_printed more is in
     record {
       contents = octet ∷ p.contents;
-      spells = Spells.itself octet more p.contents plain p.spells;
+      spells = SpellsLabel.itself octet more p.contents plain p.spells;
       text_is = rw plain (ap (λ (l : List ℕ). octet ∷ l) p.text_is);
     }
 plain_printed text (IsPlainText.backslash octet more graphic marked is) =
     let p = plain_printed more is in
     record {
       contents = octet ∷ p.contents;
-      spells = Spells.backslash octet more p.contents graphic (marked_digit octet marked) p.spells;
+      spells = SpellsLabel.backslash octet more p.contents graphic (marked_digit octet marked) p.spells;
       text_is = rw (marked, graphic) (ap (λ (l : List ℕ). 92 ∷ octet ∷ l) p.text_is);
     }
 plain_printed text (IsPlainText.digits a b c more is_a is_b is_c small dark is) =
@@ -383,11 +383,11 @@ plain_printed text (IsPlainText.digits a b c more is_a is_b is_c small dark is) 
     let s = same_digits a b c (three_digits a b c) is_a is_b is_c refl in
     record {
       contents = three_digits a b c ∷ p.contents;
-      spells = Spells.digits a b c more p.contents is_a is_b is_c small p.spells;
+      spells = SpellsLabel.digits a b c more p.contents is_a is_b is_c small p.spells;
       text_is = rw (graphic_plain (three_digits a b c) (omega (arith, small)) dark, dark, s.0, s.1, s.2) (ap (λ (l : List ℕ). 92 ∷ a ∷ b ∷ c ∷ l) p.text_is);
     }
 
-pub plain_shown : (text contents : List ℕ) → IsPlainText text → Spells text contents → text ≡ shown_label contents
+pub plain_shown : (text contents : List ℕ) → IsPlainText text → SpellsLabel text contents → text ≡ shown_label contents
 plain_shown text contents is spells =
     let p = plain_printed text is in
     p.text_is ∙ ap shown_label (spelled_once text p.contents contents p.spells spells)
@@ -443,19 +443,19 @@ full_scan text label rest more octet way read full =
 
 -- ---- whole texts, and the prefixes of texts
 
-whole_is : (read : Read) (contents : List ℕ) → whole_text read ≡ Ok contents → read ≡ Ok (contents, [])
+whole_is : (read : Read) (contents : List ℕ) → whole_label read ≡ Ok contents → read ≡ Ok (contents, [])
 whole_is (Ok (found, [])) contents e = ap (λ (l : List ℕ). Ok (l, [])) (let h : found ≡ contents = cc in h)
 whole_is (Ok (found, octet ∷ rest)) contents e = absurd cc
 whole_is (Err fault) contents e = absurd cc
 
-pub parsed_takes : (text contents : List ℕ) → parsed_label text ≡ Ok contents → Spells text contents × IsShort contents
+pub parsed_takes : (text contents : List ℕ) → parsed_label text ≡ Ok contents → SpellsLabel text contents × FitsLabel contents
 parsed_takes text contents e =
     let t = scan_takes text contents [] (whole_is (label_scan text) contents e) in
-    (subst (λ (l : List ℕ). Spells l contents) (sym (t.text_is ∙ append-nil t.prefix)) t.spells, omega (arith, t.fits))
+    (subst (λ (l : List ℕ). SpellsLabel l contents) (sym (t.text_is ∙ append-nil t.prefix)) t.spells, omega (arith, t.fits))
 
-pub parsed_again : (text contents : List ℕ) → Spells text contents → IsShort contents → parsed_label text ≡ Ok contents
+pub parsed_again : (text contents : List ℕ) → SpellsLabel text contents → FitsLabel contents → parsed_label text ≡ Ok contents
 parsed_again text contents spells short =
-    ap (λ (l : List ℕ). whole_text (label_scan l)) (sym (append-nil text)) ∙ ap whole_text (scan_again text contents [] spells short tt)
+    ap (λ (l : List ℕ). whole_label (label_scan l)) (sym (append-nil text)) ∙ ap whole_label (scan_again text contents [] spells short tt)
 
 mapped_is : (read : Read) (contents rest : List ℕ) → ◌≡◌ {A = Result (List ℕ × List ℕ) LabelParseError} (result_map_both (λ prefix. prefix) parse_error read) (Ok (contents, rest)) → read ≡ Ok (contents, rest)
 mapped_is (Ok prefix) contents rest e = ap Ok (let h : prefix ≡ (contents, rest) = cc in h)
@@ -464,7 +464,7 @@ mapped_is (Err fault) contents rest e = absurd cc
 pub prefix_takes : (text contents rest : List ℕ) → prefix_label text ≡ Ok (contents, rest) → Takes 63 text contents rest
 prefix_takes text contents rest e = scan_takes text contents rest (mapped_is (label_scan text) contents rest e)
 
-pub prefix_again : (text contents rest : List ℕ) → Spells text contents → IsShort contents → EndsLabel rest → prefix_label (text ++ rest) ≡ Ok (contents, rest)
+pub prefix_again : (text contents rest : List ℕ) → SpellsLabel text contents → FitsLabel contents → EndsLabel rest → prefix_label (text ++ rest) ≡ Ok (contents, rest)
 prefix_again text contents rest spells short ends = ap (result_map_both (λ prefix. prefix) parse_error) (scan_again text contents rest spells short ends)
 
 abbrev Prefix : Type 0
@@ -475,24 +475,24 @@ prefix_parts a b x y e =
     let h : ◌≡◌ {A = List ℕ × List ℕ} (a, x) (b, y) = cc in
     (ap (λ (p : List ℕ × List ℕ). p.0) h, ap (λ (p : List ℕ × List ℕ). p.1) h)
 
-prefix_is : (read : Read) (contents rest : List ℕ) → prefix_of_text read ≡ Ok (contents, rest) → (read ≡ Ok (contents, rest)) × (rest ≢ [])
+prefix_is : (read : Read) (contents rest : List ℕ) → label_at_start read ≡ Ok (contents, rest) → (read ≡ Ok (contents, rest)) × (rest ≢ [])
 prefix_is (Ok (found, [])) contents rest e = absurd cc
 prefix_is (Err fault) contents rest e = absurd cc
 prefix_is (Ok (found, octet ∷ left)) contents rest e =
     let same = prefix_parts found contents (octet ∷ left) rest e in
     (ap (λ (l : List ℕ). Ok (l, octet ∷ left)) same.0 ∙ ap (λ (l : List ℕ). Ok (contents, l)) same.1, λ none. let h = same.1 ∙ none in cc)
 
-pub split_takes : (text contents rest : List ℕ) → split_label text ≡ Ok (contents, rest) → (prefix : List ℕ) × (text ≡ prefix ++ rest) × Spells prefix contents × IsShort contents × (rest ≢ []) × EndsLabel rest
+pub split_takes : (text contents rest : List ℕ) → split_label text ≡ Ok (contents, rest) → (prefix : List ℕ) × (text ≡ prefix ++ rest) × SpellsLabel prefix contents × FitsLabel contents × (rest ≢ []) × EndsLabel rest
 split_takes text contents rest e =
     let f = prefix_is (label_scan text) contents rest e in
     let t = scan_takes text contents rest f.0 in
     (t.prefix, t.text_is, t.spells, omega (arith, t.fits), f.1, t.ends)
 
-pub split_again : (text contents rest : List ℕ) (octet : ℕ) → Spells text contents → IsShort contents → IsForeign octet → split_label (text ++ octet ∷ rest) ≡ Ok (contents, octet ∷ rest)
-split_again text contents rest octet spells short foreign = ap prefix_of_text (scan_again text contents (octet ∷ rest) spells short foreign)
+pub split_again : (text contents rest : List ℕ) (octet : ℕ) → SpellsLabel text contents → FitsLabel contents → IsForeign octet → split_label (text ++ octet ∷ rest) ≡ Ok (contents, octet ∷ rest)
+split_again text contents rest octet spells short foreign = ap label_at_start (scan_again text contents (octet ∷ rest) spells short foreign)
 
 -- a text that may go on is never refused for an octet that no text of a label has, and no prefix of one is
-prefix_never_invalid : (read : Read) → prefix_of_text read ≢ Err InvalidChar
+prefix_never_invalid : (read : Read) → label_at_start read ≢ Err InvalidChar
 prefix_never_invalid (Ok (found, [])) e = cc
 prefix_never_invalid (Ok (found, octet ∷ rest)) e = cc
 prefix_never_invalid (Err Overlong) e = cc

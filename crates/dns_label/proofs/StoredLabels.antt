@@ -2,11 +2,11 @@
 use Rattle.std.proofs.Common.{◌≡◌, ℕ, suc, ◌+◌, ◌<◌, List, [], ◌∷◌, length, get_or, take, refl, sym, ap, subst, arith}
 use Rattle.std.proofs.lemmas.List.{length-take}
 use Rattle.dns_wire.specs.Storage.{stored}
-use Rattle.dns_label.specs.Labels.{IsShort, label_wire, contents_of}
+use Rattle.dns_label.specs.Labels.{FitsLabel, label_wire, contents_of}
 
 -- the octets in use are a label's
 pub record InUse (octets : List ℕ) (wire : List ℕ) : Type 0 where
-  pub short : IsShort (contents_of wire)
+  pub short : FitsLabel (contents_of wire)
   pub wire_is : wire ≡ label_wire (contents_of wire)
   pub contents_are : contents_of wire ≡ stored octets
 

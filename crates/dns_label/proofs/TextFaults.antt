@@ -1,18 +1,17 @@
 -- Why the scan of a label stops, in words.
-use Rattle.std.proofs.Common.{◌≡◌, ◌≢◌, ℕ, zero, suc, ◌+◌, ◌-◌, ◌<◌, ◌≤◌, ◌⊎◌, inl, inr, Bool, true, false, leb, List, [], ◌∷◌, ◌++◌, length, Option, Some, None, Result, Ok, Err, refl, sym, ap, subst, ◌∙◌, append_assoc, arith}
-use Rattle.std.specs.Prelude.{◌==◌, ◌&&◌, IsTrue, IsFalse, ◌↔◌}
+use Rattle.std.proofs.Common.{◌≡◌, ℕ, zero, suc, ◌-◌, ◌≤◌, ◌⊎◌, inl, inr, Bool, true, false, leb, List, [], ◌∷◌, ◌++◌, length, Some, None, Result, Ok, Err, refl, sym, ap, subst, ◌∙◌, arith}
+use Rattle.std.specs.Prelude.{◌==◌, ◌&&◌, IsTrue, ◌↔◌}
 use Rattle.std.specs.Result.{result_map_both}
 use Rattle.std.specs.Char.{is_ascii_digit, is_ascii_graphic}
 use Rattle.std.proofs.lemmas.Bool.{and_parts, le-leb, leb-true, eqb-true}
-use Rattle.std.proofs.lemmas.List.{append-nil}
 use Rattle.dns_wire.proofs.Spelled.{chosen}
 use Rattle.dns_label.specs.declared.text_error.LabelParseError.{LabelParseError}
 use Rattle.dns_label.specs.declared.text_error.LabelParseError.TheVariants as parse_errors
 use Rattle.dns_label.specs.declared.text_error.LabelSplitError.TheVariants as split_errors
 use Rattle.dns_label.specs.declared.text_error.ScanFault.{ScanFault}
 use Rattle.dns_label.specs.declared.text_error.ScanFault.TheVariants.{Overlong, CutEscape, WrongEscape}
-use Rattle.dns_label.specs.Text.{is_plain, three_digits, in_digits, escaped, next_octet, with_octet, then_octets, octets_within, label_scan, parse_error, prefix_label, whole_text, parsed_label, prefix_of_text, split_label, IsForeign, EndsLabel, Spells, IsCutEscape, IsWrongEscape, AreDigits, BeginsForeign, GoesOn, SpellsMore}
-use Rattle.dns_label.proofs.Scanned.{Found, Read, Next, next_is, next_again, none_ends, ends_none, within_step, within_ends, within_fails, within_full, Takes, within_takes, within_again, further}
+use Rattle.dns_label.specs.Text.{is_plain, three_digits, in_digits, escaped, next_octet, with_octet, then_octets, octets_within, label_scan, parse_error, prefix_label, whole_label, parsed_label, label_at_start, split_label, EndsLabel, SpellsLabel, IsCutEscape, IsWrongEscape, AreDigits, BeginsForeign, GoesOn, SpellsMore}
+use Rattle.dns_label.proofs.Scanned.{Found, Read, Next, next_is, next_again, within_step, within_fails, within_full, within_takes, within_again, further}
 
 -- ---- the next octet
 
@@ -147,8 +146,8 @@ Fails most text WrongEscape = GoesOn most IsWrongEscape text
 
 at_once : (most : ℕ) (text : List ℕ) (fault : ScanFault) → next_octet text ≡ Err fault → Fails most text fault
 at_once most text Overlong e = absurd (next_room text e)
-at_once most text CutEscape e = record { prefix = []; rest = text; contents = []; text_is = refl; spells = Spells.ended; fits = omega arith; next = next_cut text e }
-at_once most text WrongEscape e = record { prefix = []; rest = text; contents = []; text_is = refl; spells = Spells.ended; fits = omega arith; next = next_wrong text e }
+at_once most text CutEscape e = record { prefix = []; rest = text; contents = []; text_is = refl; spells = SpellsLabel.ended; fits = omega arith; next = next_cut text e }
+at_once most text WrongEscape e = record { prefix = []; rest = text; contents = []; text_is = refl; spells = SpellsLabel.ended; fits = omega arith; next = next_wrong text e }
 
 goes_later : (most : ℕ) (P : List ℕ → Type 0) (text : List ℕ) (octet : ℕ) (more : List ℕ) → next_octet text ≡ Ok (Some (octet, more)) → GoesOn most P more → GoesOn (suc most) P text
 goes_later most P text octet more e g =
@@ -164,7 +163,7 @@ later most text octet more WrongEscape e g = goes_later most IsWrongEscape text 
 
 one_more : (text : List ℕ) (octet : ℕ) (more : List ℕ) → next_octet text ≡ Ok (Some (octet, more)) → SpellsMore zero text
 one_more text octet more e =
-    let f = further text [] [] octet more more (next_is text octet more e) refl Spells.ended in
+    let f = further text [] [] octet more more (next_is text octet more e) refl SpellsLabel.ended in
     record { prefix = f.0; rest = more; contents = octet ∷ []; text_is = f.1; spells = f.2; more = refl }
 
 with_fails : (octet : ℕ) (read : Read) (fault : ScanFault) → with_octet octet read ≡ Err fault → read ≡ Err fault
@@ -191,39 +190,39 @@ within_fault (suc most) text fault e =
     some_fails most (λ more. octets_within most more) text fault (next_octet text) (λ more h. within_fault most more fault h) refl e
 
 -- the scan over a spelling of at most that many octets goes on after it
-within_on : (most : ℕ) (text contents rest : List ℕ) (fault : ScanFault) → Spells text contents → length contents ≤ most → octets_within (most - length contents) rest ≡ Err fault → octets_within most (text ++ rest) ≡ Err fault
-within_on most text contents rest fault Spells.ended fits e =
+within_on : (most : ℕ) (text contents rest : List ℕ) (fault : ScanFault) → SpellsLabel text contents → length contents ≤ most → octets_within (most - length contents) rest ≡ Err fault → octets_within most (text ++ rest) ≡ Err fault
+within_on most text contents rest fault SpellsLabel.ended fits e =
     let all : most ≡ most - length {A = ℕ} [] = omega arith in
     ap (λ (n : ℕ). octets_within n rest) all ∙ e
-within_on zero text contents rest fault (Spells.itself octet more octets plain spells) fits e = absurd (omega arith)
-within_on (suc most) text contents rest fault (Spells.itself octet more octets plain spells) fits e =
+within_on zero text contents rest fault (SpellsLabel.itself octet more octets plain spells) fits e = absurd (omega arith)
+within_on (suc most) text contents rest fault (SpellsLabel.itself octet more octets plain spells) fits e =
     within_step most (octet ∷ (more ++ rest)) octet (more ++ rest) (next_again _ octet (more ++ rest) (Next.itself plain refl))
     ∙ ap (with_octet octet) (within_on most more octets rest fault spells (omega arith) (ap (λ (n : ℕ). octets_within n rest) (omega arith) ∙ e))
-within_on zero text contents rest fault (Spells.backslash octet more octets graphic no_digit spells) fits e = absurd (omega arith)
-within_on (suc most) text contents rest fault (Spells.backslash octet more octets graphic no_digit spells) fits e =
+within_on zero text contents rest fault (SpellsLabel.backslash octet more octets graphic no_digit spells) fits e = absurd (omega arith)
+within_on (suc most) text contents rest fault (SpellsLabel.backslash octet more octets graphic no_digit spells) fits e =
     within_step most (92 ∷ octet ∷ (more ++ rest)) octet (more ++ rest) (next_again _ octet (more ++ rest) (Next.backslash graphic no_digit refl))
     ∙ ap (with_octet octet) (within_on most more octets rest fault spells (omega arith) (ap (λ (n : ℕ). octets_within n rest) (omega arith) ∙ e))
-within_on zero text contents rest fault (Spells.digits a b c more octets is_a is_b is_c small spells) fits e = absurd (omega arith)
-within_on (suc most) text contents rest fault (Spells.digits a b c more octets is_a is_b is_c small spells) fits e =
+within_on zero text contents rest fault (SpellsLabel.digits a b c more octets is_a is_b is_c small spells) fits e = absurd (omega arith)
+within_on (suc most) text contents rest fault (SpellsLabel.digits a b c more octets is_a is_b is_c small spells) fits e =
     within_step most (92 ∷ a ∷ b ∷ c ∷ (more ++ rest)) (three_digits a b c) (more ++ rest) (next_again _ (three_digits a b c) (more ++ rest) (Next.digits a b c is_a is_b is_c small refl refl))
     ∙ ap (with_octet (three_digits a b c)) (within_on most more octets rest fault spells (omega arith) (ap (λ (n : ℕ). octets_within n rest) (omega arith) ∙ e))
 
 -- one octet more than has room
-within_more : (most : ℕ) (text contents rest : List ℕ) → Spells text contents → length contents ≡ suc most → octets_within most (text ++ rest) ≡ Err Overlong
-within_more most text contents rest Spells.ended long = absurd (omega (arith, long))
-within_more zero text contents rest (Spells.itself octet more octets plain spells) long =
+within_more : (most : ℕ) (text contents rest : List ℕ) → SpellsLabel text contents → length contents ≡ suc most → octets_within most (text ++ rest) ≡ Err Overlong
+within_more most text contents rest SpellsLabel.ended long = absurd (omega (arith, long))
+within_more zero text contents rest (SpellsLabel.itself octet more octets plain spells) long =
     within_full (octet ∷ (more ++ rest)) octet (more ++ rest) (next_again _ octet (more ++ rest) (Next.itself plain refl))
-within_more (suc most) text contents rest (Spells.itself octet more octets plain spells) long =
+within_more (suc most) text contents rest (SpellsLabel.itself octet more octets plain spells) long =
     within_step most (octet ∷ (more ++ rest)) octet (more ++ rest) (next_again _ octet (more ++ rest) (Next.itself plain refl))
     ∙ ap (with_octet octet) (within_more most more octets rest spells (omega (arith, long)))
-within_more zero text contents rest (Spells.backslash octet more octets graphic no_digit spells) long =
+within_more zero text contents rest (SpellsLabel.backslash octet more octets graphic no_digit spells) long =
     within_full (92 ∷ octet ∷ (more ++ rest)) octet (more ++ rest) (next_again _ octet (more ++ rest) (Next.backslash graphic no_digit refl))
-within_more (suc most) text contents rest (Spells.backslash octet more octets graphic no_digit spells) long =
+within_more (suc most) text contents rest (SpellsLabel.backslash octet more octets graphic no_digit spells) long =
     within_step most (92 ∷ octet ∷ (more ++ rest)) octet (more ++ rest) (next_again _ octet (more ++ rest) (Next.backslash graphic no_digit refl))
     ∙ ap (with_octet octet) (within_more most more octets rest spells (omega (arith, long)))
-within_more zero text contents rest (Spells.digits a b c more octets is_a is_b is_c small spells) long =
+within_more zero text contents rest (SpellsLabel.digits a b c more octets is_a is_b is_c small spells) long =
     within_full (92 ∷ a ∷ b ∷ c ∷ (more ++ rest)) (three_digits a b c) (more ++ rest) (next_again _ (three_digits a b c) (more ++ rest) (Next.digits a b c is_a is_b is_c small refl refl))
-within_more (suc most) text contents rest (Spells.digits a b c more octets is_a is_b is_c small spells) long =
+within_more (suc most) text contents rest (SpellsLabel.digits a b c more octets is_a is_b is_c small spells) long =
     within_step most (92 ∷ a ∷ b ∷ c ∷ (more ++ rest)) (three_digits a b c) (more ++ rest) (next_again _ (three_digits a b c) (more ++ rest) (Next.digits a b c is_a is_b is_c small refl refl))
     ∙ ap (with_octet (three_digits a b c)) (within_more most more octets rest spells (omega (arith, long)))
 
@@ -258,7 +257,7 @@ goes_on P text contents rest e is =
 
 -- ---- whole texts, and the starts of texts
 
-parsed_fault : (fault : ScanFault) (read : Read) → whole_text read ≡ Err (parse_error fault) → read ≡ Err fault
+parsed_fault : (fault : ScanFault) (read : Read) → whole_label read ≡ Err (parse_error fault) → read ≡ Err fault
 parsed_fault fault (Ok (contents, [])) e = absurd cc
 parsed_fault Overlong (Ok (contents, octet ∷ rest)) e = absurd cc
 parsed_fault CutEscape (Ok (contents, octet ∷ rest)) e = absurd cc
@@ -274,19 +273,19 @@ parsed_fault WrongEscape (Err CutEscape) e = absurd cc
 parsed_fault WrongEscape (Err WrongEscape) e = refl
 
 pub parsed_overlong : (text : List ℕ) → (parsed_label text ≡ Err parse_errors.Overlong) ↔ SpellsMore 63 text
-parsed_overlong text = (λ e. (scan_overlong text).0 (parsed_fault Overlong (label_scan text) e), λ g. ap whole_text ((scan_overlong text).1 g))
+parsed_overlong text = (λ e. (scan_overlong text).0 (parsed_fault Overlong (label_scan text) e), λ g. ap whole_label ((scan_overlong text).1 g))
 
 pub parsed_partial : (text : List ℕ) → (parsed_label text ≡ Err parse_errors.PartialEscape) ↔ GoesOn 63 IsCutEscape text
-parsed_partial text = (λ e. (scan_cut text).0 (parsed_fault CutEscape (label_scan text) e), λ g. ap whole_text ((scan_cut text).1 g))
+parsed_partial text = (λ e. (scan_cut text).0 (parsed_fault CutEscape (label_scan text) e), λ g. ap whole_label ((scan_cut text).1 g))
 
 pub parsed_escape : (text : List ℕ) → (parsed_label text ≡ Err parse_errors.InvalidEscape) ↔ GoesOn 63 IsWrongEscape text
-parsed_escape text = (λ e. (scan_wrong text).0 (parsed_fault WrongEscape (label_scan text) e), λ g. ap whole_text ((scan_wrong text).1 g))
+parsed_escape text = (λ e. (scan_wrong text).0 (parsed_fault WrongEscape (label_scan text) e), λ g. ap whole_label ((scan_wrong text).1 g))
 
 takes_ends : (text contents rest : List ℕ) → label_scan text ≡ Ok (contents, rest) → EndsLabel rest
 unfolding label_scan
 takes_ends text contents rest e = (within_takes 63 text contents rest e).ends
 
-parsed_stop : (text : List ℕ) (read : Read) → label_scan text ≡ read → whole_text read ≡ Err parse_errors.InvalidChar → GoesOn 63 BeginsForeign text
+parsed_stop : (text : List ℕ) (read : Read) → label_scan text ≡ read → whole_label read ≡ Err parse_errors.InvalidChar → GoesOn 63 BeginsForeign text
 parsed_stop text (Ok (contents, [])) is e = absurd cc
 parsed_stop text (Ok (contents, octet ∷ rest)) is e = goes_on BeginsForeign text contents (octet ∷ rest) is (takes_ends text contents (octet ∷ rest) is)
 parsed_stop text (Err Overlong) is e = absurd cc
@@ -297,31 +296,31 @@ foreign_ends : (rest : List ℕ) → BeginsForeign rest → EndsLabel rest
 foreign_ends [] is = tt
 foreign_ends (octet ∷ rest) is = is
 
-stopped_whole : (contents rest : List ℕ) → BeginsForeign rest → whole_text (Ok (contents, rest)) ≡ Err parse_errors.InvalidChar
+stopped_whole : (contents rest : List ℕ) → BeginsForeign rest → whole_label (Ok (contents, rest)) ≡ Err parse_errors.InvalidChar
 stopped_whole contents [] is = absurd is
 stopped_whole contents (octet ∷ rest) is = refl
 
 pub parsed_character : (text : List ℕ) → (parsed_label text ≡ Err parse_errors.InvalidChar) ↔ GoesOn 63 BeginsForeign text
 parsed_character text = (
   λ e. parsed_stop text (label_scan text) refl e,
-  λ g. let s = ends_before BeginsForeign foreign_ends text g in ap whole_text s.2 ∙ stopped_whole s.0 s.1 s.3,
+  λ g. let s = ends_before BeginsForeign foreign_ends text g in ap whole_label s.2 ∙ stopped_whole s.0 s.1 s.3,
 )
 
-split_fault_overlong : (read : Read) → prefix_of_text read ≡ Err split_errors.Overlong → read ≡ Err Overlong
+split_fault_overlong : (read : Read) → label_at_start read ≡ Err split_errors.Overlong → read ≡ Err Overlong
 split_fault_overlong (Ok (contents, [])) e = absurd cc
 split_fault_overlong (Ok (contents, octet ∷ rest)) e = absurd cc
 split_fault_overlong (Err Overlong) e = refl
 split_fault_overlong (Err CutEscape) e = absurd cc
 split_fault_overlong (Err WrongEscape) e = absurd cc
 
-split_fault_wrong : (read : Read) → prefix_of_text read ≡ Err split_errors.InvalidEscape → read ≡ Err WrongEscape
+split_fault_wrong : (read : Read) → label_at_start read ≡ Err split_errors.InvalidEscape → read ≡ Err WrongEscape
 split_fault_wrong (Ok (contents, [])) e = absurd cc
 split_fault_wrong (Ok (contents, octet ∷ rest)) e = absurd cc
 split_fault_wrong (Err Overlong) e = absurd cc
 split_fault_wrong (Err CutEscape) e = absurd cc
 split_fault_wrong (Err WrongEscape) e = refl
 
-split_fault_short : (text : List ℕ) (read : Read) → label_scan text ≡ read → prefix_of_text read ≡ Err split_errors.ShortInput → GoesOn 63 IsCutEscape text ⊎ GoesOn 63 (λ rest. rest ≡ []) text
+split_fault_short : (text : List ℕ) (read : Read) → label_scan text ≡ read → label_at_start read ≡ Err split_errors.ShortInput → GoesOn 63 IsCutEscape text ⊎ GoesOn 63 (λ rest. rest ≡ []) text
 split_fault_short text (Ok (contents, [])) is e = inr (goes_on (λ rest. rest ≡ []) text contents [] is refl)
 split_fault_short text (Ok (contents, octet ∷ rest)) is e = absurd cc
 split_fault_short text (Err Overlong) is e = absurd cc
@@ -329,24 +328,24 @@ split_fault_short text (Err CutEscape) is e = inl ((scan_cut text).0 is)
 split_fault_short text (Err WrongEscape) is e = absurd cc
 
 pub split_overlong : (text : List ℕ) → (split_label text ≡ Err split_errors.Overlong) ↔ SpellsMore 63 text
-split_overlong text = (λ e. (scan_overlong text).0 (split_fault_overlong (label_scan text) e), λ g. ap prefix_of_text ((scan_overlong text).1 g))
+split_overlong text = (λ e. (scan_overlong text).0 (split_fault_overlong (label_scan text) e), λ g. ap label_at_start ((scan_overlong text).1 g))
 
 pub split_escape : (text : List ℕ) → (split_label text ≡ Err split_errors.InvalidEscape) ↔ GoesOn 63 IsWrongEscape text
-split_escape text = (λ e. (scan_wrong text).0 (split_fault_wrong (label_scan text) e), λ g. ap prefix_of_text ((scan_wrong text).1 g))
+split_escape text = (λ e. (scan_wrong text).0 (split_fault_wrong (label_scan text) e), λ g. ap label_at_start ((scan_wrong text).1 g))
 
 none_left : (rest : List ℕ) → rest ≡ [] → EndsLabel rest
 none_left [] is = tt
 none_left (octet ∷ rest) is = absurd cc
 
-short_end : (contents rest : List ℕ) → rest ≡ [] → prefix_of_text (Ok (contents, rest)) ≡ Err split_errors.ShortInput
+short_end : (contents rest : List ℕ) → rest ≡ [] → label_at_start (Ok (contents, rest)) ≡ Err split_errors.ShortInput
 short_end contents rest is = rw is refl
 
 pub split_short : (text : List ℕ) → (split_label text ≡ Err split_errors.ShortInput) ↔ (GoesOn 63 IsCutEscape text ⊎ GoesOn 63 (λ rest. rest ≡ []) text)
 split_short text = (
   λ e. split_fault_short text (label_scan text) refl e,
   λ g. elim g [
-    | inl cut ↦ ap prefix_of_text ((scan_cut text).1 cut)
-    | inr ended ↦ let s = ends_before (λ rest. rest ≡ []) none_left text ended in ap prefix_of_text s.2 ∙ short_end s.0 s.1 s.3
+    | inl cut ↦ ap label_at_start ((scan_cut text).1 cut)
+    | inr ended ↦ let s = ends_before (λ rest. rest ≡ []) none_left text ended in ap label_at_start s.2 ∙ short_end s.0 s.1 s.3
   ],
 )
 

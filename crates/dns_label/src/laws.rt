@@ -5,7 +5,7 @@ ghost use Rattle.std.specs.List.{AllByRecursion};
 ghost use Rattle.std.specs.Str.{str_to_ascii_lowercase};
 ghost use Rattle.std.specs.declared.cmp.Ordering.TheVariants.{Less, Equal};
 ghost use Rattle.dns_wire.specs.Names.{labels_wire};
-ghost use Rattle.dns_label.specs.Labels.{AreLabels, IsShort, label_wire, sequence_labels, plain_label};
+ghost use Rattle.dns_label.specs.Labels.{AreLabels, FitsLabel, label_wire, sequence_labels, plain_label};
 ghost use Rattle.dns_label.specs.Order.{label_cmp, Precedes};
 
 use crate::label::Label;
@@ -21,17 +21,17 @@ pub fn label_sizes()
 /// many octets (RFC 1035 section 3.1).
 pub fn one_label()
     ensures spelled { (bytes contents rest : List ℕ) →
-        plain_label bytes ≡ Some (contents, rest) → IsShort contents × (bytes ≡ label_wire contents ++ rest) }
+        plain_label bytes ≡ Some (contents, rest) → FitsLabel contents × (bytes ≡ label_wire contents ++ rest) }
     ensures read { (contents rest : List ℕ) →
-        IsShort contents → plain_label (label_wire contents ++ rest) ≡ Some (contents, rest) }
+        FitsLabel contents → plain_label (label_wire contents ++ rest) ≡ Some (contents, rest) }
 {}
 
 /// Octets are labels one after another exactly where they are the octets of labels of at most 63 octets,
 /// each after its length. They are so of one list of labels only, and it is the one that is read.
 pub fn labels_fill()
     ensures spelled { (octets : List ℕ) → AreLabels octets →
-        AllByRecursion IsShort (sequence_labels octets) × (octets ≡ labels_wire (sequence_labels octets)) }
-    ensures read { (labels : List (List ℕ)) → AllByRecursion IsShort labels →
+        AllByRecursion FitsLabel (sequence_labels octets) × (octets ≡ labels_wire (sequence_labels octets)) }
+    ensures read { (labels : List (List ℕ)) → AllByRecursion FitsLabel labels →
         AreLabels (labels_wire labels) × (sequence_labels (labels_wire labels) ≡ labels) }
 {}
 

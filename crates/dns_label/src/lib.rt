@@ -1,6 +1,7 @@
 //! Labels of domain names: at most 63 octets, compared without regard to ASCII case.
 #![tactic(auto)]
 
+mod equality_laws;
 mod hash;
 mod iter;
 mod label;
@@ -11,6 +12,7 @@ mod text;
 mod text_error;
 mod text_laws;
 
+pub use equality_laws::equal_errors;
 pub use iter::LabelIter;
 pub use label::Label;
 pub use label_buf::{LabelBuf, label_of};

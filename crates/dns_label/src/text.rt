@@ -3,7 +3,7 @@
 ghost use Rattle.std.specs.Prelude.{◌≡◌, ◌<◌, Some, option_map};
 ghost use Rattle.std.specs.Char.{IsAsciiDigit};
 ghost use Rattle.dns_label.specs.Labels.{contents_of};
-ghost use Rattle.dns_label.specs.Text.{Answers, is_plain, three_digits, shown_octet, shown_label, escaped, in_digits, next_octet, label_scan, parsed_label, split_label};
+ghost use Rattle.dns_label.specs.Text.{GivesResult, is_plain, three_digits, shown_octet, shown_label, escaped, in_digits, next_octet, label_scan, parsed_label, split_label};
 
 use crate::label::Label;
 use crate::label_buf::LabelBuf;
@@ -37,7 +37,7 @@ impl LabelBuf {
     /// Reads the label at the start of the text, and gives the text after it, which begins with an octet
     /// that no text of a label has. Each error comes exactly where its fault is the first one from the left.
     pub fn split_str(s: &[u8]) -> Result<(LabelBuf, &[u8]), LabelSplitError>
-        ensures { Answers (λ x. (x.0, x.1.now)) result (split_label s.now) }
+        ensures { GivesResult (λ x. (x.0, x.1.now)) result (split_label s.now) }
     {
         let (label, rest) = scan(s)?;
         if rest.is_empty() {
@@ -60,7 +60,7 @@ impl FromStr for LabelBuf {
 
 /// Scans a label from the left, and gives the text after it.
 fn scan(text: &[u8]) -> Result<(LabelBuf, &[u8]), ScanFault>
-    ensures { Answers (λ x. (x.0, x.1.now)) result (label_scan text.now) }
+    ensures { GivesResult (λ x. (x.0, x.1.now)) result (label_scan text.now) }
 {
     let mut label = LabelBuf::new();
     let mut rest = text;
@@ -77,7 +77,7 @@ fn scan(text: &[u8]) -> Result<(LabelBuf, &[u8]), ScanFault>
 /// octet that no text of a label has.
 #[tactic(auto, unfolding(crate::specs::Text::next_octet))]
 fn next_octet(text: &[u8]) -> Result<Option<(u8, &[u8])>, ScanFault>
-    ensures { Answers (λ found. option_map (λ x. (x.0, x.1.now)) found) result (next_octet text.now) }
+    ensures { GivesResult (λ found. option_map (λ x. (x.0, x.1.now)) found) result (next_octet text.now) }
 {
     let [octet, trailing @ ..] = text else {
         return Ok(None);
@@ -94,7 +94,7 @@ fn next_octet(text: &[u8]) -> Result<Option<(u8, &[u8])>, ScanFault>
 /// The octet that stands after a backslash, and the text after it.
 #[tactic(auto, unfolding(crate::specs::Text::escaped))]
 fn escaped(text: &[u8]) -> Result<Option<(u8, &[u8])>, ScanFault>
-    ensures { Answers (λ found. option_map (λ x. (x.0, x.1.now)) found) result (escaped text.now) }
+    ensures { GivesResult (λ found. option_map (λ x. (x.0, x.1.now)) found) result (escaped text.now) }
 {
     let [octet, trailing @ ..] = text else {
         return Err(ScanFault::CutEscape);
@@ -112,7 +112,7 @@ fn escaped(text: &[u8]) -> Result<Option<(u8, &[u8])>, ScanFault>
 #[tactic(auto, unfolding(crate::specs::Text::in_digits))]
 fn in_digits(first: u8, text: &[u8]) -> Result<Option<(u8, &[u8])>, ScanFault>
     requires { IsAsciiDigit first }
-    ensures { Answers (λ found. option_map (λ x. (x.0, x.1.now)) found) result (in_digits first text.now) }
+    ensures { GivesResult (λ found. option_map (λ x. (x.0, x.1.now)) found) result (in_digits first text.now) }
 {
     let [second, third, trailing @ ..] = text else {
         return Err(ScanFault::CutEscape);

@@ -2,21 +2,21 @@
 
 ghost use Rattle.std.specs.Prelude.{◌≡◌, ◌≢◌, ◌↔◌, ◌⊎◌, ◌++◌, [], ◌∷◌, ℕ, List, Ok, Err};
 ghost use Rattle.dns_wire.specs.Reading.{AreOctets};
-ghost use Rattle.dns_label.specs.Labels.{IsShort};
+ghost use Rattle.dns_label.specs.Labels.{FitsLabel};
 ghost use Rattle.dns_label.specs.declared.text_error.LabelParseError.TheVariants as parse_errors;
 ghost use Rattle.dns_label.specs.declared.text_error.LabelSplitError.TheVariants as split_errors;
 ghost use Rattle.dns_label.specs.declared.text_error.LabelSplitError.TheVariants.{InvalidChar};
-ghost use Rattle.dns_label.specs.Text.{BeginsForeign, EndsLabel, GoesOn, IsCutEscape, IsForeign, IsPlainText, IsWrongEscape, Spells, SpellsMore, parsed_label, shown_label, split_label};
+ghost use Rattle.dns_label.specs.Text.{BeginsForeign, EndsLabel, GoesOn, IsCutEscape, IsForeign, IsPlainText, IsWrongEscape, SpellsLabel, SpellsMore, parsed_label, shown_label, split_label};
 
 /// A text is read as a label exactly where it spells the label's octets, of which there are at most 63. At
 /// the start of a text a label is read exactly where such a text stands there, and an octet follows that no
 /// text of a label has, so that `InvalidChar` never comes.
 pub fn label_texts()
     ensures parsed { (text contents : List ℕ) →
-        (parsed_label text ≡ Ok contents) ↔ (Spells text contents × IsShort contents) }
+        (parsed_label text ≡ Ok contents) ↔ (SpellsLabel text contents × FitsLabel contents) }
     ensures split { (text contents rest : List ℕ) → split_label text ≡ Ok (contents, rest) →
-        (prefix : List ℕ) × (text ≡ prefix ++ rest) × Spells prefix contents × IsShort contents × (rest ≢ []) × EndsLabel rest }
-    ensures prefix { (text contents rest : List ℕ) (octet : ℕ) → Spells text contents → IsShort contents → IsForeign octet →
+        (prefix : List ℕ) × (text ≡ prefix ++ rest) × SpellsLabel prefix contents × FitsLabel contents × (rest ≢ []) × EndsLabel rest }
+    ensures prefix { (text contents rest : List ℕ) (octet : ℕ) → SpellsLabel text contents → FitsLabel contents → IsForeign octet →
         split_label (text ++ octet ∷ rest) ≡ Ok (contents, octet ∷ rest) }
     ensures never { (text : List ℕ) → split_label text ≢ Err InvalidChar }
 {}
@@ -39,9 +39,9 @@ pub fn label_text_errors()
 /// What is printed of a label is read as that label, by itself and before an octet that no text of a
 /// label has.
 pub fn printed_labels_are_read()
-    ensures parsed { (contents : List ℕ) → AreOctets contents → IsShort contents →
+    ensures parsed { (contents : List ℕ) → AreOctets contents → FitsLabel contents →
         parsed_label (shown_label contents) ≡ Ok contents }
-    ensures split { (contents rest : List ℕ) (octet : ℕ) → AreOctets contents → IsShort contents → IsForeign octet →
+    ensures split { (contents rest : List ℕ) (octet : ℕ) → AreOctets contents → FitsLabel contents → IsForeign octet →
         split_label (shown_label contents ++ octet ∷ rest) ≡ Ok (contents, octet ∷ rest) }
 {}
 

@@ -14,7 +14,7 @@ use Rattle.dns_record.specs.declared.rtype.RType.{RType}
 use Rattle.dns_rdata.specs.declared.unknown.UnknownRecordData.{UnknownRecordData}
 use Rattle.dns_rdata.specs.Data.{type_number, IsDataOf}
 use Rattle.dns_rdata.specs.Edns.{EdnsOf}
-use Rattle.dns_rdata.specs.EdnsForms.{edns_ttl, edns_fields, option_octets, edns_in}
+use Rattle.dns_rdata.specs.EdnsForms.{edns_ttl, edns_fields, octets_of_options, edns_in}
 use Rattle.dns_rdata.specs.declared.record_data.RecordData.{RecordData}
 use Rattle.dns_rdata.specs.declared.record_data.RecordData.TheVariants.{Opt, Unknown}
 use Rattle.dns_message.specs.Messages.{RecordValue, item_at}
@@ -57,7 +57,7 @@ other_number n differs is = grind (arith, nat_tests, differs, is)
 
 -- data with the number of OPT are options, or of an unknown type
 abbrev Options : RecordData (List (List ℕ)) → Type 0
-Options v = (octets : List ℕ) × (option_octets v ≡ Some octets)
+Options v = (octets : List ℕ) × (octets_of_options v ≡ Some octets)
 
 abbrev IsUnknown : RecordData (List (List ℕ)) → Type 0
 IsUnknown v = (rtype : RType) × (u : UnknownRecordData) × (v ≡ Unknown rtype u)
@@ -81,7 +81,7 @@ options_there v is = known_options v is (options_or_unknown v is.0)
 abbrev single : Field → List Field
 single field = field ∷ []
 
-options_seen : (v : RecordData (List (List ℕ))) (octets : List ℕ) → option_octets v ≡ Some octets → data_seen v ≡ Raw octets ∷ []
+options_seen : (v : RecordData (List (List ℕ))) (octets : List ℕ) → octets_of_options v ≡ Some octets → data_seen v ≡ Raw octets ∷ []
 options_seen (Opt v) octets e = let same : v.slice.now ≡ octets = cc in ap (λ (l : List ℕ). single (Raw l)) same
 options_seen (Unknown rtype v) octets e = by ((rtype.code.value == 41) && is_option_data v.octets.now) e where
   by : (b : Bool) → cond b (Some v.octets.now) None ≡ Some octets → ◌≡◌ {A = List Field} (Raw v.octets.now ∷ []) (Raw octets ∷ [])

@@ -10,9 +10,10 @@ use Rattle.std.specs.List.Sorted.{IsPermutation}
 use Rattle.std.proofs.lemmas.Cmp.{on_total, tied_itself}
 use Rattle.std.proofs.lemmas.List.{reverse-reverse, length-append}
 use Rattle.std.proofs.lemmas.List.Sorted.{IsPermutation-refl, IsPermutation-cons, IsPermutation-middle, IsPermutation-trans}
-use Rattle.dns_wire.specs.Names.{lowered}
+use Rattle.dns_wire.specs.Names.{lowered, wire}
 use Rattle.dns_wire.proofs.Lowered.{wire_parts, name_lowered, lowered_long}
-use Rattle.dns_message.specs.Canonical.{canonical_wire, is_not_opt, octets_of_parts}
+use Rattle.dns_record.specs.Records.{octets_of_parts}
+use Rattle.dns_message.specs.Canonical.{canonical_wire, is_not_opt}
 use Rattle.dns_record.specs.Types.{is_lowercased}
 use Rattle.dns_record.specs.Fields.{Field, field_octets, fields_octets, lowercased_field, canonical_fields}
 use Rattle.dns_record.specs.Fields.FieldOf.{Compressible, Uncompressed, Raw, Sized, Byte, Number}
@@ -67,7 +68,7 @@ octets_long r is = by (is_lowercased r.rtype) where
 
 -- the canonical octets are those of what is compared
 pub key_canonical_wire : (r : RecordValue) → octets_of_key (sort_key r) ≡ canonical_wire r
-key_canonical_wire r = ap (λ (small : List (List ℕ)). octets_of_parts small r.rtype r.class r.ttl (fields_octets (canonical_fields r.rtype r.content))) (reverse-reverse (lowered r.owner))
+key_canonical_wire r = ap (λ (small : List (List ℕ)). octets_of_parts (wire small) r.rtype r.class r.ttl (fields_octets (canonical_fields r.rtype r.content))) (reverse-reverse (lowered r.owner))
 
 -- equal canonical octets are of records that are compared as equal
 pub keys_from_canonical_wire : (r s : RecordValue) → WellFormed r → WellFormed s → canonical_wire r ≡ canonical_wire s → sort_key r ≡ sort_key s

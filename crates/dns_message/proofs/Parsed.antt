@@ -6,7 +6,7 @@ use Rattle.dns_message.specs.Messages.Reading.{Stopped, Whole}
 use Rattle.dns_message.specs.Parsing.{parsed_message, given_count, next_start, has_ended, slots_ahead, ahead, Parsed, GivesNext}
 use Rattle.dns_message.specs.Seen.{item_seen}
 use Rattle.dns_message.specs.declared.parser.MessageParser.{MessageParser}
-use Rattle.dns_message.specs.declared.parser.Place.{Place}
+use Rattle.dns_message.specs.declared.parser.ItemPosition.{ItemPosition}
 
 -- an item, and those after it
 reads_on : (c : List ℕ) (slots later : List (ℕ × ℕ)) (slot : ℕ × ℕ) (at : ℕ) (read : Option (Item × ℕ)) → slots ≡ slot ∷ later → item_at slot.0 c at ≡ read
@@ -24,13 +24,13 @@ starts p long given start ended =
     let fits : ltb (length (parsed_message p)) 12 ≡ false = le-ltb _ _ long in
     rw (fits, given, start, ended) refl
 
-pub gives : (E : Type 0) (old new : MessageParser) (place : Place) (item : Parsed) → parsed_message new ≡ parsed_message old → GivesNext {E = E} old (Some (place, Ok item)) new → ahead old ≡ with_item (item_seen item) (ahead new)
-gives E old new place item unchanged g =
-    reads_on (drop 12 (parsed_message old)) (slots_ahead old) (slots_ahead new) (place.section, place.index) (next_start old) (Some (item_seen item, next_start new)) g.0 g.1
+pub gives : (E : Type 0) (old new : MessageParser) (position : ItemPosition) (item : Parsed) → parsed_message new ≡ parsed_message old → GivesNext {E = E} old (Some (position, Ok item)) new → ahead old ≡ with_item (item_seen item) (ahead new)
+gives E old new position item unchanged g =
+    reads_on (drop 12 (parsed_message old)) (slots_ahead old) (slots_ahead new) (position.section, position.index) (next_start old) (Some (item_seen item, next_start new)) g.0 g.1
     ∙ ap (λ (m : List ℕ). with_item (item_seen item) (reading_from (drop 12 m) (slots_ahead new) (next_start new))) (sym unchanged)
 
-pub refuses : {E : Type 0} (old new : MessageParser) (place : Place) (error : E) → GivesNext old (Some (place, Err error)) new → ahead old ≡ Stopped [] place.section place.index (next_start old)
-refuses old new place error g = reads_on (drop 12 (parsed_message old)) (slots_ahead old) g.0 (place.section, place.index) (next_start old) None g.1 g.2
+pub refuses : {E : Type 0} (old new : MessageParser) (position : ItemPosition) (error : E) → GivesNext old (Some (position, Err error)) new → ahead old ≡ Stopped [] position.section position.index (next_start old)
+refuses old new position error g = reads_on (drop 12 (parsed_message old)) (slots_ahead old) g.0 (position.section, position.index) (next_start old) None g.1 g.2
 
 pub ends : (E : Type 0) (old new : MessageParser) → GivesNext {E = E} old None new → ahead old ≡ Whole [] (next_start old)
 ends E old new g = reads_none (drop 12 (parsed_message old)) (slots_ahead old) (next_start old) g.0

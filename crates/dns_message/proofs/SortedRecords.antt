@@ -11,9 +11,10 @@ use Rattle.std.proofs.lemmas.Cmp.{nat_cmp_total, on_total, then_total, nat_list_
 use Rattle.std.proofs.lemmas.List.{reverse-reverse}
 use Rattle.std.proofs.lemmas.List.Recursion.{is_sum_by}
 use Rattle.std.proofs.lemmas.List.Sorted.{ranks_by, sum_by-IsPermutation, IsPermutation-map}
-use Rattle.dns_wire.specs.Names.{lowered}
+use Rattle.dns_wire.specs.Names.{lowered, wire}
 use Rattle.dns_name.proofs.NameSameness.{keys_total}
-use Rattle.dns_message.specs.Canonical.{canonical_wire, octets_of_parts}
+use Rattle.dns_record.specs.Records.{octets_of_parts}
+use Rattle.dns_message.specs.Canonical.{canonical_wire}
 use Rattle.dns_record.specs.Fields.{fields_octets, canonical_fields}
 use Rattle.dns_message.specs.Messages.{RecordValue}
 use Rattle.dns_message.specs.Order.{SortKey, sort_key, alike_cmp, ttl_cmp, sort_key_cmp, precedes, inserted, in_order, octets_of_key}
@@ -192,7 +193,7 @@ ascends_in_order (r ∷ rs) = ascends_inserted r (in_order rs) (ascends_in_order
 pub octets_of_keys : (rs : List RecordValue) → map octets_of_key (map sort_key rs) ≡ map canonical_wire rs
 octets_of_keys [] = refl
 octets_of_keys (r ∷ rs) =
-    ap (λ (small : List (List ℕ)). octets_of_parts small r.rtype r.class r.ttl (fields_octets (canonical_fields r.rtype r.content)) ∷ map octets_of_key (map sort_key rs)) (reverse-reverse (lowered r.owner))
+    ap (λ (small : List (List ℕ)). octets_of_parts (wire small) r.rtype r.class r.ttl (fields_octets (canonical_fields r.rtype r.content)) ∷ map octets_of_key (map sort_key rs)) (reverse-reverse (lowered r.owner))
     ∙ ap (λ (l : List (List ℕ)). canonical_wire r ∷ l) (octets_of_keys rs)
 
 -- what a sort leaves is what the definition gives

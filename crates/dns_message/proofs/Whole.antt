@@ -16,11 +16,11 @@ use Rattle.dns_record.specs.Fields.{Field, field_octets, fields_octets, lowercas
 use Rattle.dns_record.specs.Fields.FieldOf.{Compressible, Uncompressed, Raw, Sized, Byte, Number}
 use Rattle.dns_record.specs.Kinds.{Kind, fields_of}
 use Rattle.dns_record.specs.Kinds.Kind.{CompressibleName, UncompressedName}
-use Rattle.dns_record.specs.Records.{record_at}
+use Rattle.dns_record.specs.Records.{record_at, octets_of_parts}
 use Rattle.dns_record.specs.Formats.{rdata_format}
 use Rattle.dns_record.specs.Types.{is_lowercased}
 use Rattle.dns_record.proofs.Sizes.{canonical_long}
-use Rattle.dns_message.specs.Canonical.{lowercase_names, octets_of_parts, record_octets, canonical_wire, plain_record}
+use Rattle.dns_message.specs.Canonical.{lowercase_names, record_octets, canonical_wire, plain_record}
 use Rattle.dns_message.specs.Messages.{RecordValue}
 use Rattle.dns_message.specs.WellFormed.{WellFormed}
 use Rattle.dns_message.proofs.Octets.{octets_in_prefix, octets_after, octets_of_both, octets_lowered, number_octets_2, number_octets_4}
@@ -54,7 +54,7 @@ tail_octets rtype class ttl body are =
     (octets_of_both (to_be_bytes w32 ttl) five (number_octets_4 ttl)
     (octets_of_both (to_be_bytes w16 (length body)) body (number_octets_2 (length body)) are)))
 
-pub parts_octets : (owner : List (List ℕ)) (rtype class ttl : ℕ) (body : List ℕ) → AreOctets (wire owner) → AreOctets body → AreOctets (octets_of_parts owner rtype class ttl body)
+pub parts_octets : (owner : List (List ℕ)) (rtype class ttl : ℕ) (body : List ℕ) → AreOctets (wire owner) → AreOctets body → AreOctets (octets_of_parts (wire owner) rtype class ttl body)
 parts_octets owner rtype class ttl body named are = octets_of_both (wire owner) (to_be_bytes w16 rtype ++ (to_be_bytes w16 class ++ (to_be_bytes w32 ttl ++ (to_be_bytes w16 (length body) ++ body)))) named (tail_octets rtype class ttl body are)
 
 pub owner_octets : (r : RecordValue) → WellFormed r → AreOctets (wire r.owner)

@@ -1,5 +1,6 @@
 -- Records as they are built in a message, where names are shared (RFC 1035 section 4.1.4).
-use Rattle.std.specs.Prelude.{◌≡◌, ℕ, List, Some, map}
+use Rattle.std.specs.Prelude.{◌≡◌, ℕ, Some, map}
+use Rattle.dns_wire.specs.Octets.{Octets, Labels}
 use Rattle.dns_wire.specs.Compression.{CompressedWrite, compressed_name_writes}
 use Rattle.dns_wire.specs.Names.{lowered}
 use Rattle.dns_wire.specs.Layout.{LayoutPart, laid}
@@ -22,13 +23,13 @@ abbrev pub built : RecordValue → CompressedWrite
 built r = record_writes (compressed_name_writes r.owner) (record_numbers r.rtype r.class r.ttl) (laid (map field_part r.content))
 
 -- a record is read from a place up to an end which is this one, but for ASCII case where it does not count
-pub record ReadAgain (contents : List ℕ) (at : ℕ) (r : RecordValue) (end : ℕ) : Type 0 where
+pub record ReadAgain (contents : Octets) (at : ℕ) (r : RecordValue) (end : ℕ) : Type 0 where
   pub there : RecordValue
   pub read : record_in name_at (data_in name_at) contents at ≡ Some (there, end)
   pub alike : lowercase_names there ≡ lowercase_names r
 
 -- and such a question
-pub record QuestionAgain (contents : List ℕ) (at : ℕ) (labels : List (List ℕ)) (qtype class end : ℕ) : Type 0 where
-  pub there : List (List ℕ)
+pub record QuestionAgain (contents : Octets) (at : ℕ) (labels : Labels) (qtype class end : ℕ) : Type 0 where
+  pub there : Labels
   pub read : question_in name_at contents at ≡ Some (record { name = there; qtype = qtype; class = class }, end)
   pub alike : lowered there ≡ lowered labels

@@ -1,5 +1,6 @@
 -- Pieces in a message, as they are read where they stand: names, ignoring ASCII case, and octets as they are.
 use Rattle.std.specs.Prelude.{◌≡◌, ℕ, ◌+◌, ◌≤◌, List, [], ◌∷◌, length, take, drop, ⊤}
+use Rattle.dns_wire.specs.Octets.{Octets}
 use Rattle.dns_wire.specs.Compression.{ReadsAlike}
 use Rattle.dns_wire.specs.Names.{IsName}
 use Rattle.dns_wire.specs.Layout.{LayoutPart}
@@ -11,7 +12,7 @@ IsLayoutPart (NamePart labels) = IsName labels
 IsLayoutPart (OctetsPart octets) = ⊤
 
 -- they stand one after another, from a place up to an end
-abbrev pub LayoutAt : List ℕ → ℕ → List LayoutPart → ℕ → Type 0
+abbrev pub LayoutAt : Octets → ℕ → List LayoutPart → ℕ → Type 0
 LayoutAt contents at [] end = at ≡ end
 LayoutAt contents at (NamePart labels ∷ layout) end =
     (middle : ℕ) × ReadsAlike contents labels at middle × LayoutAt contents middle layout end

@@ -1,4 +1,5 @@
 -- Messages: the counted items one after another, and the first that is not read (RFC 1035 section 4.1).
+use Rattle.dns_wire.specs.Octets.{Octets, Labels}
 use Rattle.dns_wire.specs.declared.sizes.TheConstants.{HEADER_SIZE}
 use Rattle.std.specs.Prelude.{◌≡◌, ℕ, zero, suc, ◌+◌, ◌*◌, List, [], ◌∷◌, ◌++◌, length, drop, Option, Some, None, nat_lt, slice_index, ◌==◌, if◌then◌else◌}
 use Rattle.dns_wire.specs.Pointers.{name_at}
@@ -10,42 +11,52 @@ use Rattle.dns_wire.specs.Steps.{first_to}
 
 -- a question, with its name's labels
 abbrev pub Question : Type 0
-Question = QuestionOf (List (List ℕ))
+Question = QuestionOf Labels
 
 -- a record, with its owner's labels and its data's fields
 abbrev pub RecordValue : Type 0
-RecordValue = RecordOf (List (List ℕ)) (List Field)
+RecordValue = RecordOf Labels (List Field)
 
 pub data Item : Type 0 where
   QuestionItem : Question → Item
   RecordItem : RecordValue → Item
 
 -- the item at a place in the contents; those of section 0 are questions, and all others are records
-unfoldable pub item_at : ℕ → List ℕ → ℕ → Option (Item × ℕ)
+unfoldable pub item_at : ℕ → Octets → ℕ → Option (Item × ℕ)
 item_at section contents at =
     if section == 0 then first_to QuestionItem (question_in name_at contents at)
     else first_to RecordItem (record_in name_at (data_in name_at) contents at)
 
 -- ---- which items are counted
 
--- the items of a section from an index on, each by its section and its index
-unfoldable pub slots : ℕ → ℕ → ℕ → List (ℕ × ℕ)
+-- an item's section, and its index among the items of this section
+abbrev pub Slot : Type 0
+Slot = ℕ × ℕ
+
+abbrev pub slot_section : Slot → ℕ
+slot_section slot = slot.0
+
+abbrev pub slot_index : Slot → ℕ
+slot_index slot = slot.1
+
+-- the items of a section from an index on
+unfoldable pub slots : ℕ → ℕ → ℕ → List Slot
 slots section index zero = []
 slots section index (suc n) = (section, index) ∷ slots section (index + 1) n
 
 -- those of a section and the sections after it, by their counts
-unfoldable pub slots_from : ℕ → List ℕ → List (ℕ × ℕ)
+unfoldable pub slots_from : ℕ → List ℕ → List Slot
 slots_from section [] = []
 slots_from section (count ∷ counts) = slots section 0 count ++ slots_from (section + 1) counts
 
 -- the four counts of the header: questions, answers, authorities and additional records
-abbrev pub counts_of : List ℕ → List ℕ
+abbrev pub counts_of : Octets → List ℕ
 counts_of m =
     (slice_index m 4 * 256 + slice_index m 5) ∷ (slice_index m 6 * 256 + slice_index m 7)
     ∷ (slice_index m 8 * 256 + slice_index m 9) ∷ (slice_index m 10 * 256 + slice_index m 11) ∷ []
 
 -- the counted items of a message, in order
-abbrev pub counted_slots : List ℕ → List (ℕ × ℕ)
+abbrev pub counted_slots : Octets → List Slot
 counted_slots m = slots_from 0 (counts_of m)
 
 -- ---- reading a message
@@ -57,24 +68,24 @@ pub data Reading : Type 0 where
   Stopped : List Item → ℕ → ℕ → ℕ → Reading
   Whole : List Item → ℕ → Reading
 
--- a reading with an item before
+-- an item, and then a reading
 abbrev pub with_item : Item → Reading → Reading
 with_item item Short = Short
 with_item item (Stopped items section index place) = Stopped (item ∷ items) section index place
 with_item item (Whole items end) = Whole (item ∷ items) end
 
 -- what stands at a place, and what is read after it
-abbrev pub then_read : ℕ × ℕ → ℕ → (ℕ → Reading) → Option (Item × ℕ) → Reading
-then_read slot at more None = Stopped [] slot.0 slot.1 at
+abbrev pub then_read : Slot → ℕ → (ℕ → Reading) → Option (Item × ℕ) → Reading
+then_read slot at more None = Stopped [] (slot_section slot) (slot_index slot) at
 then_read slot at more (Some (item, end)) = with_item item (more end)
 
 -- the items that are counted, one after another from a place on
-unfoldable pub reading_from : List ℕ → List (ℕ × ℕ) → ℕ → Reading
+unfoldable pub reading_from : Octets → List Slot → ℕ → Reading
 reading_from contents [] at = Whole [] at
-reading_from contents (slot ∷ slots) at = then_read slot at (reading_from contents slots) (item_at slot.0 contents at)
+reading_from contents (slot ∷ slots) at = then_read slot at (reading_from contents slots) (item_at (slot_section slot) contents at)
 
 -- what a message is read as; its contents begin after its twelve header octets
-unfoldable pub message_reading : List ℕ → Reading
+unfoldable pub message_reading : Octets → Reading
 message_reading m = if nat_lt (length m) HEADER_SIZE then Short else reading_from (drop HEADER_SIZE m) (counted_slots m) 0
 
 -- the records among some items, in order
@@ -84,13 +95,13 @@ records_among (QuestionItem q ∷ items) = records_among items
 records_among (RecordItem r ∷ items) = r ∷ records_among items
 
 -- the message is read whole, and these are its records
-abbrev pub Valid : List ℕ → List RecordValue → Type 0
+abbrev pub Valid : Octets → List RecordValue → Type 0
 Valid m rs = (items : List Item) × (end : ℕ) × (message_reading m ≡ Whole items end) × (rs ≡ records_among items)
 
 -- this item of this section is the first that is not read, at this place
-abbrev pub StopsAt : List ℕ → ℕ → ℕ → ℕ → Type 0
+abbrev pub StopsAt : Octets → ℕ → ℕ → ℕ → Type 0
 StopsAt m section index place = (items : List Item) × (message_reading m ≡ Stopped items section index place)
 
 -- this item of this section is the first that is not read
-abbrev pub BadAt : List ℕ → ℕ → ℕ → Type 0
+abbrev pub BadAt : Octets → ℕ → ℕ → Type 0
 BadAt m section index = (place : ℕ) × StopsAt m section index place

@@ -6,18 +6,21 @@ use Rattle.std.specs.declared.cmp.Ordering.TheVariants.{Less}
 use Rattle.std.specs.List.{dedup}
 use Rattle.std.specs.Ordering.{nat_cmp, on, then_cmp, eq_by_cmp, is_gt}
 use Rattle.std.specs.Cmp.Lexicographic.{slice_cmp}
+use Rattle.dns_wire.specs.Octets.{Octets, Labels}
+use Rattle.dns_wire.specs.Names.{wire}
 use Rattle.dns_name.specs.Order.{key, key_cmp}
 use Rattle.dns_record.specs.Fields.{fields_octets, canonical_fields}
+use Rattle.dns_record.specs.Records.{octets_of_parts}
 use Rattle.dns_message.specs.Messages.{RecordValue}
-use Rattle.dns_message.specs.Canonical.{octets_of_parts, canonical_wire, is_not_opt}
+use Rattle.dns_message.specs.Canonical.{canonical_wire, is_not_opt}
 
 -- what records are compared by, in this order: the owner's lowered labels from the root on, the class, the type, the
 -- canonical octets of the data, and the time to live
 pub record SortKey : Type 0 where
-  pub owner : List (List ℕ)
+  pub owner : Labels
   pub class : ℕ
   pub rtype : ℕ
-  pub octets : List ℕ
+  pub octets : Octets
   pub ttl : ℕ
 
 abbrev pub sort_key : RecordValue → SortKey
@@ -50,8 +53,8 @@ abbrev pub Before : RecordValue → RecordValue → Type 0
 Before r s = record_cmp r s ≡ Less
 
 -- the canonical octets are those of what records are compared by
-abbrev pub octets_of_key : SortKey → List ℕ
-octets_of_key k = octets_of_parts (reverse k.owner) k.rtype k.class k.ttl k.octets
+abbrev pub octets_of_key : SortKey → Octets
+octets_of_key k = octets_of_parts (wire (reverse k.owner)) k.rtype k.class k.ttl k.octets
 
 -- ---- the list
 
@@ -78,5 +81,5 @@ abbrev pub collapsed : List RecordValue → List RecordValue
 collapsed rs = dedup are_alike (in_order rs)
 
 -- the canonical list of some records: the canonical octets of those other than OPT, in order, alike ones once
-abbrev pub canonical_list : List RecordValue → List (List ℕ)
+abbrev pub canonical_list : List RecordValue → List Octets
 canonical_list rs = map canonical_wire (collapsed (filter is_not_opt rs))

@@ -1,17 +1,18 @@
 -- Going over a message item by item. What is seen of a parser is its message, how many items it gave, where in the contents the
 -- next one begins, and whether it has ended.
+use Rattle.dns_wire.specs.Octets.{Octets, Labels}
 use Rattle.dns_wire.specs.declared.sizes.TheConstants.{HEADER_SIZE}
 use Rattle.std.specs.Prelude.{◌≡◌, ℕ, suc, List, [], ◌∷◌, drop, Bool, true, Option, Some, None, Result, Ok, Err, IfOk, if◌then◌else◌}
 use Rattle.dns_edns.specs.declared.opt.Opt.{Opt}
 use Rattle.dns_rdata.specs.declared.record_data.RecordData.{RecordData}
-use Rattle.dns_message.specs.Messages.{Reading, item_at, counted_slots, reading_from}
+use Rattle.dns_message.specs.Messages.{Reading, item_at, counted_slots, reading_from, Slot}
 use Rattle.dns_message.specs.Seen.{item_seen, HasSoundData, IsOfSection}
 use Rattle.dns_message.specs.declared.item.MessageItem.{MessageItem}
 use Rattle.dns_message.specs.declared.parser.MessageParser.{MessageParser}
-use Rattle.dns_message.specs.declared.parser.Place.{Place}
+use Rattle.dns_message.specs.declared.parser.ItemPosition.{ItemPosition}
 
 -- the octets of its message
-abbrev pub parsed_message : MessageParser → List ℕ
+abbrev pub parsed_message : MessageParser → Octets
 parsed_message p = p.message.slice.now
 
 -- how many items it gave
@@ -27,7 +28,7 @@ abbrev pub has_ended : MessageParser → Bool
 has_ended p = p.ended
 
 -- the counted items that are still to come, each by its section and its index
-abbrev pub slots_ahead : MessageParser → List (ℕ × ℕ)
+abbrev pub slots_ahead : MessageParser → List Slot
 slots_ahead p = if has_ended p then [] else drop (given_count p) (counted_slots (parsed_message p))
 
 -- what is still read: the items to come, from where the next one begins
@@ -36,26 +37,26 @@ ahead p = reading_from (drop HEADER_SIZE (parsed_message p)) (slots_ahead p) (ne
 
 -- an item with names of its own
 abbrev pub Parsed : Type 0
-Parsed = MessageItem (List (List ℕ)) (RecordData (List (List ℕ))) Opt
+Parsed = MessageItem Labels (RecordData Labels) Opt
 
 -- What a call gives, and what it leaves. An item is that which is read at the next place; then one more was given, and the
--- next begins where it ends. An item that is not read is refused once, by its place, and then the parser has ended for good. It
+-- next begins where it ends. An item that is not read is refused once, by its position, and then the parser has ended for good. It
 -- gives none where none is to come.
-abbrev pub GivesNext : {E : Type 0} → MessageParser → Option (Place × Result Parsed E) → MessageParser → Type 0
+abbrev pub GivesNext : {E : Type 0} → MessageParser → Option (ItemPosition × Result Parsed E) → MessageParser → Type 0
 GivesNext old None new = (slots_ahead old ≡ []) × (slots_ahead new ≡ []) × (next_start new ≡ next_start old) × (given_count new ≡ given_count old)
-GivesNext old (Some (place, Ok item)) new =
-    (slots_ahead old ≡ (place.section, place.index) ∷ slots_ahead new)
-    × (item_at place.section (drop HEADER_SIZE (parsed_message old)) (next_start old) ≡ Some (item_seen item, next_start new))
+GivesNext old (Some (position, Ok item)) new =
+    (slots_ahead old ≡ (position.section, position.index) ∷ slots_ahead new)
+    × (item_at position.section (drop HEADER_SIZE (parsed_message old)) (next_start old) ≡ Some (item_seen item, next_start new))
     × (given_count new ≡ suc (given_count old))
-GivesNext old (Some (place, Err error)) new =
-    (later : List (ℕ × ℕ)) × (slots_ahead old ≡ (place.section, place.index) ∷ later)
-    × (item_at place.section (drop HEADER_SIZE (parsed_message old)) (next_start old) ≡ None)
+GivesNext old (Some (position, Err error)) new =
+    (later : List Slot) × (slots_ahead old ≡ (position.section, position.index) ∷ later)
+    × (item_at position.section (drop HEADER_SIZE (parsed_message old)) (next_start old) ≡ None)
     × (slots_ahead new ≡ []) × (has_ended new ≡ true) × (next_start new ≡ next_start old) × (given_count new ≡ given_count old)
 
--- The same without the place. The message stays, and an item that is read is one of its section (RFC 1035 section 4.1) with sound
+-- The same without the position. The message stays, and an item that is read is one of its section (RFC 1035 section 4.1) with sound
 -- data, as all that is read has.
 abbrev pub GivesItem : {E : Type 0} → MessageParser → Option (Result Parsed E) → MessageParser → Type 0
 GivesItem {E = E} old None new = (parsed_message new ≡ parsed_message old) × GivesNext {E = E} old None new
 GivesItem old (Some item) new =
     (parsed_message new ≡ parsed_message old) × IfOk item HasSoundData
-    × ((place : Place) × GivesNext old (Some (place, item)) new × IfOk item (IsOfSection place.section (drop (next_start old) (drop HEADER_SIZE (parsed_message old)))))
+    × ((position : ItemPosition) × GivesNext old (Some (position, item)) new × IfOk item (IsOfSection position.section (drop (next_start old) (drop HEADER_SIZE (parsed_message old)))))

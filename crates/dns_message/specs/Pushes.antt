@@ -1,7 +1,8 @@
 -- Pushes one after another: which of them are accepted, what they leave, and which records they add.
+use Rattle.dns_wire.specs.Octets.{Labels}
 use Rattle.dns_wire.specs.declared.sizes.TheConstants.{HEADER_SIZE}
 use Rattle.std.specs.Prelude.{ℕ, ◌+◌, ◌<◌, ◌^◌, List, [], ◌∷◌, ◌++◌, length, Bool, not, ◌&&◌, nat_lt, nat_le, if◌then◌else◌}
-use Rattle.dns_wire.specs.Compression.{CompressedWrite, compressed_name_writes}
+use Rattle.dns_wire.specs.Compression.{CompressedWrite, compressed_name_writes, written_octets}
 use Rattle.dns_wire.specs.Names.{IsName}
 use Rattle.dns_record.specs.InMessage.{question_writes}
 use Rattle.dns_message.specs.Building.{Draft, count_in, has_later, pushed}
@@ -12,7 +13,7 @@ use Rattle.dns_message.specs.WellFormed.{WellFormed}
 -- a question of a name, a type and a class, whose name is compressed; or for a section a record, whose owner is compressed and so
 -- are its names that pointers may lead through
 pub data Push : Type 0 where
-  Ask : List (List ℕ) → ℕ → ℕ → Push
+  Ask : Labels → ℕ → ℕ → Push
   Add : ℕ → RecordValue → Push
 
 -- a question's labels are a name, and its numbers fit their octets; a record is well formed, and of one of the three sections
@@ -41,7 +42,7 @@ abbrev pub is_accepted : Push → Draft → Bool
 is_accepted push draft =
     not (has_later (push_section push) draft.header)
     && (nat_lt (count_in (push_section push) draft.header) 65535
-    && nat_le (HEADER_SIZE + length draft.contents + length (push_writes push draft.contents draft.places).0) draft.size)
+    && nat_le (HEADER_SIZE + length draft.contents + length (written_octets (push_writes push draft.contents draft.places))) draft.size)
 
 -- what it leaves: the draft as it was, where it is refused
 abbrev pub after_push : Push → Draft → Draft

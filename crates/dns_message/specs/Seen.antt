@@ -1,4 +1,5 @@
 -- What is seen of the items that are read.
+use Rattle.dns_wire.specs.Octets.{Octets, Labels}
 use Rattle.dns_record.specs.Types.{opt_number}
 use Rattle.std.specs.Prelude.{◌≢◌, ◌≡◌, ℕ, ◌<◌, ◌^◌, List, [], ◌∷◌, length, map, take}
 use Rattle.dns_record.specs.Fields.{Field, named_by, fields_octets}
@@ -16,19 +17,19 @@ use Rattle.dns_message.specs.declared.item.MessageItem.{MessageItem}
 use Rattle.dns_message.specs.declared.item.MessageItem.TheVariants.{Question, Answer, Authority, Additional, Edns}
 
 -- the fields of data, whose names are seen as their labels
-abbrev pub data_seen : RecordData (List (List ℕ)) → List Field
+abbrev pub data_seen : RecordData Labels → List Field
 data_seen v = map (named_by (λ labels. labels)) (data_fields v)
 
 -- an owned record, whose names are seen as their labels
-abbrev pub record_value : Record (List (List ℕ)) (RecordData (List (List ℕ))) → RecordValue
+abbrev pub record_value : Record Labels (RecordData Labels) → RecordValue
 record_value = record_seen (λ labels. labels) data_seen
 
 -- an EDNS record as a record: its owner is the root, and its fields stand as class and as time to live (RFC 6891 section 6.1.2)
-abbrev pub edns_value : EdnsOf (List ℕ) → RecordValue
+abbrev pub edns_value : EdnsOf Octets → RecordValue
 edns_value e = record { owner = []; rtype = opt_number; class = e.payload; ttl = edns_ttl e.ext_rcode e.version e.flags; content = Raw e.content ∷ [] }
 
 -- a question, or a record of whatever section
-abbrev pub item_seen : MessageItem (List (List ℕ)) (RecordData (List (List ℕ))) Opt → Item
+abbrev pub item_seen : MessageItem Labels (RecordData Labels) Opt → Item
 item_seen (Question q) = QuestionItem (question_seen (λ labels. labels) q)
 item_seen (Answer r) = RecordItem (record_value r)
 item_seen (Authority r) = RecordItem (record_value r)
@@ -36,12 +37,12 @@ item_seen (Additional r) = RecordItem (record_value r)
 item_seen (Edns e) = RecordItem (edns_value (edns_seen (λ options. options.slice.now) e))
 
 -- octets that begin with the root and the number of OPT
-abbrev pub BeginsEdns : List ℕ → Type 0
+abbrev pub BeginsEdns : Octets → Type 0
 BeginsEdns octets = take 3 octets ≡ edns_fixed_header
 
 -- Of which section an item is, where it begins with these octets: an additional item is an EDNS record exactly where it begins
 -- as one.
-abbrev pub IsOfSection : {N D E : Type 0} → ℕ → List ℕ → MessageItem N D E → Type 0
+abbrev pub IsOfSection : {N D E : Type 0} → ℕ → Octets → MessageItem N D E → Type 0
 IsOfSection section octets (Question q) = section ≡ 0
 IsOfSection section octets (Answer r) = section ≡ 1
 IsOfSection section octets (Authority r) = section ≡ 2
@@ -49,11 +50,11 @@ IsOfSection section octets (Additional r) = (section ≡ 3) × ¬ BeginsEdns oct
 IsOfSection section octets (Edns e) = (section ≡ 3) × BeginsEdns octets
 
 -- data are of the type of their record, and that many octets as its size can say
-abbrev pub AreSound : Record (List (List ℕ)) (RecordData (List (List ℕ))) → Type 0
+abbrev pub AreSound : Record Labels (RecordData Labels) → Type 0
 AreSound r = IsDataOf r.rdata r.rtype.code.value × (length (fields_octets (data_seen r.rdata)) < 2 ^ 16)
 
 -- the same of the record that an item is
-abbrev pub HasSoundData : {E : Type 0} → MessageItem (List (List ℕ)) (RecordData (List (List ℕ))) E → Type 0
+abbrev pub HasSoundData : {E : Type 0} → MessageItem Labels (RecordData Labels) E → Type 0
 HasSoundData (Question q) = Unit {0}
 HasSoundData (Answer r) = AreSound r
 HasSoundData (Authority r) = AreSound r
@@ -61,7 +62,7 @@ HasSoundData (Additional r) = AreSound r
 HasSoundData (Edns e) = Unit {0}
 
 -- the same of a record of another type than OPT
-abbrev pub HasSoundDataUnlessOpt : {E : Type 0} → MessageItem (List (List ℕ)) (RecordData (List (List ℕ))) E → Type 0
+abbrev pub HasSoundDataUnlessOpt : {E : Type 0} → MessageItem Labels (RecordData Labels) E → Type 0
 HasSoundDataUnlessOpt (Question q) = Unit {0}
 HasSoundDataUnlessOpt (Answer r) = r.rtype.code.value ≢ opt_number → AreSound r
 HasSoundDataUnlessOpt (Authority r) = r.rtype.code.value ≢ opt_number → AreSound r

@@ -9,7 +9,7 @@ use crate::canonical_record::CanonicalRecord;
 use std::alloc::{AllocError, Global};
 
 /// The records in canonical order (RFC 4034 section 6), those that are alike once and with the least TTL (RFC 2181 section 5.2).
-/// `AllocError` is lack of memory; the records are then given up.
+/// `AllocError` is out of memory; the records are then given up.
 pub fn collapse<'a>(
     _alloc: Global,
     mut records: Vec<CanonicalRecord<'a>>,
@@ -25,7 +25,7 @@ pub fn collapse<'a>(
 }
 
 /// References to the records, in the order and as often as `collapse` gives them. The records stay where they are, since each takes
-/// some hundred octets. `AllocError` is lack of memory, which is taken for the references.
+/// some 800 octets. `AllocError` is out of memory, which is taken for the references.
 pub fn collapsed<'r, 'a>(
     alloc: Global,
     records: &'r [CanonicalRecord<'a>],

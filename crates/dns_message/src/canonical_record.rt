@@ -25,7 +25,7 @@ use dns_wire::{BuildBytes, TruncationError};
 use std::cmp::Ordering;
 use std::marker::Model;
 
-/// A record of another type than OPT, to be compared and written in canonical form (RFC 4034 section 6). Its data are borrowed by
+/// A record of another type than OPT, to be compared and written in canonical form (RFC 4034 section 6). Its data are borrowed from
 /// the message, and its owner is kept from the root on, as owners are compared.
 #[derive(Debug, Drop)]
 pub struct CanonicalRecord<'a> {

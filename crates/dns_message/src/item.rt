@@ -33,7 +33,7 @@ pub enum MessageItem<N, D, E> {
 /// A record that was read, as the items below have it.
 type ParsedRecord<'a> = Record<RevNameBuf, RecordData<'a, NameBuf>>;
 
-/// An item that was read, with names of its own: its data are borrowed by the message, and its owner is kept from the root on, as
+/// An item that was read, with names of its own: its data are borrowed from the message, and its owner is kept from the root on, as
 /// owners are compared.
 pub type ParsedMessageItem<'a> = MessageItem<RevNameBuf, RecordData<'a, NameBuf>, Opt<'a>>;
 

@@ -1,6 +1,6 @@
 //! What follows from the definitions.
 
-ghost use Rattle.std.specs.Prelude.{◌≡◌, ◌≤◌, ◌<◌, ◌⊎◌, ◌↔◌, ℕ, List, [], false, Some, None, Ok, Err, length, map, nat_eq, IsTrue};
+ghost use Rattle.std.specs.Prelude.{◌≡◌, ◌≤◌, ◌<◌, ◌⊎◌, ◌↔◌, ℕ, List, [], false, Some, None, Ok, Err, length, map, nat_eq, IsTrue, ◌&&◌};
 ghost use Rattle.std.specs.Cmp.{IsTotalOrder};
 ghost use Rattle.std.specs.List.{All, Contains};
 ghost use Rattle.std.specs.List.Sorted.{IsPermutation};
@@ -18,14 +18,16 @@ ghost use Rattle.dns_message.specs.Order.{record_cmp, Before, alike_cmp, sort_ke
 ghost use Rattle.dns_message.specs.Parsing.{parsed_message, given_count, next_start, has_ended, ahead, Parsed, GivesNext};
 ghost use Rattle.dns_message.specs.Seen.{item_seen};
 ghost use Rattle.dns_message.specs.declared.parser.MessageParser.{MessageParser};
-ghost use Rattle.dns_message.specs.declared.parser.Place.{Place};
+ghost use Rattle.dns_message.specs.declared.parser.ItemPosition.{ItemPosition};
 ghost use Rattle.dns_wire.specs.declared.error.ParseError.{ParseError};
 ghost use Rattle.dns_message.specs.Same.{Alike, IsLeast, Same, least};
 ghost use Rattle.dns_message.specs.Sorted.{Climbs};
 ghost use Rattle.dns_message.specs.WellFormed.{WellFormed};
 ghost use Rattle.dns_message.specs.Worded.{ItemAt, FailsAt, ReadsWhole};
 
+use crate::build_error::MessageBuildError;
 use crate::header::HeaderFlags;
+use crate::parser::ItemPosition;
 use dns_name::{Name, NameBuf, RevNameBuf};
 use dns_rdata::RecordData;
 use dns_record::Record;
@@ -73,8 +75,8 @@ pub fn items_in_words()
 pub fn counted_items()
     ensures counted { (m : List ℕ) (section index : ℕ) → 12 ≤ length m →
         Contains (counted_slots m) (section, index) ↔ IsCounted m section index }
-    ensures order { (m : List ℕ) (section index other place : ℕ) → IsCounted m section index → IsCounted m other place →
-        StandsBefore (section, index) (other, place) (counted_slots m) ↔ IsEarlier (section, index) (other, place) }
+    ensures order { (m : List ℕ) (section index other_section other_index : ℕ) → IsCounted m section index → IsCounted m other_section other_index →
+        StandsBefore (section, index) (other_section, other_index) (counted_slots m) ↔ IsEarlier (section, index) (other_section, other_index) }
     ensures once { (m : List ℕ) (section index : ℕ) → StandsBefore (section, index) (section, index) (counted_slots m) → ⊥ }
 {}
 
@@ -158,10 +160,10 @@ pub fn canonical_texts()
 pub fn parsers_read_messages()
     ensures start { (p : MessageParser) → 12 ≤ length (parsed_message p) → given_count p ≡ 0 → next_start p ≡ 0 → has_ended p ≡ false →
         ahead p ≡ message_reading (parsed_message p) }
-    ensures more { (old new : MessageParser) (place : Place) (item : Parsed) → parsed_message new ≡ parsed_message old →
-        GivesNext {E = ParseError} old (Some (place, Ok item)) new → ahead old ≡ with_item (item_seen item) (ahead new) }
-    ensures refused { (old new : MessageParser) (place : Place) (error : ParseError) →
-        GivesNext old (Some (place, Err error)) new → ahead old ≡ Stopped [] place.section place.index (next_start old) }
+    ensures more { (old new : MessageParser) (position : ItemPosition) (item : Parsed) → parsed_message new ≡ parsed_message old →
+        GivesNext {E = ParseError} old (Some (position, Ok item)) new → ahead old ≡ with_item (item_seen item) (ahead new) }
+    ensures refused { (old new : MessageParser) (position : ItemPosition) (error : ParseError) →
+        GivesNext old (Some (position, Err error)) new → ahead old ≡ Stopped [] position.section position.index (next_start old) }
     ensures over { (old new : MessageParser) → GivesNext {E = ParseError} old None new → ahead old ≡ Whole [] (next_start old) }
 {}
 
@@ -176,4 +178,14 @@ pub fn owners_in_either_layout()
 pub fn header_flags()
     ensures equal { (a b : _) → ⟦<HeaderFlags as PartialEq>⟧.eq a b ≡ nat_eq (header_bits a) (header_bits b) }
     ensures none { (v : _) → ⟦<HeaderFlags as Default>⟧.is_default v → header_bits v ≡ 0 }
+{}
+
+/// Errors are equal exactly where they are the same.
+pub fn equal_errors()
+    ensures build { (a b : _) → IsTrue (⟦<MessageBuildError as PartialEq>⟧.eq a b) ↔ (a ≡ b) }
+{}
+
+/// Positions of items are equal where section and index are.
+pub fn equal_positions()
+    ensures { (a b : _) → ⟦<ItemPosition as PartialEq>⟧.eq a b ≡ (nat_eq a.section b.section && nat_eq a.index b.index) }
 {}

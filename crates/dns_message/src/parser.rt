@@ -11,7 +11,7 @@ use std::alloc::AllocError;
 
 /// Where an item stands among the counted ones.
 #[derive(Clone, Copy, Debug, PartialEq, Eq)]
-pub struct Place {
+pub struct ItemPosition {
     /// Its section: 0 questions, 1 answers, 2 authorities, 3 additional records.
     pub section: u8,
     /// Its number there, from 0.
@@ -87,7 +87,7 @@ impl<'a> MessageParser<'a> {
     }
 
     /// Where the item stands that comes after that many.
-    fn place(&self) -> Option<Place>
+    fn next_position(&self) -> Option<ItemPosition>
         ensures none { MatchOption result (drop self.now.given (counted_slots self.now.message.slice.now) ≡ [])
             (λ p. drop self.now.given (counted_slots self.now.message.slice.now) ≡ (p.section, p.index) ∷ drop (self.now.given + 1) (counted_slots self.now.message.slice.now)) }
         ensures section { IfSome result (λ p. p.section ≤ 3) }
@@ -99,16 +99,16 @@ impl<'a> MessageParser<'a> {
             let count = counts[usize::from(section)].get();
             if index < usize::from(count) {
                 let index = index as u16;
-                return Some(Place { section, index });
+                return Some(ItemPosition { section, index });
             }
             index -= usize::from(count);
         }
         None
     }
 
-    /// The next item, with its place; an error where it is not read. After an error, and where no item is left, there is none for
+    /// The next item, with its position; an error where it is not read. After an error, and where no item is left, there is none for
     /// good, and `offset` stays.
-    pub fn next_item(&mut self) -> Option<(Place, Result<ParsedMessageItem<'a>, ParseError>)>
+    pub fn next_item(&mut self) -> Option<(ItemPosition, Result<ParsedMessageItem<'a>, ParseError>)>
         ensures gives { GivesNext self.old result self.new }
         ensures unchanged { parsed_message self.new ≡ parsed_message self.old }
         ensures sound { IfSome result (λ r. IfOk r.1 HasSoundData) }
@@ -117,17 +117,17 @@ impl<'a> MessageParser<'a> {
         if self.ended {
             return None;
         }
-        let place = self.place()?;
-        let section = usize::from(place.section);
+        let position = self.next_position()?;
+        let section = usize::from(position.section);
         match read_item(self.message.contents(), section, self.offset) {
             Ok((item, end)) => {
                 self.given += 1;
                 self.offset = end;
-                Some((place, Ok(item)))
+                Some((position, Ok(item)))
             }
             Err(error) => {
                 self.ended = true;
-                Some((place, Err(error)))
+                Some((position, Err(error)))
             }
         }
     }
@@ -144,7 +144,7 @@ impl<'a> Iterator for MessageParser<'a> {
     ghost remaining = { item_count slots_ahead };
 
     fn next(&mut self) -> Option<Result<ParsedMessageItem<'a>, ParseError>> {
-        let (_place, item) = self.next_item()?;
+        let (_position, item) = self.next_item()?;
         Some(item)
     }
 }

@@ -46,7 +46,7 @@ pub fn prefixed_layouts_are_read<S: SizePrefix, T: BuildInMessage>()
         (length contents + length (sized_compressed_writes S.number_width (T.writes v) contents places).0) }
 {}
 
-/// A record with data of any type writes in a message what its parts do, where each of its names tells that
+/// A record with data of any type writes in a message what its parts do, where each of its names says that
 /// it is compressed: the owner, the numbers, and after their size the fields.
 pub fn records_are_built<N: BuildInMessage>()
     ensures { (name : N → List (List ℕ)) → ((n : N) → N.layout n ≡ Some (NamePart (name n) ∷ [])) →
@@ -55,8 +55,8 @@ pub fn records_are_built<N: BuildInMessage>()
         ≡ built (record_seen name (λ v. map (named_by name) (data_fields v)) r) }
 {}
 
-/// A record with a name and data of any types writes in a message what a record of these fields does, where its owner tells that it is
-/// compressed, and its data tell a part for each field.
+/// A record with a name and data of any types writes in a message what a record of these fields does, where its owner says that it is
+/// compressed, and its data have a part for each field.
 pub fn records_with_layouts_are_built<N: BuildInMessage, D: BuildInMessage>()
     ensures { (owner : N) (content : D) (r : RecordValue) → N.layout owner ≡ Some (NamePart r.owner ∷ []) → D.layout content ≡ Some (map field_part r.content) →
         record_writes (N.writes owner) (record_numbers r.rtype r.class r.ttl) (D.writes content) ≡ built r }

@@ -1,6 +1,6 @@
 //! EDNS records in the form of records, and back.
 //!
-//! The `ednsflags` of dnspython 2.3.0 for the answer, 16,875,520, are the number in the place of its time to live.
+//! The `ednsflags` of dnspython 2.3.0 for the answer, 16,875,520, are the number in its time to live.
 
 use crate::assertions::holds;
 use crate::edns_record::{ANSWER, Edns, Fields, QUERY, fields_of, read_edns};

@@ -182,18 +182,18 @@ fn is_refused_after(message: &[u8], count: usize) -> bool {
 }
 
 /// The section and the number there of the next item, and whether it is refused.
-fn place_of_next(parser: &mut MessageParser<'_>) -> Option<(u8, u16, bool)> {
+fn position_of_next(parser: &mut MessageParser<'_>) -> Option<(u8, u16, bool)> {
     match parser.next_item() {
-        Some((place, item)) => Some((place.section, place.index, item.is_err())),
+        Some((position, item)) => Some((position.section, position.index, item.is_err())),
         None => None,
     }
 }
 
 /// The same for a copy of a parser after this many items.
-fn place_after(message: &[u8], count: usize) -> Option<(u8, u16, bool)> {
+fn position_after(message: &[u8], count: usize) -> Option<(u8, u16, bool)> {
     match parser_after(message, count) {
         Some(parser) => match parser.clone() {
-            Ok(mut copy) => place_of_next(&mut copy),
+            Ok(mut copy) => position_of_next(&mut copy),
             Err(_) => None,
         },
         None => None,
@@ -209,8 +209,8 @@ fn a_message_ends_at_an_error(rt: HostRuntime) {
     holds(&rt, end_after(short, 5) == Some((true, 77)), "again");
     holds(&rt, is_refused_after(NO_ANSWER, 0), "no answer");
     holds(&rt, end_after(NO_ANSWER, 1) == Some((true, 0)), "no other");
-    let place = place_after(NO_ANSWER, 0);
-    holds(&rt, place == Some((1, 0, true)), "the place of no answer");
-    let place = place_after(ANSWER, 2);
-    holds(&rt, place == Some((1, 1, false)), "the second answer");
+    let position = position_after(NO_ANSWER, 0);
+    holds(&rt, position == Some((1, 0, true)), "the position of no answer");
+    let position = position_after(ANSWER, 2);
+    holds(&rt, position == Some((1, 1, false)), "the second answer");
 }

@@ -10,7 +10,7 @@ use Rattle.dns_wire.specs.Reversed.{relative_name, relative_labels}
 use Rattle.dns_wire.proofs.Backward.{relative_is}
 use Rattle.dns_wire.proofs.Spelled.{labels_of_wire}
 use Rattle.dns_wire.proofs.Walk.{AllByRecursion-append, labels_wire-append, wire_long}
-use Rattle.dns_label.specs.Labels.{AreLabels, IsShort, label_wire, sequence_labels}
+use Rattle.dns_label.specs.Labels.{AreLabels, FitsLabel, label_wire, sequence_labels}
 use Rattle.dns_label.proofs.FilledLabels.{are_labels, labels_in_wire}
 use Rattle.dns_name.specs.Text.{fits}
 use Rattle.dns_name.proofs.Labelled.{all_short}
@@ -61,5 +61,5 @@ rooted octets new labels sizes is same fine parts =
 pub relative_held : (bytes : List ℕ) → relative_name bytes ≡ Some (relative_labels bytes) → AreLabels bytes × (sequence_labels bytes ≡ relative_labels bytes)
 relative_held bytes is =
     let t = relative_is bytes (relative_labels bytes) is in
-    let short : AllByRecursion IsShort (relative_labels bytes) = all_short (relative_labels bytes) t.0.sizes in
+    let short : AllByRecursion FitsLabel (relative_labels bytes) = all_short (relative_labels bytes) t.0.sizes in
     (are_labels bytes (relative_labels bytes) short t.1, (labels_in_wire bytes (relative_labels bytes) short t.1).1)

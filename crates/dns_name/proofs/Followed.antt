@@ -1,4 +1,4 @@
--- Following a name in a message head by head.
+-- Following a name in a message label by label.
 use Rattle.std.proofs.Common.{◌≡◌, ℕ, zero, suc, pred, ◌+◌, ◌-◌, ◌<◌, ◌≤◌, true, false, ltb, List, [], ◌∷◌, ◌++◌, length, take, drop, Option, Some, None, refl, sym, ap, ◌∙◌, append_assoc, arith, add-one}
 use Rattle.std.specs.Prelude.{unwrap_or, slice_index, slice_range, Result, Ok, Err, IfOk, OnErr}
 use Rattle.std.specs.List.{AllByRecursion}
@@ -53,7 +53,7 @@ pub followed_none : (contents : List ℕ) (start : ℕ) → Followed contents st
 followed_none contents start =
     record { steps = 256 + start; labels = []; sizes = tt; prefix_is = refl; short = omega arith; room = omega arith; reads = sym (joined_none _); ends = omega arith }
 
--- what follows from the head at the place
+-- what follows from the label type at the place
 read_label_type_is : (contents : List ℕ) (start segment at : ℕ) (end : Option ℕ) (prefix : List ℕ) (label_type : Option LabelType) (followed : Followed contents start segment at end prefix) → label_type_at contents segment at ≡ label_type → segment_within (256 + start) contents start start ≡ joined followed.labels end (after_label_type (segment_within (pred followed.steps) contents) contents segment at label_type)
 read_label_type_is contents start segment at end prefix label_type followed is =
     followed.reads

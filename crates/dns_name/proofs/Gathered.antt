@@ -1,4 +1,4 @@
--- Putting a name into a buffer from the root on: views of its end, and following a name in a message head by head.
+-- Putting a name into a buffer from the root on: views of its end, and following a name in a message label by label.
 use Rattle.std.proofs.Common.{◌≡◌, ℕ, ◌+◌, ◌-◌, ◌<◌, ◌≤◌, List, [], ◌∷◌, ◌++◌, length, take, drop, Option, Some, None, refl, sym, ap, subst, ◌∙◌, arith}
 use Rattle.std.specs.Prelude.{reverse, unwrap_or, slice_index, slice_range}
 use Rattle.std.specs.List.{AllByRecursion}

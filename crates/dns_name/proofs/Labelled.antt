@@ -9,10 +9,10 @@ use Rattle.dns_wire.specs.Reversed.{reversed_name, reversed_name_labels}
 use Rattle.dns_wire.proofs.Backward.{name_reversed, reversed_is}
 use Rattle.dns_wire.proofs.Spelled.{name_octets}
 use Rattle.dns_wire.proofs.Walk.{labels_wire-append, wire_long}
-use Rattle.dns_label.specs.Labels.{IsShort, AreLabels, sequence_labels}
+use Rattle.dns_label.specs.Labels.{FitsLabel, AreLabels, sequence_labels}
 use Rattle.dns_label.proofs.FilledLabels.{are_labels, labels_in_wire}
 
-sizes_short : (labels : List (List ℕ)) → AllByRecursion IsLabel labels → AllByRecursion IsShort (labels ++ [] ∷ [])
+sizes_short : (labels : List (List ℕ)) → AllByRecursion IsLabel labels → AllByRecursion FitsLabel (labels ++ [] ∷ [])
 sizes_short [] sizes = (omega arith, tt)
 sizes_short (label ∷ labels) sizes = (sizes.0.1, sizes_short labels sizes.1)
 
@@ -40,7 +40,7 @@ name_filled bytes is =
 
 -- ---- from the root on
 
-pub all_short : (labels : List (List ℕ)) → AllByRecursion IsLabel labels → AllByRecursion IsShort labels
+pub all_short : (labels : List (List ℕ)) → AllByRecursion IsLabel labels → AllByRecursion FitsLabel labels
 all_short [] sizes = tt
 all_short (label ∷ labels) sizes = (sizes.0.1, all_short labels sizes.1)
 
@@ -54,7 +54,7 @@ pub reversed_name_filled : (bytes : List ℕ) → reversed_name bytes ≡ Some (
 reversed_name_filled bytes is =
     let t = reversed_is bytes (reversed_name_labels bytes) is in
     let turned = name_reversed (reversed_name_labels bytes) t.0 in
-    let sizes : AllByRecursion IsShort ([] ∷ reverse (reversed_name_labels bytes)) = (omega arith, all_short (reverse (reversed_name_labels bytes)) turned.sizes) in
+    let sizes : AllByRecursion FitsLabel ([] ∷ reverse (reversed_name_labels bytes)) = (omega arith, all_short (reverse (reversed_name_labels bytes)) turned.sizes) in
     record {
       are = are_labels bytes ([] ∷ reverse (reversed_name_labels bytes)) sizes t.1;
       labels = (labels_in_wire bytes ([] ∷ reverse (reversed_name_labels bytes)) sizes t.1).1;

@@ -1,6 +1,5 @@
 -- The crate's own lemmas.
 pub mod Agreed
-pub mod Aligned
 pub mod Buffered
 pub mod Continued
 pub mod CountedSteps

@@ -1,14 +1,14 @@
 -- Why the scan of a name stops, in words.
-use Rattle.std.proofs.Common.{◌≡◌, ◌≢◌, ◌⊎◌, ℕ, zero, suc, ◌+◌, ◌<◌, ◌≤◌, inl, inr, Bool, true, false, cond, leb, List, [], ◌∷◌, ◌++◌, length, Result, Ok, Err, refl, sym, ap, subst, ◌∙◌, append_assoc, arith}
+use Rattle.std.proofs.Common.{◌≡◌, ◌≢◌, ◌⊎◌, ℕ, zero, suc, ◌+◌, ◌<◌, ◌≤◌, inl, inr, Bool, true, false, cond, List, [], ◌∷◌, ◌++◌, length, Result, Ok, Err, refl, sym, ap, subst, ◌∙◌, append_assoc, arith}
 use Rattle.std.specs.Prelude.{◌==◌, ◌↔◌, ⊤}
 use Rattle.std.specs.List.{AllByRecursion}
 use Rattle.std.specs.Result.{result_map_both}
-use Rattle.std.proofs.lemmas.Bool.{le-leb, leb-true, leb-false, eqb-true, eqb-false, ne_eqb}
+use Rattle.std.proofs.lemmas.Bool.{le-leb, leb-true, eqb-true, eqb-false, ne_eqb}
 use Rattle.std.proofs.lemmas.List.{append-nil, length-append}
 use Rattle.dns_wire.specs.Names.{labels_wire, IsLabel}
 use Rattle.dns_wire.proofs.Spelled.{chosen}
 use Rattle.dns_wire.proofs.Walk.{labels_wire-append}
-use Rattle.dns_label.specs.Text.{prefix_label, EndsLabel, GoesOn, IsCutEscape, IsWrongEscape, Spells, SpellsMore}
+use Rattle.dns_label.specs.Text.{prefix_label, EndsLabel, GoesOn, IsCutEscape, IsWrongEscape, SpellsLabel, SpellsMore}
 use Rattle.dns_label.specs.declared.text_error.LabelParseError.{LabelParseError}
 use Rattle.dns_label.specs.declared.text_error.LabelParseError.TheVariants as label_errors
 use Rattle.dns_label.proofs.Scanned.{prefix_never}
@@ -17,7 +17,7 @@ use Rattle.dns_name.specs.declared.text_error.NameParseError.{NameParseError}
 use Rattle.dns_name.specs.declared.text_error.NameParseError.TheVariants as errors
 use Rattle.dns_name.specs.declared.text_error.NameSplitError.{NameSplitError}
 use Rattle.dns_name.specs.declared.text_error.NameSplitError.TheVariants as split_errors
-use Rattle.dns_name.specs.Text.{of_label, fits, label_prefix, after_dot, after_label, parts_within, name_scan, at_end, whole_text, parsed_name, of_prefix, at_octet, prefix_of_text, split_name, NoDot, EndsName, SpellsLabels, AfterLabels, NextLabel, EmptyNext, HasRoom, LongNext, RelativeNext, InvalidNext}
+use Rattle.dns_name.specs.Text.{of_label, fits, label_prefix, after_dot, after_label, parts_within, name_scan, at_end, whole_name_text, parsed_name, of_prefix, at_octet, name_at_start, split_name, NoDot, EndsName, SpellsLabels, AfterLabels, NextLabel, EmptyNext, HasRoom, LongNext, RelativeNext, InvalidNext}
 use Rattle.dns_name.proofs.NameTexts.{Label, Read, label_takes, label_again, label_shorter, dot_foreign, Underway, stepped, failed_scan, overlong_scan, empty_scan, ended_scan}
 
 -- ---- one label
@@ -143,11 +143,11 @@ some_octets : (n : ℕ) → n ≢ 0 → 0 < n
 some_octets n some = omega arith
 
 -- nothing spells the empty label
-no_text : (text contents : List ℕ) → length contents ≡ 0 → Spells text contents → text ≡ []
-no_text text contents none Spells.ended = refl
-no_text text contents none (Spells.itself octet more octets plain spells) = absurd (omega (arith, none))
-no_text text contents none (Spells.backslash octet more octets graphic no_digit spells) = absurd (omega (arith, none))
-no_text text contents none (Spells.digits a b c more octets is_a is_b is_c small spells) = absurd (omega (arith, none))
+no_text : (text contents : List ℕ) → length contents ≡ 0 → SpellsLabel text contents → text ≡ []
+no_text text contents none SpellsLabel.ended = refl
+no_text text contents none (SpellsLabel.itself octet more octets plain spells) = absurd (omega (arith, none))
+no_text text contents none (SpellsLabel.backslash octet more octets graphic no_digit spells) = absurd (omega (arith, none))
+no_text text contents none (SpellsLabel.digits a b c more octets is_a is_b is_c small spells) = absurd (omega (arith, none))
 
 abbrev Ahead : (List (List ℕ) → List ℕ → Read) → List ℕ → Type 0
 Ahead more text = (longer : List (List ℕ)) (next : List ℕ) → length next < length text → length (labels_wire longer) ≤ 255 → Out longer next (more longer next)
@@ -246,7 +246,7 @@ scan_fails error text a = failed_scan text a.labels a.rest error (way text a) a.
 scan_empty : (text : List ℕ) → AfterLabels EmptyNext text → name_scan text ≡ Err errors.EmptyLabel
 scan_empty text a =
     let n = a.next in
-    let read : label_prefix a.rest ≡ Ok ([], 46 ∷ n.0) = ap label_prefix n.1 ∙ label_again [] [] (46 ∷ n.0) Spells.ended (omega arith) dot_foreign in
+    let read : label_prefix a.rest ≡ Ok ([], 46 ∷ n.0) = ap label_prefix n.1 ∙ label_again [] [] (46 ∷ n.0) SpellsLabel.ended (omega arith) dot_foreign in
     empty_scan text a.labels a.rest [] n.0 (way text a) read (roomy a.labels [] n.2) refl
 
 -- the scan at a label that ends, with a dot after it or without
@@ -277,7 +277,7 @@ at_end_why labels label (octet ∷ rest) error fine e = Why.other labels label o
 at_end_why labels [] [] error fine e = absurd cc
 at_end_why labels (octet ∷ others) [] error fine e = Why.ended labels (octet ∷ others) refl fine (λ none. cc) (same_name_error errors.Relative error e)
 
-whole_why : (read : Read) (error : NameParseError) → whole_text read ≡ Err error → Why read error
+whole_why : (read : Read) (error : NameParseError) → whole_name_text read ≡ Err error → Why read error
 whole_why (Err x) error e = Why.stopped (ap Err (same_name_error x error e))
 whole_why (Ok (labels, (label, rest))) error e =
     elim (chosen (fits labels label) _ _ _ e) [
@@ -337,23 +337,23 @@ scan_ends P text a ends = ended_scan text a.labels a.rest a.next.label a.next.re
 pub parsed_overlong_label : (text : List ℕ) → (parsed_name text ≡ Err errors.OverlongLabel) ↔ AfterLabels (λ _ rest. SpellsMore 63 rest) text
 parsed_overlong_label text = (
   from_scan errors.OverlongLabel tt text,
-  λ a. ap whole_text (scan_fails errors.OverlongLabel text (with_next (λ _ rest. SpellsMore 63 rest) (λ _ rest. label_prefix rest ≡ Err errors.OverlongLabel) (λ _ rest g. overlong_label rest g) text a)),
+  λ a. ap whole_name_text (scan_fails errors.OverlongLabel text (with_next (λ _ rest. SpellsMore 63 rest) (λ _ rest. label_prefix rest ≡ Err errors.OverlongLabel) (λ _ rest g. overlong_label rest g) text a)),
 )
 
 pub parsed_partial : (text : List ℕ) → (parsed_name text ≡ Err errors.PartialEscape) ↔ AfterLabels (λ _ rest. GoesOn 63 IsCutEscape rest) text
 parsed_partial text = (
   from_scan errors.PartialEscape tt text,
-  λ a. ap whole_text (scan_fails errors.PartialEscape text (with_next (λ _ rest. GoesOn 63 IsCutEscape rest) (λ _ rest. label_prefix rest ≡ Err errors.PartialEscape) (λ _ rest g. cut_label rest g) text a)),
+  λ a. ap whole_name_text (scan_fails errors.PartialEscape text (with_next (λ _ rest. GoesOn 63 IsCutEscape rest) (λ _ rest. label_prefix rest ≡ Err errors.PartialEscape) (λ _ rest g. cut_label rest g) text a)),
 )
 
 pub parsed_escape : (text : List ℕ) → (parsed_name text ≡ Err errors.InvalidEscape) ↔ AfterLabels (λ _ rest. GoesOn 63 IsWrongEscape rest) text
 parsed_escape text = (
   from_scan errors.InvalidEscape tt text,
-  λ a. ap whole_text (scan_fails errors.InvalidEscape text (with_next (λ _ rest. GoesOn 63 IsWrongEscape rest) (λ _ rest. label_prefix rest ≡ Err errors.InvalidEscape) (λ _ rest g. wrong_label rest g) text a)),
+  λ a. ap whole_name_text (scan_fails errors.InvalidEscape text (with_next (λ _ rest. GoesOn 63 IsWrongEscape rest) (λ _ rest. label_prefix rest ≡ Err errors.InvalidEscape) (λ _ rest g. wrong_label rest g) text a)),
 )
 
 pub parsed_empty : (text : List ℕ) → (parsed_name text ≡ Err errors.EmptyLabel) ↔ AfterLabels EmptyNext text
-parsed_empty text = (from_scan errors.EmptyLabel tt text, λ a. ap whole_text (scan_empty text a))
+parsed_empty text = (from_scan errors.EmptyLabel tt text, λ a. ap whole_name_text (scan_empty text a))
 
 -- a dot after a label that is too long, as what ends it
 long_at_dot : (P : List ℕ → Type 0) → ((next : List ℕ) → P (46 ∷ next)) → (text : List ℕ) → AfterLabels (Stop errors.Overlong) text → AfterLabels (LongNext P) text
@@ -374,8 +374,8 @@ parsed_overlong text = (λ e. from (whole_why (name_scan text) errors.Overlong e
   to : AfterLabels (LongNext (λ _. ⊤)) text → parsed_name text ≡ Err errors.Overlong
   to a =
       elim (scan_long text a) [
-        | inl is ↦ ap whole_text is
-        | inr last ↦ ap whole_text last.2 ∙ rw last.3 refl
+        | inl is ↦ ap whole_name_text is
+        | inr last ↦ ap whole_name_text last.2 ∙ rw last.3 refl
       ]
 
 relative_end : (labels : List (List ℕ)) (label rest : List ℕ) → rest ≡ [] → label ≢ [] → at_end labels label rest ≡ Err errors.Relative
@@ -394,7 +394,7 @@ parsed_relative text = (λ e. from (whole_why (name_scan text) errors.Relative e
   to : AfterLabels (RelativeNext (λ rest. rest ≡ [])) text → parsed_name text ≡ Err errors.Relative
   to a =
       let n = a.next.next in
-      ap whole_text (scan_ends (λ these found left. (left ≡ []) × EndsName left × (found ≢ []) × HasRoom these found) text a n.1)
+      ap whole_name_text (scan_ends (λ these found left. (left ≡ []) × EndsName left × (found ≢ []) × HasRoom these found) text a n.1)
       ∙ rw (roomy a.labels a.next.label n.3) (relative_end a.labels a.next.label a.next.rest n.0 n.2)
 
 invalid_end : (labels : List (List ℕ)) (label rest : List ℕ) → rest ≢ [] → at_end labels label rest ≡ Err errors.InvalidChar
@@ -412,7 +412,7 @@ parsed_character text = (λ e. from (whole_why (name_scan text) errors.InvalidCh
   to : AfterLabels InvalidNext text → parsed_name text ≡ Err errors.InvalidChar
   to a =
       let n = a.next.next in
-      ap whole_text (scan_ends (λ these found left. (left ≢ []) × EndsName left × HasRoom these found) text a n.1)
+      ap whole_name_text (scan_ends (λ these found left. (left ≢ []) × EndsName left × HasRoom these found) text a n.1)
       ∙ rw (roomy a.labels a.next.label n.2) (invalid_end a.labels a.next.label a.next.rest n.0)
 
 -- ---- why the start of a text is refused
@@ -430,7 +430,7 @@ at_octet_why : (labels : List (List ℕ)) (label : List ℕ) (octet : ℕ) (rest
 at_octet_why labels [] octet rest error fine e = absurd cc
 at_octet_why labels (first ∷ others) octet rest error fine e = WhyNot.relative labels (first ∷ others) octet rest refl fine (λ none. cc) (same_split_error split_errors.Relative error e)
 
-split_why : (read : Read) (error : NameSplitError) → prefix_of_text read ≡ Err error → WhyNot read error
+split_why : (read : Read) (error : NameSplitError) → name_at_start read ≡ Err error → WhyNot read error
 split_why (Err x) error e = WhyNot.stopped x refl (same_split_error (of_prefix x) error e)
 split_why (Ok (labels, (label, []))) error e = WhyNot.short labels label refl (same_split_error split_errors.ShortInput error e)
 split_why (Ok (labels, (label, octet ∷ rest))) error e =
@@ -484,19 +484,19 @@ split_alone error of not_short not_long not_relative text e = by (split_why (nam
 pub split_overlong_label : (text : List ℕ) → (split_name text ≡ Err split_errors.OverlongLabel) ↔ AfterLabels (λ _ rest. SpellsMore 63 rest) text
 split_overlong_label text = (
   split_alone errors.OverlongLabel tt (λ e. cc) (λ e. cc) (λ e. cc) text,
-  λ a. ap prefix_of_text (scan_fails errors.OverlongLabel text (with_next (λ _ rest. SpellsMore 63 rest) (λ _ rest. label_prefix rest ≡ Err errors.OverlongLabel) (λ _ rest g. overlong_label rest g) text a)),
+  λ a. ap name_at_start (scan_fails errors.OverlongLabel text (with_next (λ _ rest. SpellsMore 63 rest) (λ _ rest. label_prefix rest ≡ Err errors.OverlongLabel) (λ _ rest g. overlong_label rest g) text a)),
 )
 
 pub split_escape : (text : List ℕ) → (split_name text ≡ Err split_errors.InvalidEscape) ↔ AfterLabels (λ _ rest. GoesOn 63 IsWrongEscape rest) text
 split_escape text = (
   split_alone errors.InvalidEscape tt (λ e. cc) (λ e. cc) (λ e. cc) text,
-  λ a. ap prefix_of_text (scan_fails errors.InvalidEscape text (with_next (λ _ rest. GoesOn 63 IsWrongEscape rest) (λ _ rest. label_prefix rest ≡ Err errors.InvalidEscape) (λ _ rest g. wrong_label rest g) text a)),
+  λ a. ap name_at_start (scan_fails errors.InvalidEscape text (with_next (λ _ rest. GoesOn 63 IsWrongEscape rest) (λ _ rest. label_prefix rest ≡ Err errors.InvalidEscape) (λ _ rest g. wrong_label rest g) text a)),
 )
 
 pub split_empty : (text : List ℕ) → (split_name text ≡ Err split_errors.EmptyLabel) ↔ AfterLabels EmptyNext text
-split_empty text = (split_alone errors.EmptyLabel tt (λ e. cc) (λ e. cc) (λ e. cc) text, λ a. ap prefix_of_text (scan_empty text a))
+split_empty text = (split_alone errors.EmptyLabel tt (λ e. cc) (λ e. cc) (λ e. cc) text, λ a. ap name_at_start (scan_empty text a))
 
-long_start : (labels : List (List ℕ)) (label rest : List ℕ) → rest ≢ [] → fits labels label ≡ false → prefix_of_text (Ok (labels, (label, rest))) ≡ Err split_errors.Overlong
+long_start : (labels : List (List ℕ)) (label rest : List ℕ) → rest ≢ [] → fits labels label ≡ false → name_at_start (Ok (labels, (label, rest))) ≡ Err split_errors.Overlong
 long_start labels label [] some over = absurd (some refl)
 long_start labels label (octet ∷ rest) some over = rw over refl
 
@@ -509,9 +509,9 @@ scan_long_start text a =
       by [] some read over = absurd (some refl)
       by (octet ∷ left) some read over = dot (octet == 46) refl where
         dot : (b : Bool) → (octet == 46) ≡ b → split_name text ≡ Err split_errors.Overlong
-        dot true same = ap prefix_of_text (overlong_scan text a.labels a.rest a.next.label left (way text a) (read ∙ ap (λ (o : ℕ). Ok (a.next.label, o ∷ left)) (eqb-true octet 46 same)) over)
+        dot true same = ap name_at_start (overlong_scan text a.labels a.rest a.next.label left (way text a) (read ∙ ap (λ (o : ℕ). Ok (a.next.label, o ∷ left)) (eqb-true octet 46 same)) over)
         dot false apart =
-            ap prefix_of_text (ended_scan text a.labels a.rest a.next.label (octet ∷ left) (way text a) read (eqb-false octet 46 apart))
+            ap name_at_start (ended_scan text a.labels a.rest a.next.label (octet ∷ left) (way text a) read (eqb-false octet 46 apart))
             ∙ long_start a.labels a.next.label (octet ∷ left) (λ e. cc) over
 
 pub split_overlong : (text : List ℕ) → (split_name text ≡ Err split_errors.Overlong) ↔ AfterLabels (LongNext (λ rest. rest ≢ [])) text
@@ -522,7 +522,7 @@ split_overlong text = (λ e. from (split_why (name_scan text) split_errors.Overl
   from (WhyNot.long labels label octet rest is over same) = with_last (λ these found left. (left ≢ []) × EndsLabel left × ¬ HasRoom these found) text labels label (octet ∷ rest) is (λ ends none. (λ e. cc, ends, no_room labels label over))
   from (WhyNot.relative labels label octet rest is fine some same) = absurd cc
 
-relative_start : (labels : List (List ℕ)) (label rest : List ℕ) → rest ≢ [] → label ≢ [] → fits labels label ≡ true → prefix_of_text (Ok (labels, (label, rest))) ≡ Err split_errors.Relative
+relative_start : (labels : List (List ℕ)) (label rest : List ℕ) → rest ≢ [] → label ≢ [] → fits labels label ≡ true → name_at_start (Ok (labels, (label, rest))) ≡ Err split_errors.Relative
 relative_start labels label [] some full fine = absurd (some refl)
 relative_start labels [] (octet ∷ rest) some full fine = absurd (full refl)
 relative_start labels (first ∷ others) (octet ∷ rest) some full fine = rw fine refl
@@ -538,10 +538,10 @@ split_relative text = (λ e. from (split_why (name_scan text) split_errors.Relat
   to : AfterLabels (RelativeNext (λ rest. rest ≢ [])) text → split_name text ≡ Err split_errors.Relative
   to a =
       let n = a.next.next in
-      ap prefix_of_text (scan_ends (λ these found left. (left ≢ []) × EndsName left × (found ≢ []) × HasRoom these found) text a n.1)
+      ap name_at_start (scan_ends (λ these found left. (left ≢ []) × EndsName left × (found ≢ []) × HasRoom these found) text a n.1)
       ∙ relative_start a.labels a.next.label a.next.rest n.0 n.2 (roomy a.labels a.next.label n.3)
 
-short_start : (labels : List (List ℕ)) (label rest : List ℕ) → rest ≡ [] → prefix_of_text (Ok (labels, (label, rest))) ≡ Err split_errors.ShortInput
+short_start : (labels : List (List ℕ)) (label rest : List ℕ) → rest ≡ [] → name_at_start (Ok (labels, (label, rest))) ≡ Err split_errors.ShortInput
 short_start labels label [] none = refl
 short_start labels label (octet ∷ rest) none = absurd cc
 
@@ -558,7 +558,7 @@ split_short text = (λ e. from (split_why (name_scan text) split_errors.ShortInp
   from (WhyNot.relative labels label octet rest is fine some same) = absurd cc
 
   to : AfterLabels (λ _ rest. GoesOn 63 IsCutEscape rest) text ⊎ AfterLabels (λ _ rest. NextLabel (λ _ left. left ≡ []) rest) text → split_name text ≡ Err split_errors.ShortInput
-  to (inl a) = ap prefix_of_text (scan_fails errors.PartialEscape text (with_next (λ _ rest. GoesOn 63 IsCutEscape rest) (λ _ rest. label_prefix rest ≡ Err errors.PartialEscape) (λ _ rest g. cut_label rest g) text a))
+  to (inl a) = ap name_at_start (scan_fails errors.PartialEscape text (with_next (λ _ rest. GoesOn 63 IsCutEscape rest) (λ _ rest. label_prefix rest ≡ Err errors.PartialEscape) (λ _ rest g. cut_label rest g) text a))
   to (inr a) =
-      ap prefix_of_text (scan_ends (λ these found left. left ≡ []) text a (no_more a.next.rest a.next.next))
+      ap name_at_start (scan_ends (λ these found left. left ≡ []) text a (no_more a.next.rest a.next.next))
       ∙ short_start a.labels a.next.label a.next.rest a.next.next

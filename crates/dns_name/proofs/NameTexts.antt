@@ -9,7 +9,7 @@ use Rattle.dns_wire.specs.Names.{labels_wire, wire, IsLabel, IsName}
 use Rattle.dns_wire.specs.Reading.{AreOctets}
 use Rattle.dns_wire.proofs.Spelled.{chosen}
 use Rattle.dns_wire.proofs.Walk.{labels_wire-append, wire_long}
-use Rattle.dns_label.specs.Text.{is_plain, shown_label, prefix_label, IsForeign, EndsLabel, Spells}
+use Rattle.dns_label.specs.Text.{is_plain, shown_label, prefix_label, IsForeign, EndsLabel, SpellsLabel}
 use Rattle.dns_label.specs.declared.text_error.LabelParseError.{LabelParseError}
 use Rattle.dns_label.specs.declared.text_error.LabelParseError.TheVariants as label_errors
 use Rattle.dns_label.proofs.Scanned.{Takes, prefix_takes, prefix_again, prefix_never, spelled_apart, shown_spells, shown_plain, plain_printed}
@@ -17,7 +17,7 @@ use Rattle.dns_name.specs.declared.text_error.NameParseError.{NameParseError}
 use Rattle.dns_name.specs.declared.text_error.NameParseError.TheVariants as errors
 use Rattle.dns_name.specs.declared.text_error.NameSplitError.{NameSplitError}
 use Rattle.dns_name.specs.declared.text_error.NameSplitError.TheVariants as split_errors
-use Rattle.dns_name.specs.Text.{shown_name, of_label, of_prefix, fits, Parts, label_prefix, after_label, parts_within, name_scan, at_end, whole_text, parsed_name, at_octet, prefix_of_text, split_name, NoDot, EndsName, SpellsLabels, ArePlainTexts}
+use Rattle.dns_name.specs.Text.{shown_name, of_label, of_prefix, fits, Parts, label_prefix, after_label, parts_within, name_scan, at_end, whole_name_text, parsed_name, at_octet, name_at_start, split_name, NoDot, EndsName, SpellsLabels, ArePlainTexts}
 
 abbrev pub Label : Type 0
 Label = Result (List ℕ × List ℕ) NameParseError
@@ -34,7 +34,7 @@ prefix_is (Err error) label rest e = absurd cc
 pub label_takes : (text label rest : List ℕ) → label_prefix text ≡ Ok (label, rest) → Takes 63 text label rest
 label_takes text label rest e = prefix_takes text label rest (prefix_is (prefix_label text) label rest e)
 
-pub label_again : (text label rest : List ℕ) → Spells text label → length label < 64 → EndsLabel rest → label_prefix (text ++ rest) ≡ Ok (label, rest)
+pub label_again : (text label rest : List ℕ) → SpellsLabel text label → length label < 64 → EndsLabel rest → label_prefix (text ++ rest) ≡ Ok (label, rest)
 label_again text label rest spells short ends = ap (result_map_both (λ prefix. prefix) of_label) (prefix_again text label rest spells short ends)
 
 -- a dot ends a label's text
@@ -119,7 +119,7 @@ pub record Spelled (before : List (List ℕ)) (text : List ℕ) (labels : List (
   pub text_is : text ≡ prefix ++ (last ++ rest)
   pub spells : SpellsLabels prefix others
   pub sizes : AllByRecursion IsLabel others
-  pub spells_last : Spells last label
+  pub spells_last : SpellsLabel last label
   pub fits_last : length label ≤ 63
   pub ends : EndsLabel rest
   pub no_dot : NoDot rest
@@ -136,7 +136,7 @@ stopped_spelled before text labels label rest found left read none e =
       text_is = t.text_is ∙ ap (λ (l : List ℕ). t.prefix ++ l) same.2;
       spells = SpellsLabels.ended;
       sizes = tt;
-      spells_last = subst (Spells t.prefix) same.1 t.spells;
+      spells_last = subst (SpellsLabel t.prefix) same.1 t.spells;
       fits_last = omega (arith, ap length same.1, t.fits);
       ends = subst EndsLabel same.2 t.ends;
       no_dot = subst NoDot same.2 none;
@@ -197,11 +197,11 @@ unfolding name_scan
 scan_spelled text labels label rest e = within_spelled (suc (length text)) [] text labels label rest (omega arith) e
 
 -- nothing spells the empty label
-spells_none : (text contents : List ℕ) → contents ≡ [] → Spells text contents → text ≡ []
-spells_none text contents none Spells.ended = refl
-spells_none text contents none (Spells.itself octet more octets plain spells) = absurd cc
-spells_none text contents none (Spells.backslash octet more octets graphic no_digit spells) = absurd cc
-spells_none text contents none (Spells.digits a b c more octets is_a is_b is_c small spells) = absurd cc
+spells_none : (text contents : List ℕ) → contents ≡ [] → SpellsLabel text contents → text ≡ []
+spells_none text contents none SpellsLabel.ended = refl
+spells_none text contents none (SpellsLabel.itself octet more octets plain spells) = absurd cc
+spells_none text contents none (SpellsLabel.backslash octet more octets graphic no_digit spells) = absurd cc
+spells_none text contents none (SpellsLabel.digits a b c more octets is_a is_b is_c small spells) = absurd cc
 
 -- a scan that ended after a dot
 record Rooted (text : List ℕ) (labels : List (List ℕ)) (rest : List ℕ) : Type 0 where
@@ -243,7 +243,7 @@ ends_dotless (octet ∷ rest) ends = ends.1
 within_again : (steps : ℕ) (before : List (List ℕ)) (text : List ℕ) (labels : List (List ℕ)) (rest : List ℕ) → SpellsLabels text labels → AllByRecursion IsLabel labels → length (labels_wire (before ++ labels)) ≤ 255 → EndsName rest → length (text ++ rest) < steps → parts_within steps before (text ++ rest) ≡ Ok (before ++ labels, ([], rest))
 within_again zero before text labels rest spells sizes short ends enough = absurd (omega arith)
 within_again (suc steps) before text labels rest SpellsLabels.ended sizes short ends enough =
-    stepped steps before rest (Ok ([], rest)) (label_again [] [] rest Spells.ended (omega arith) (ends_label rest ends))
+    stepped steps before rest (Ok ([], rest)) (label_again [] [] rest SpellsLabel.ended (omega arith) (ends_label rest ends))
     ∙ stops (λ longer next. parts_within steps longer next) before [] rest (ends_dotless rest ends)
     ∙ ap (λ (l : List (List ℕ)). Ok (l, ([], rest))) (sym (append-nil before))
 within_again (suc steps) before text labels rest (SpellsLabels.dotted spelled octets more others spells trailing) sizes short ends enough =
@@ -276,7 +276,7 @@ at_end_is labels label (octet ∷ rest) name e = absurd cc
 at_end_is labels [] [] name e = (cc, refl, refl)
 at_end_is labels (octet ∷ others) [] name e = absurd cc
 
-whole_is : (read : Read) (labels : List (List ℕ)) → whole_text read ≡ Ok labels → (read ≡ Ok (labels, ([], []))) × (fits labels [] ≡ true)
+whole_is : (read : Read) (labels : List (List ℕ)) → whole_name_text read ≡ Ok labels → (read ≡ Ok (labels, ([], []))) × (fits labels [] ≡ true)
 whole_is (Err error) labels e = absurd cc
 whole_is (Ok (found, (label, rest))) labels e =
     elim (chosen (fits found label) _ _ _ e) [
@@ -294,7 +294,7 @@ parsed_takes text labels e =
 
 pub parsed_again : (text : List ℕ) (labels : List (List ℕ)) → SpellsLabels text labels → IsName labels → parsed_name text ≡ Ok labels
 parsed_again text labels spells name =
-    ap (λ (l : List ℕ). whole_text (name_scan l)) (sym (append-nil text)) ∙ ap whole_text (scan_again text labels [] spells name tt)
+    ap (λ (l : List ℕ). whole_name_text (name_scan l)) (sym (append-nil text)) ∙ ap whole_name_text (scan_again text labels [] spells name tt)
     ∙ rw (name_fits labels name) refl
 
 abbrev Prefix : Type 0
@@ -309,7 +309,7 @@ at_octet_is : (labels name : List (List ℕ)) (label rest left : List ℕ) → a
 at_octet_is labels name [] rest left e = let same = prefix_parts labels name rest left e in (same.0, refl, same.1)
 at_octet_is labels name (octet ∷ others) rest left e = absurd cc
 
-prefix_of_is : (read : Read) (labels : List (List ℕ)) (rest : List ℕ) → prefix_of_text read ≡ Ok (labels, rest) → (read ≡ Ok (labels, ([], rest))) × (fits labels [] ≡ true) × (rest ≢ [])
+prefix_of_is : (read : Read) (labels : List (List ℕ)) (rest : List ℕ) → name_at_start read ≡ Ok (labels, rest) → (read ≡ Ok (labels, ([], rest))) × (fits labels [] ≡ true) × (rest ≢ [])
 prefix_of_is (Err error) labels rest e = absurd cc
 prefix_of_is (Ok (found, (label, []))) labels rest e = absurd cc
 prefix_of_is (Ok (found, (label, octet ∷ left))) labels rest e =
@@ -329,12 +329,12 @@ split_takes text rest labels e =
     let t = scan_rooted text labels rest w.0 w.1 in
     (t.prefix, t.text_is, t.spells, t.name, w.2, t.ends)
 
-prefix_whole : (labels : List (List ℕ)) (rest : List ℕ) → IsName labels → rest ≢ [] → prefix_of_text (Ok (labels, ([], rest))) ≡ Ok (labels, rest)
+prefix_whole : (labels : List (List ℕ)) (rest : List ℕ) → IsName labels → rest ≢ [] → name_at_start (Ok (labels, ([], rest))) ≡ Ok (labels, rest)
 prefix_whole labels [] name some = absurd (some refl)
 prefix_whole labels (octet ∷ rest) name some = rw (name_fits labels name) refl
 
 pub split_again : (text rest : List ℕ) (labels : List (List ℕ)) → SpellsLabels text labels → IsName labels → rest ≢ [] → EndsName rest → split_name (text ++ rest) ≡ Ok (labels, rest)
-split_again text rest labels spells name some ends = ap prefix_of_text (scan_again text labels rest spells name ends) ∙ prefix_whole labels rest name some
+split_again text rest labels spells name some ends = ap name_at_start (scan_again text labels rest spells name ends) ∙ prefix_whole labels rest name some
 
 -- ---- what is printed
 
@@ -361,7 +361,7 @@ record First (text : List ℕ) (labels : List (List ℕ)) : Type 0 where
   others : List (List ℕ)
   text_is : text ≡ spelled ++ 46 ∷ more
   labels_are : labels ≡ octets ∷ others
-  spells : Spells spelled octets
+  spells : SpellsLabel spelled octets
   trailing : SpellsLabels more others
 
 first_of : (text : List ℕ) (labels : List (List ℕ)) → SpellsLabels text labels → ((text ≡ []) × (labels ≡ [])) ⊎ First text labels
@@ -443,7 +443,7 @@ at_octet_never : (labels : List (List ℕ)) (label rest : List ℕ) → at_octet
 at_octet_never labels [] rest e = cc
 at_octet_never labels (octet ∷ others) rest e = cc
 
-prefix_of_never : (read : Read) → read ≢ Err errors.InvalidChar → prefix_of_text read ≢ Err split_errors.InvalidChar
+prefix_of_never : (read : Read) → read ≢ Err errors.InvalidChar → name_at_start read ≢ Err split_errors.InvalidChar
 prefix_of_never (Err error) never e = never (ap Err (of_prefix_invalid error (let h : of_prefix error ≡ split_errors.InvalidChar = cc in h)))
 prefix_of_never (Ok (found, (label, []))) never e = cc
 prefix_of_never (Ok (found, (label, octet ∷ left))) never e =

@@ -27,7 +27,7 @@ following_label : (label : List ℕ) (labels : List (List ℕ)) (read : ReadName
 following_label label labels None = refl
 following_label label labels (Some found) = refl
 
--- ---- one head
+-- ---- one label type
 
 label_step : (label rest : List ℕ) (steps : ℕ) → IsLabel label → unparsed_within (suc steps) (length label ∷ (label ++ rest)) ≡ following_labels (label ∷ []) (unparsed_within steps rest)
 unfolding unparsed_within
@@ -201,7 +201,7 @@ root_alone_unparsed ([], None) e = refl
 root_alone_unparsed ([], Some (high, low)) e = absurd (omega (arith, e))
 root_alone_unparsed (label ∷ labels, end) e = absurd (omega (arith, e, length-append (label ++ labels_wire labels) (last_octets end), (last_long end).0))
 
--- ---- the first head of an unparsed name
+-- ---- the first label type of an unparsed name
 
 -- what its first octet says
 pub record FirstLabelType (bytes : List ℕ) (name : Unparsed) : Type 0 where

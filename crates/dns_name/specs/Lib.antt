@@ -4,6 +4,5 @@ pub mod Hashing
 pub mod Json
 pub mod UnparsedLemmas
 pub mod Order
-pub mod RelativeOrder
 pub mod Text
 pub mod Unparsed

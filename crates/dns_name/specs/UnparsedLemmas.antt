@@ -16,57 +16,57 @@ record Took (name : Unparsed) (rest bytes : List ℕ) : Type 0 where
   follows : Follows rest bytes
 
 -- octets after the first
-one_off : (head : ℕ) (bytes rest : List ℕ) → Follows rest bytes → Follows rest (head ∷ bytes)
-one_off head bytes rest f = follows_both (head ∷ bytes) bytes rest (record { count = 1; within = omega arith; rest_is = refl }) f
+one_off : (first : ℕ) (bytes rest : List ℕ) → Follows rest bytes → Follows rest (first ∷ bytes)
+one_off first bytes rest f = follows_both (first ∷ bytes) bytes rest (record { count = 1; within = omega arith; rest_is = refl }) f
 
-pointer_takes : (head : ℕ) (bytes : List ℕ) (name : Unparsed) (rest : List ℕ) → pointer_from head bytes ≡ Some (name, rest) → Took name rest (head ∷ bytes)
-pointer_takes head [] name rest e = absurd cc
-pointer_takes head (low ∷ bytes) name rest e =
-    let same = some_pair_parts ([], Some (head, low)) name bytes rest e in
+pointer_takes : (first : ℕ) (bytes : List ℕ) (name : Unparsed) (rest : List ℕ) → pointer_from first bytes ≡ Some (name, rest) → Took name rest (first ∷ bytes)
+pointer_takes first [] name rest e = absurd cc
+pointer_takes first (low ∷ bytes) name rest e =
+    let same = some_pair_parts ([], Some (first, low)) name bytes rest e in
     record {
       sizes = subst (λ (n : Unparsed). AllByRecursion IsLabel n.0) same.0 tt;
       follows = record { count = 2; within = omega arith; rest_is = sym same.1 };
     }
 
-label_takes : (head : ℕ) (bytes : List ℕ) (later : Option (Unparsed × List ℕ)) (name : Unparsed) (rest : List ℕ) → 0 < head → head < 64 → head ≤ length bytes → ((n : Unparsed) (r : List ℕ) → later ≡ Some (n, r) → Took n r (drop head bytes)) → following_labels (take head bytes ∷ []) later ≡ Some (name, rest) → Took name rest (head ∷ bytes)
-label_takes head bytes None name rest some few room again e = absurd cc
-label_takes head bytes (Some (others, trailing)) name rest some few room again e =
-    let same = some_pair_parts (take head bytes ∷ others.0, others.1) name trailing rest e in
+label_takes : (first : ℕ) (bytes : List ℕ) (later : Option (Unparsed × List ℕ)) (name : Unparsed) (rest : List ℕ) → 0 < first → first < 64 → first ≤ length bytes → ((n : Unparsed) (r : List ℕ) → later ≡ Some (n, r) → Took n r (drop first bytes)) → following_labels (take first bytes ∷ []) later ≡ Some (name, rest) → Took name rest (first ∷ bytes)
+label_takes first bytes None name rest some few room again e = absurd cc
+label_takes first bytes (Some (others, trailing)) name rest some few room again e =
+    let same = some_pair_parts (take first bytes ∷ others.0, others.1) name trailing rest e in
     let t = again others trailing refl in
-    let long : length (take head bytes) ≡ head = omega (arith, length-take head bytes) in
-    let prefix : IsLabel (take head bytes) = (omega arith, omega arith) in
+    let long : length (take first bytes) ≡ first = omega (arith, length-take first bytes) in
+    let prefix : IsLabel (take first bytes) = (omega arith, omega arith) in
     record {
       sizes = subst (λ (n : Unparsed). AllByRecursion IsLabel n.0) same.0 (prefix, t.sizes);
-      follows = one_off head bytes rest (subst (λ (r : List ℕ). Follows r bytes) same.1 (follows_both bytes (drop head bytes) trailing (record { count = head; within = room; rest_is = refl }) t.follows));
+      follows = one_off first bytes rest (subst (λ (r : List ℕ). Follows r bytes) same.1 (follows_both bytes (drop first bytes) trailing (record { count = first; within = room; rest_is = refl }) t.follows));
     }
 
 -- what is read of the labels after the first, and what that took
 record Again (bytes : List ℕ) (later : Option (Unparsed × List ℕ)) : Type 0 where
   takes : (name : Unparsed) (rest : List ℕ) → later ≡ Some (name, rest) → Took name rest bytes
 
-at_label : (head : ℕ) (bytes : List ℕ) (later : Option (Unparsed × List ℕ)) (name : Unparsed) (rest : List ℕ) (long short : Bool) → nat_lt 63 head ≡ long → nat_lt (length bytes) head ≡ short → 0 < head → Again (drop head bytes) later → cond {A = Option (Unparsed × List ℕ)} (long || short) None (following_labels (take head bytes ∷ []) later) ≡ Some (name, rest) → Took name rest (head ∷ bytes)
-at_label head bytes later name rest true short is-long is-short some again e = absurd cc
-at_label head bytes later name rest false true is-long is-short some again e = absurd cc
-at_label head bytes later name rest false false is-long is-short some again e = label_takes head bytes later name rest some (omega (arith, ltb-false _ _ is-long)) (ltb-false _ _ is-short) again.takes e
+at_label : (first : ℕ) (bytes : List ℕ) (later : Option (Unparsed × List ℕ)) (name : Unparsed) (rest : List ℕ) (long short : Bool) → nat_lt 63 first ≡ long → nat_lt (length bytes) first ≡ short → 0 < first → Again (drop first bytes) later → cond {A = Option (Unparsed × List ℕ)} (long || short) None (following_labels (take first bytes ∷ []) later) ≡ Some (name, rest) → Took name rest (first ∷ bytes)
+at_label first bytes later name rest true short is-long is-short some again e = absurd cc
+at_label first bytes later name rest false true is-long is-short some again e = absurd cc
+at_label first bytes later name rest false false is-long is-short some again e = label_takes first bytes later name rest some (omega (arith, ltb-false _ _ is-long)) (ltb-false _ _ is-short) again.takes e
 
-at_pointer : (head : ℕ) (bytes : List ℕ) (later : Option (Unparsed × List ℕ)) (name : Unparsed) (rest : List ℕ) (high : Bool) → 0 < head → Again (drop head bytes) later → cond {A = Option (Unparsed × List ℕ)} high (pointer_from head bytes) (cond (nat_lt 63 head || nat_lt (length bytes) head) None (following_labels (take head bytes ∷ []) later)) ≡ Some (name, rest) → Took name rest (head ∷ bytes)
-at_pointer head bytes later name rest true some again e = pointer_takes head bytes name rest e
-at_pointer head bytes later name rest false some again e = at_label head bytes later name rest (nat_lt 63 head) (nat_lt (length bytes) head) refl refl some again e
+at_pointer : (first : ℕ) (bytes : List ℕ) (later : Option (Unparsed × List ℕ)) (name : Unparsed) (rest : List ℕ) (high : Bool) → 0 < first → Again (drop first bytes) later → cond {A = Option (Unparsed × List ℕ)} high (pointer_from first bytes) (cond (nat_lt 63 first || nat_lt (length bytes) first) None (following_labels (take first bytes ∷ []) later)) ≡ Some (name, rest) → Took name rest (first ∷ bytes)
+at_pointer first bytes later name rest true some again e = pointer_takes first bytes name rest e
+at_pointer first bytes later name rest false some again e = at_label first bytes later name rest (nat_lt 63 first) (nat_lt (length bytes) first) refl refl some again e
 
-at_root : (head : ℕ) (bytes : List ℕ) (later : Option (Unparsed × List ℕ)) (name : Unparsed) (rest : List ℕ) (root : Bool) → (head == 0) ≡ root → Again (drop head bytes) later → cond {A = Option (Unparsed × List ℕ)} root (Some (([], None), bytes)) (cond (nat_le 192 head) (pointer_from head bytes) (cond (nat_lt 63 head || nat_lt (length bytes) head) None (following_labels (take head bytes ∷ []) later))) ≡ Some (name, rest) → Took name rest (head ∷ bytes)
-at_root head bytes later name rest true is again e =
+at_root : (first : ℕ) (bytes : List ℕ) (later : Option (Unparsed × List ℕ)) (name : Unparsed) (rest : List ℕ) (root : Bool) → (first == 0) ≡ root → Again (drop first bytes) later → cond {A = Option (Unparsed × List ℕ)} root (Some (([], None), bytes)) (cond (nat_le 192 first) (pointer_from first bytes) (cond (nat_lt 63 first || nat_lt (length bytes) first) None (following_labels (take first bytes ∷ []) later))) ≡ Some (name, rest) → Took name rest (first ∷ bytes)
+at_root first bytes later name rest true is again e =
     let same = some_pair_parts ([], None) name bytes rest e in
     record {
       sizes = subst (λ (n : Unparsed). AllByRecursion IsLabel n.0) same.0 tt;
       follows = record { count = 1; within = omega arith; rest_is = sym same.1 };
     }
-at_root head bytes later name rest false is again e = at_pointer head bytes later name rest (nat_le 192 head) (grind (arith, nat_tests)) again e
+at_root first bytes later name rest false is again e = at_pointer first bytes later name rest (nat_le 192 first) (grind (arith, nat_tests)) again e
 
 within_takes : (steps : ℕ) (bytes : List ℕ) (name : Unparsed) (rest : List ℕ) → unparsed_within steps bytes ≡ Some (name, rest) → Took name rest bytes
 unfolding unparsed_within
 within_takes zero bytes name rest e = absurd cc
 within_takes (suc steps) [] name rest e = absurd cc
-within_takes (suc steps) (head ∷ bytes) name rest e = at_root head bytes (unparsed_within steps (drop head bytes)) name rest (head == 0) refl (record { takes = λ n r h. within_takes steps (drop head bytes) n r h }) e
+within_takes (suc steps) (first ∷ bytes) name rest e = at_root first bytes (unparsed_within steps (drop first bytes)) name rest (first == 0) refl (record { takes = λ n r h. within_takes steps (drop first bytes) n r h }) e
 
 -- a reading whose labels are no more than 254 octets
 short_takes : (read : Option (Unparsed × List ℕ)) (bytes : List ℕ) (name : Unparsed) (rest : List ℕ) → ((n : Unparsed) (r : List ℕ) → read ≡ Some (n, r) → Took n r bytes) → up_to_254 read ≡ Some (name, rest) → Took name rest bytes × (length (labels_wire name.0) ≤ 254)

@@ -25,7 +25,7 @@ impl<'a> Name<'a> {
 }
 
 impl<'a> RevName<'a> {
-    /// The name with its first label before.
+    /// The name with its first label first.
     pub fn to_name(&self) -> NameBuf
         ensures { result ≡ reversed_name_labels self.now.slice.now }
     {

@@ -47,7 +47,7 @@ impl BuildInMessage for NameBuf {
     }
 }
 
-/// The octets of the name with its first label before, and the places of its labels.
+/// The octets of the name with its first label first, and the places of its labels.
 impl BuildInMessage for RevName<'_> {
     ghost writes = { λ v. compressed_name_writes (reversed_name_labels v.slice.now) };
 
@@ -65,7 +65,7 @@ impl BuildInMessage for RevName<'_> {
     }
 }
 
-/// The octets of the name with its first label before, and the places of its labels.
+/// The octets of the name with its first label first, and the places of its labels.
 impl BuildInMessage for RevNameBuf {
     ghost writes = { compressed_name_writes };
 

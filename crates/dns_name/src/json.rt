@@ -57,7 +57,7 @@ impl NameBuf {
 }
 
 impl RevNameBuf {
-    /// The JSON string of what is printed of the name, its first label before. `AllocError` comes where
+    /// The JSON string of what is printed of the name, its first label first. `AllocError` comes where
     /// memory is wanting.
     pub fn to_json(&self, alloc: Global) -> Result<Value, AllocError>
         ensures { IfOk result (λ value. view value ≡ string (shown_name self.now)) }

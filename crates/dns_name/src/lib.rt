@@ -3,6 +3,7 @@
 
 mod canonical_name;
 mod conversion;
+mod equality_laws;
 mod hash;
 mod in_message;
 mod json;
@@ -14,7 +15,6 @@ mod name_buf;
 mod order;
 mod read_name;
 mod relative_name;
-mod relative_order;
 mod rev_canonical;
 mod rev_name;
 mod rev_name_buf;
@@ -26,6 +26,7 @@ mod text_laws;
 mod unparsed_name;
 
 pub use canonical_name::CanonicalName;
+pub use equality_laws::equal_errors;
 pub use json::{JsonLabelError, JsonNameError, label_from_json, label_to_json};
 pub use laws::{
     label_order, name_sizes, one_order, orders_by_octets, reversed_names, unparsed_names,

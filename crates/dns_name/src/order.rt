@@ -23,8 +23,8 @@ use std::cmp::Ordering;
 use std::marker::Brand;
 use std::sync::ledger::{Blank, Ledger};
 
-/// The labels just before the most labels that both end in; none where there is no label before these.
-/// `agreed` octets agree from the ends of both names on, their roots included. Each head that is read is a
+/// The label just before the most labels that both end in; none where no label precedes these.
+/// `agreed` octets agree from the ends of both names on, their roots included. Each label type that is read is a
 /// step.
 fn labels_before<'a, 'b, L: Ledger>(
     a: RelativeName<'a>,
@@ -95,7 +95,7 @@ fn compare_uncounted<L: Ledger>(name: &Name<'_>, other: &Name<'_>, blank: Blank)
 }
 
 impl Name<'_> {
-    /// The order of the names, as `cmp` has it. A step is a pair of octets compared or a label's head read:
+    /// The order of the names, as `cmp` has it. A step is a pair of octets compared or a label type read:
     /// they are at least as many as the octets that both names' ends have in common in lowercase, and at
     /// most three for each octet of both.
     pub fn cmp_counted<L: Ledger>(&self, that: &Name<'_>, steps: &mut Steps<L>) -> Ordering

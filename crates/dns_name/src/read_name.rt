@@ -26,7 +26,7 @@ pub trait ReadName<'a>: ParseName<'a> + CanonicalName {
     ghost read_each: { (bytes : List ℕ) (labels : List (List ℕ)) (rest : List ℕ) →
         plain_name bytes ≡ Some (labels, rest) → (seen : Self.Seen) × (Self.reads bytes ≡ Some (seen, rest)) };
 
-    /// The labels that it tells are those that it writes.
+    /// The labels that its value has are those that it writes.
     ghost layout_matches: { (value : Self) → Self.labels value ≡ Self.name value };
 }
 

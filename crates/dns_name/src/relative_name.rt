@@ -48,23 +48,6 @@ impl<'a> RelativeName<'a> {
         count
     }
 
-    /// The labels after that many.
-    pub fn skip(&self, count: usize) -> RelativeName<'a>
-        requires { count ≤ length (relative_labels self.now.slice.now) }
-        ensures { relative_labels result.slice.now ≡ drop count (relative_labels self.now.slice.now) }
-    {
-        let mut rest = *self;
-        let mut left = count;
-        while left > 0 {
-            let Some((_label, next)) = rest.split_first() else {
-                return rest;
-            };
-            rest = next;
-            left -= 1;
-        }
-        rest
-    }
-
     /// Copies the labels into the buffer in reverse order, so that the first of them ends at `end`.
     pub fn put_reversed(&self, bytes: &mut [u8], end: usize)
         requires room { length self.now.slice.now ≤ end }

@@ -1,5 +1,5 @@
-//! Names from the root on as DNSSEC sees them (RFC 4034 section 6). Their octets are in the other order, so
-//! that the last labels that differ are met first.
+//! Names from the root on as DNSSEC sees them (RFC 4034 section 6). They are compared as names from their
+//! first label on, of which copies are made.
 
 ghost use Rattle.std.specs.Prelude.{◌≡◌, ◌≤◌, length, ⊤};
 ghost use Rattle.std.proofs.Common.{refl};
@@ -9,7 +9,6 @@ ghost use Rattle.dns_wire.specs.Reversed.{reversed_name_labels};
 ghost use Rattle.dns_name.specs.Composed.{composed_cmp, lowercase_composed_cmp};
 
 use crate::canonical_name::CanonicalName;
-use crate::relative_order::{LabelOrder, compare_from_last};
 use crate::rev_name::RevName;
 use crate::rev_name_buf::RevNameBuf;
 use dns_wire::{BuildBytes, TruncationError, build_lowercase};
@@ -37,15 +36,11 @@ impl CanonicalName for RevName<'_> {
     }
 
     fn cmp_composed(&self, other: &Self) -> Ordering {
-        compare_from_last(self.relative(), other.relative(), LabelOrder::Composed)
+        self.to_name().cmp_composed(&other.to_name())
     }
 
     fn cmp_lowercase_composed(&self, other: &Self) -> Ordering {
-        compare_from_last(
-            self.relative(),
-            other.relative(),
-            LabelOrder::LowercaseComposed,
-        )
+        self.to_name().cmp_lowercase_composed(&other.to_name())
     }
 }
 

@@ -86,7 +86,7 @@ impl<'a> RevName<'a> {
     }
 }
 
-/// The octets with the first label before and the root last.
+/// The octets with the first label first and the root last.
 impl BuildBytes for RevName<'_> {
     ghost octets = { λ v. wire (reversed_name_labels v.slice.now) };
 

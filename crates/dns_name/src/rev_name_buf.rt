@@ -114,7 +114,7 @@ fn read_reversed(contents: &[u8], start: usize) -> Result<(RevNameBuf, usize), P
     }
 }
 
-/// The octets of a name without pointers, its first label before.
+/// The octets of a name without pointers, its first label first.
 impl<'a> ParseBytes<'a> for RevNameBuf {
     ghost Seen = { List (List ℕ) };
 
@@ -170,7 +170,7 @@ impl<'a> SplitMessageBytes<'a> for RevNameBuf {
     }
 }
 
-/// The octets with the first label before and the root last.
+/// The octets with the first label first and the root last.
 impl BuildBytes for RevNameBuf {
     ghost use Rattle.dns_wire.specs.Building.{Builds};
 

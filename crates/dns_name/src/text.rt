@@ -2,7 +2,7 @@
 
 ghost use Rattle.std.specs.Prelude.{◌≡◌, ◌∷◌, Some, MatchOption};
 ghost use Rattle.dns_wire.specs.Names.{name_labels};
-ghost use Rattle.dns_label.specs.Text.{Answers};
+ghost use Rattle.dns_label.specs.Text.{GivesResult};
 ghost use Rattle.dns_name.specs.Text.{NoDot, label_prefix, of_prefix, parsed_name, name_scan, shown_name, split_name};
 
 use crate::labels_buf::LabelsBuf;
@@ -36,7 +36,7 @@ impl NameBuf {
     /// Reads the name at the start of the text, and gives the text after it, which begins with an octet
     /// that no text of a name has. Each error comes exactly where its fault is the first one from the left.
     pub fn split_str(s: &[u8]) -> Result<(NameBuf, &[u8]), NameSplitError>
-        ensures { Answers (λ x. (x.0, x.1.now)) result (split_name s.now) }
+        ensures { GivesResult (λ x. (x.0, x.1.now)) result (split_name s.now) }
     {
         let prefix = match scan(s) {
             Ok(prefix) => prefix,
@@ -66,7 +66,7 @@ impl RevNameBuf {
 
     /// Reads the name at the start of the text, and gives the text after it, as `NameBuf::split_str` does.
     pub fn split_str(s: &[u8]) -> Result<(RevNameBuf, &[u8]), NameSplitError>
-        ensures { Answers (λ x. (x.0, x.1.now)) result (split_name s.now) }
+        ensures { GivesResult (λ x. (x.0, x.1.now)) result (split_name s.now) }
     {
         let (name, rest) = NameBuf::split_str(s)?;
         Ok((RevNameBuf::from(name), rest))
@@ -105,7 +105,7 @@ struct Prefix<'a> {
 
 /// Scans a name from the left, up to the end of the text or to an octet that no text of a name has.
 fn scan(text: &[u8]) -> Result<Prefix<'_>, NameParseError>
-    ensures { Answers (λ x. (x.labels, (x.last, x.rest.now))) result (name_scan text.now) }
+    ensures { GivesResult (λ x. (x.labels, (x.last, x.rest.now))) result (name_scan text.now) }
 {
     let mut labels = LabelsBuf::new();
     let mut rest = text;
@@ -132,7 +132,7 @@ fn scan(text: &[u8]) -> Result<Prefix<'_>, NameParseError>
 /// Reads the label at the start of the text, which the end of the text ends too, and gives the text after
 /// it.
 fn label_at(text: &[u8]) -> Result<(LabelBuf, &[u8]), NameParseError>
-    ensures { Answers (λ x. (x.0, x.1.now)) result (label_prefix text.now) }
+    ensures { GivesResult (λ x. (x.0, x.1.now)) result (label_prefix text.now) }
 {
     match LabelBuf::split_str(text) {
         Ok(prefix) => Ok(prefix),

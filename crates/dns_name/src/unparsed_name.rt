@@ -104,19 +104,19 @@ fn read_unparsed(bytes: &[u8]) -> Result<(usize, Option<usize>), ParseError>
 {
     let mut at = 0;
     while at < bytes.len() && at < UnparsedName::MAX_SIZE - 1 {
-        let head = bytes[at];
-        if head == 0 {
+        let octet = bytes[at];
+        if octet == 0 {
             return Ok((at + 1, None));
         }
         let left = bytes.len() - at;
-        if head >= POINTER_TAG {
+        if octet >= POINTER_TAG {
             if left < 2 {
                 return Err(ParseError);
             }
-            let offset = pointer_offset(head, bytes[at + 1]);
+            let offset = pointer_offset(octet, bytes[at + 1]);
             return Ok((at + 2, Some(offset)));
         }
-        let size = head as usize;
+        let size = octet as usize;
         if size > MAX_LABEL_SIZE || left <= size {
             return Err(ParseError);
         }

@@ -42,7 +42,7 @@ pub struct Nsec3<'a> {
 impl<'a> Nsec3<'a> {
     /// How owners are hashed, the flags, how often the hash is taken again, the salt, the next owner's hash,
     /// and the types at the owner. The condition is that salt and hash have at most 255 octets each:
-    /// `salt.inner().len()` and `next_owner.inner().len()` tell.
+    /// `salt.inner().len()` and `next_owner.inner().len()` say how many.
     pub fn new(
         hash_algorithm: Nsec3HashAlgorithm,
         flags: Nsec3Flags,

@@ -37,7 +37,7 @@ pub struct Nsec3Param<'a> {
 
 impl<'a> Nsec3Param<'a> {
     /// How owners are hashed, the flags, how often the hash is taken again, and the salt. The condition is
-    /// that the salt has at most 255 octets: `salt.inner().len()` tells.
+    /// that the salt has at most 255 octets: `salt.inner().len()` says how many.
     pub fn new(
         hash_algorithm: Nsec3HashAlgorithm,
         flags: Nsec3Flags,

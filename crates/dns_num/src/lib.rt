@@ -20,7 +20,7 @@ pub use number64::U64;
 pub use one_bit::octet_with_bit;
 pub use order_laws::{
     numbers_are_equal_by_value, numbers_are_hashed_by_value, numbers_are_ordered_by_value,
-    numbers_are_zero_by_default,
+    numbers_are_zero_by_default, prefixed_data_are_compared_by_data,
 };
 pub use size_prefix::SizePrefix;
 pub use size_prefixed::SizePrefixed;

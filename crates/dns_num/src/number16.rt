@@ -60,7 +60,7 @@ impl U16 {
         self.value.cmp(&other)
     }
 
-    /// How it compares with another, by number, and that both fit their width, which nothing else tells of numbers
+    /// How it compares with another, by number, and that both fit their width, which nothing else says of numbers
     /// after references.
     pub fn compare(&self, other: &U16) -> Ordering
         ensures order { result ≡ nat_cmp self.now.value other.now.value }

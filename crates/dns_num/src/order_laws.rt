@@ -1,4 +1,4 @@
-//! Numbers are compared and fed to a hasher by their values.
+//! Numbers are compared and fed to a hasher by their values, and prefixed data by their data.
 
 ghost use Rattle.std.specs.Prelude.{◌≡◌, [], ◌∷◌, nat_eq};
 ghost use Rattle.std.specs.Hash.{le_bytes};
@@ -7,6 +7,7 @@ ghost use Rattle.std.specs.Ordering.{nat_cmp};
 use crate::number16::U16;
 use crate::number32::U32;
 use crate::number64::U64;
+use crate::size_prefixed::SizePrefixed;
 use std::hash::Hash;
 
 /// Numbers are equal where their values are.
@@ -35,4 +36,11 @@ pub fn numbers_are_zero_by_default()
     ensures two_octets { (v : _) → ⟦<U16 as Default>⟧.is_default v → v.value ≡ 0 }
     ensures four_octets { (v : _) → ⟦<U32 as Default>⟧.is_default v → v.value ≡ 0 }
     ensures eight_octets { (v : _) → ⟦<U64 as Default>⟧.is_default v → v.value ≡ 0 }
+{}
+
+/// Prefixed data are equal, ordered and fed to a hasher as the data are: the prefix has no part in it.
+pub fn prefixed_data_are_compared_by_data<S: Ord + Hash, T: Ord + Hash>()
+    ensures equal { (a b : T) → ⟦<SizePrefixed<S, T> as PartialEq>⟧.eq a b ≡ T.eq a b }
+    ensures ordered { (a b : T) → ⟦<SizePrefixed<S, T> as Ord>⟧.cmp a b ≡ T.cmp a b }
+    ensures hashed { (v : T) → ⟦<SizePrefixed<S, T> as Hash>⟧.hash_input v ≡ T.hash_input v }
 {}

@@ -1,6 +1,7 @@
 -- The fields of the data of each type.
-use Rattle.std.specs.Prelude.{ℕ, List, [], ◌∷◌}
+use Rattle.std.specs.Prelude.{List, [], ◌∷◌}
 use Rattle.std.specs.Int.{w16}
+use Rattle.dns_wire.specs.Octets.{Octets}
 use Rattle.dns_wire.specs.Names.{name_labels}
 use Rattle.dns_record.specs.CharStrs.{octets_of}
 use Rattle.dns_record.specs.Fields.{Field}
@@ -18,7 +19,7 @@ abbrev pub hinfo_fields : HInfo → List Field
 hinfo_fields v = Sized (octets_of v.cpu.slice.now) ∷ Sized (octets_of v.os.slice.now) ∷ []
 
 -- of the octets of the strings
-abbrev pub txt_fields : List ℕ → List Field
+abbrev pub txt_fields : Octets → List Field
 txt_fields octets = Raw octets ∷ []
 
 abbrev pub srv_fields : Srv → List Field

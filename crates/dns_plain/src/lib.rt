@@ -22,7 +22,7 @@ pub use dname::DName;
 pub use hinfo::HInfo;
 pub use laws::strings_of_character_strings;
 pub use order_laws::{
-    data_are_equal_by_fields, data_are_hashed_by_fields, data_are_ordered_by_fields,
+    data_are_equal_by_fields, data_are_hashed_by_fields, data_are_ordered_by_fields, equal_errors,
 };
 pub use srv::Srv;
 pub use txt::Txt;

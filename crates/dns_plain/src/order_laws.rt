@@ -1,6 +1,6 @@
 //! Data are compared and fed to a hasher field by field, in the order in which the fields stand on the wire.
 
-ghost use Rattle.std.specs.Prelude.{◌≡◌, map};
+ghost use Rattle.std.specs.Prelude.{◌≡◌, map, ◌↔◌, IsTrue};
 ghost use Rattle.std.specs.Ordering.{eq_by_cmp, on};
 ghost use Rattle.dns_name.specs.Hashing.{name_writes};
 ghost use Rattle.dns_name.specs.Order.{key, key_cmp};
@@ -13,6 +13,7 @@ ghost use Rattle.dns_plain.specs.Types.{a_fields, hinfo_fields, aaaa_fields, srv
 
 use crate::a::A;
 use crate::aaaa::Aaaa;
+use crate::addr_error::AddrParseError;
 use crate::dname::DName;
 use crate::hinfo::HInfo;
 use crate::srv::Srv;
@@ -47,4 +48,9 @@ pub fn data_are_hashed_by_fields()
     ensures srv { (v : _) → ⟦<Srv<'static> as Hash>⟧.hash_input v ≡ fields_writes name_writes name_writes charstr_writes (srv_fields v) }
     ensures dname { (v : _) → ⟦<DName<'static> as Hash>⟧.hash_input v ≡ fields_writes name_writes name_writes charstr_writes (dname_fields v) }
     ensures txt { (v : _) → ⟦<Txt<'static> as Hash>⟧.hash_input v ≡ fields_writes name_writes name_writes charstr_writes (map Sized (strings_in v.slice.now)) }
+{}
+
+/// Errors are equal exactly where they are the same.
+pub fn equal_errors()
+    ensures address { (a b : _) → IsTrue (⟦<AddrParseError as PartialEq>⟧.eq a b) ↔ (a ≡ b) }
 {}

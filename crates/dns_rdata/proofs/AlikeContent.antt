@@ -16,7 +16,7 @@ use Rattle.dns_record.specs.Fields.FieldOf.{Compressible, Uncompressed, Raw, Siz
 use Rattle.dns_record.specs.Formats.{has_rdata_format}
 use Rattle.dns_plain.specs.Strings.{strings_in, same_strings, strings_writes}
 use Rattle.dns_rdata.specs.Alike.{Content, content_of, is_known, each_string, compared, same_name, same_sized, same_fields, same_content, sized_writes, type_writes, content_writes}
-use Rattle.dns_rdata.specs.Boxed.{spelled, spelled_content}
+use Rattle.dns_rdata.specs.Boxed.{spelled_fields, spelled_content}
 use Rattle.dns_rdata.specs.Data.{data_fields, type_number, IsProper, IsDataOf}
 use Rattle.dns_rdata.specs.declared.record_data.RecordData.{RecordData}
 use Rattle.dns_rdata.specs.declared.record_data.RecordData.TheVariants.{Unknown}
@@ -111,7 +111,7 @@ these rtype known fields = record { rtype = rtype; known = known; fields = field
 
 pub content_spelled : {N : Type 0} (name : N → List (List ℕ)) (v : RecordData N) (rtype : ℕ) (bytes : List ℕ) → data_as plain_name rtype bytes ≡ Some (map (named_by name) (data_fields v)) → IsDataOf v rtype → content_named name (content_of v) ≡ spelled_content rtype bytes
 content_spelled name v rtype bytes read is =
-    let fields : map (named_by name) (data_fields v) ≡ spelled rtype bytes = sym (ap (λ (found : Option (List Field)). unwrap_or found []) read) in
+    let fields : map (named_by name) (data_fields v) ≡ spelled_fields rtype bytes = sym (ap (λ (found : Option (List Field)). unwrap_or found []) read) in
     ap (λ (n : ℕ). these n (is_known v) (map (named_by name) (data_fields v))) (sym is.0)
     ∙ ap (λ (b : Bool). these rtype b (map (named_by name) (data_fields v))) (known_format v is.1 ∙ ap has_rdata_format (sym is.0))
     ∙ ap (λ (fs : List Field). these rtype (has_rdata_format rtype) fs) fields

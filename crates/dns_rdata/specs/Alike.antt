@@ -5,6 +5,7 @@ use Rattle.std.specs.Cmp.Lexicographic.{pointwise}
 use Rattle.std.specs.Hash.{le_bytes, slice, u8}
 use Rattle.std.specs.List.{flat_map}
 use Rattle.std.specs.Ordering.{eq_by_cmp, on}
+use Rattle.dns_wire.specs.Octets.{Octets, Labels}
 use Rattle.dns_name.specs.Hashing.{name_writes}
 use Rattle.dns_name.specs.Order.{key, key_cmp}
 use Rattle.dns_plain.specs.Strings.{strings_in}
@@ -56,11 +57,11 @@ is_hashed rtype = rtype == 50 || rtype == 51
 -- ---- equality
 
 -- names without regard to ASCII case (RFC 1035 section 2.3.3)
-abbrev pub same_name : List (List ℕ) → List (List ℕ) → Bool
+abbrev pub same_name : Labels → Labels → Bool
 same_name = eq_by_cmp (on key key_cmp)
 
 -- salts and hashes octet by octet, strings without regard to ASCII case
-abbrev pub same_sized : ℕ → List ℕ → List ℕ → Bool
+abbrev pub same_sized : ℕ → Octets → Octets → Bool
 same_sized rtype a b = if is_hashed rtype then pointwise nat_eq a b else same_charstr a b
 
 -- fields of data of a type, names that may have pointers as given
@@ -75,7 +76,7 @@ same_content names a b = beq a.known b.known && (nat_eq a.rtype b.rtype && same_
 
 -- the numbers of the types that are read as they say, in the order of the choice among them
 abbrev pub choices : List ℕ
-choices = map (λ (typed : ℕ × List Kind). typed.0) rdata_formats
+choices = map (λ ((rtype, format) : ℕ × List Kind). rtype) rdata_formats
 
 -- how many stand before the number
 abbrev pub place_among : List ℕ → ℕ → ℕ
@@ -83,15 +84,15 @@ place_among [] n = 0
 place_among (first ∷ others) n = if n == first then 0 else suc (place_among others n)
 
 -- what stands for the type: its place in the choice, and of unknown octets their number too
-abbrev pub type_writes : {N : Type 0} → Content N → List (List ℕ)
+abbrev pub type_writes : {N : Type 0} → Content N → List Octets
 type_writes c =
     if c.known then le_bytes 8 (place_among choices c.rtype) ∷ []
     else le_bytes 8 (length choices) ∷ le_bytes 2 c.rtype ∷ []
 
 -- octets with their size: salts and hashes as they stand, strings in lowercase
-abbrev pub sized_writes : ℕ → List ℕ → List (List ℕ)
+abbrev pub sized_writes : ℕ → Octets → List Octets
 sized_writes rtype octets = if is_hashed rtype then slice u8 octets else charstr_writes octets
 
 -- what stands for the type, and the fields one after another
-abbrev pub content_writes : {N : Type 0} → (N → List (List ℕ)) → Content N → List (List ℕ)
+abbrev pub content_writes : {N : Type 0} → (N → List Octets) → Content N → List Octets
 content_writes names c = type_writes c ++ fields_writes names name_writes (sized_writes c.rtype) (compared c)

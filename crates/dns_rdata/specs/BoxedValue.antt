@@ -1,5 +1,6 @@
 -- What is seen of data that are kept in memory of their own.
-use Rattle.std.specs.Prelude.{ℕ, List}
+use Rattle.std.specs.Prelude.{ℕ}
+use Rattle.dns_wire.specs.Octets.{Octets}
 use Rattle.dns_rdata.specs.declared.boxed_record_data.BoxedRecordData.{BoxedRecordData}
 
 -- the number of their type
@@ -7,5 +8,5 @@ abbrev pub boxed_type : BoxedRecordData → ℕ
 boxed_type boxed = boxed.rtype.code.value
 
 -- their octets, names whole
-abbrev pub boxed_octets : BoxedRecordData → List ℕ
+abbrev pub boxed_octets : BoxedRecordData → Octets
 boxed_octets boxed = boxed.octets.items

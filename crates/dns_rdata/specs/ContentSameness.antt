@@ -21,7 +21,7 @@ use Rattle.dns_record.specs.Fields.FieldOf.{Compressible, Uncompressed, Raw, Siz
 use Rattle.dns_record.specs.Formats.{rdata_format, has_rdata_format}
 use Rattle.dns_plain.specs.Strings.{strings_in}
 use Rattle.dns_rdata.specs.Alike.{Content, each_string, compared, is_hashed, same_name, same_sized, same_fields, same_content, sized_writes, type_writes, content_writes}
-use Rattle.dns_rdata.specs.Boxed.{is_readable, spelled, spelled_content}
+use Rattle.dns_rdata.specs.Boxed.{is_readable, spelled_fields, spelled_content}
 use Rattle.dns_rdata.specs.FieldShapes.{OfKinds, spelled_shaped, SameWidth, SameWidths, widths_of_format, widths_of_strings, text_shaped}
 
 -- ---- an equivalence
@@ -150,5 +150,5 @@ spelled_alike rtype other bytes others ir io e =
     let is : rtype ≡ other = eqb-true rtype other (first_so (nat_eq rtype other) (same_fields same_name rtype (compared (spelled_content rtype bytes)) (compared (spelled_content other others))) later) in
     subst (λ (n : ℕ). is_readable n others ≡ true → same_fields same_name rtype (compared (spelled_content rtype bytes)) (compared (spelled_content n others)) ≡ true → content_writes name_writes (spelled_content rtype bytes) ≡ content_writes name_writes (spelled_content n others)) is
     (λ there same. ap (λ (l : List (List ℕ)). type_writes (spelled_content rtype bytes) ++ l)
-    (fields_alike rtype (compared (spelled_content rtype bytes)) (compared (spelled_content rtype others)) (compared_widths rtype (spelled rtype bytes) (spelled rtype others) (spelled_shaped rtype bytes ir) (spelled_shaped rtype others there)) same))
+    (fields_alike rtype (compared (spelled_content rtype bytes)) (compared (spelled_content rtype others)) (compared_widths rtype (spelled_fields rtype bytes) (spelled_fields rtype others) (spelled_shaped rtype bytes ir) (spelled_shaped rtype others there)) same))
     io (second_so (nat_eq rtype other) (same_fields same_name rtype (compared (spelled_content rtype bytes)) (compared (spelled_content other others))) later)

@@ -1,6 +1,7 @@
 -- Data of any type: the number of their type, their fields, and their octets.
 use Rattle.std.specs.Prelude.{◌≡◌, ℕ, List, [], ◌∷◌, ◌++◌, length, map, false, ⊤}
 use Rattle.std.specs.Int.{to_be_bytes}
+use Rattle.dns_wire.specs.Octets.{Octets}
 use Rattle.dns_wire.specs.Names.{wire}
 use Rattle.dns_record.specs.Fields.{Field, FieldOf}
 use Rattle.dns_record.specs.Fields.FieldOf.{Compressible, Uncompressed, Raw, Sized, Byte, Number}
@@ -86,7 +87,7 @@ IsDataOf v rtype = (rtype ≡ type_number v) × IsProper v
 -- ---- octets
 
 -- a field's octets, a name's as its type writes them
-abbrev pub written_field : {N : Type 0} → (N → List ℕ) → FieldOf N → List ℕ
+abbrev pub written_field : {N : Type 0} → (N → Octets) → FieldOf N → Octets
 written_field name (Compressible n) = name n
 written_field name (Uncompressed labels) = wire labels
 written_field name (Raw octets) = octets
@@ -95,7 +96,7 @@ written_field name (Byte b) = b ∷ []
 written_field name (Number w n) = to_be_bytes w n
 
 -- the octets of fields, one after another
-abbrev pub written_fields : {N : Type 0} → (N → List ℕ) → List (FieldOf N) → List ℕ
+abbrev pub written_fields : {N : Type 0} → (N → Octets) → List (FieldOf N) → Octets
 written_fields name [] = []
 written_fields name (field ∷ fields) = written_field name field ++ written_fields name fields
 

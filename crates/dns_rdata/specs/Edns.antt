@@ -1,6 +1,7 @@
 -- EDNS records: the root, the number of OPT, and what stands in place of class and time to live (RFC 6891 section 6.1.2).
+use Rattle.dns_wire.specs.Octets.{Octets}
 use Rattle.dns_record.specs.Types.{opt_number}
-use Rattle.std.specs.Prelude.{◌≡◌, ℕ, List, [], ◌∷◌, ◌++◌, drop, take, Option, Some, None, Bool, nat_eq, if◌then◌else◌}
+use Rattle.std.specs.Prelude.{◌≡◌, ℕ, [], ◌∷◌, ◌++◌, drop, take, Option, Some, None, Bool, nat_eq, if◌then◌else◌}
 use Rattle.std.specs.Cmp.Lexicographic.{pointwise}
 use Rattle.std.specs.Fn.{Shared}
 use Rattle.std.specs.Int.{w16, to_be_bytes}
@@ -33,26 +34,26 @@ edns_seen content r = record {
 -- ---- on the wire
 
 -- the root, and the number of OPT
-abbrev pub edns_fixed_header : List ℕ
+abbrev pub edns_fixed_header : Octets
 edns_fixed_header = 0 ∷ 0 ∷ opt_number ∷ []
 
--- what stands after this head, where the octets begin with it
-abbrev pub after_fixed_header : List ℕ → Option (List ℕ)
+-- the octets after the root and the number, where they begin with these
+abbrev pub after_fixed_header : Octets → Option Octets
 after_fixed_header bytes = if pointwise nat_eq (take 3 bytes) edns_fixed_header then Some (drop 3 bytes) else None
 
--- the head, a size of payload, a part of the response code, a version, flags, and data after the number of their octets
-unfoldable pub edns_at : {D : Type 0} → (List ℕ → Option (D × List ℕ)) → List ℕ → Option (EdnsOf D × List ℕ)
+-- the root and the number of OPT, a size of payload, a part of the response code, a version, flags, and data after the number of their octets
+unfoldable pub edns_at : {D : Type 0} → (Octets → Option (D × Octets)) → Octets → Option (EdnsOf D × Octets)
 edns_at content bytes = do
   rest ← after_fixed_header bytes
-  payload ← number w16 rest
-  ext_rcode ← octet payload.1
-  version ← octet ext_rcode.1
-  flags ← number w16 version.1
-  body ← prefixed w16 content flags.1
-  Some (record { payload = payload.0; ext_rcode = ext_rcode.0; version = version.0; flags = flags.0; content = body.0 }, body.1)
+  (payload, after_payload) ← number w16 rest
+  (ext_rcode, after_rcode) ← octet after_payload
+  (version, after_version) ← octet after_rcode
+  (flags, after_flags) ← number w16 after_version
+  (body, after_body) ← prefixed w16 content after_flags
+  Some (record { payload = payload; ext_rcode = ext_rcode; version = version; flags = flags; content = body }, after_body)
 
 -- the octets, where these are those of the data
-abbrev pub edns_octets : {D : Type 0} → EdnsRecord D → List ℕ → List ℕ
+abbrev pub edns_octets : {D : Type 0} → EdnsRecord D → Octets → Octets
 edns_octets r octets =
     edns_fixed_header ++ (to_be_bytes w16 r.max_udp_payload.value ++ ((r.ext_rcode ∷ []) ++ ((r.version ∷ []) ++ (to_be_bytes w16 (flag_bits r.flags) ++ sized w16 octets))))
 

@@ -1,6 +1,7 @@
 -- EDNS records in the form of records (RFC 6891 sections 6.1.2 and 6.1.3).
+use Rattle.dns_wire.specs.Octets.{Octets, Labels}
 use Rattle.dns_record.specs.Types.{opt_number}
-use Rattle.std.specs.Prelude.{◌≡◌, ℕ, ◌+◌, ◌*◌, ◌/◌, ◌%◌, ◌^◌, List, [], ◌∷◌, Option, Some, None, Bool, true, false, ◌&&◌, ◌==◌, if◌then◌else◌}
+use Rattle.std.specs.Prelude.{◌≡◌, ℕ, ◌+◌, ◌*◌, ◌/◌, ◌%◌, ◌^◌, [], ◌∷◌, Option, Some, None, Bool, true, false, ◌&&◌, ◌==◌, if◌then◌else◌}
 use Rattle.dns_record.specs.Options.{is_option_data}
 use Rattle.dns_record.specs.declared.record.Record.{Record}
 use Rattle.dns_wire.specs.Steps.{◌>>=◌}
@@ -24,22 +25,22 @@ pub record IsFormOf {O N : Type 0} (root : O) (edns : EdnsRecord OptData) (form 
   pub content : form.rdata ≡ Opt edns.content
 
 -- the octets of the options that data have: OPT data, and unknown data with the number of OPT that are options
-abbrev pub option_octets : {N : Type 0} → RecordData N → Option (List ℕ)
-option_octets (Opt v) = Some v.slice.now
-option_octets (Unknown rtype v) = if (rtype.code.value == opt_number) && is_option_data v.octets.now then Some v.octets.now else None
-option_octets v = None
+abbrev pub octets_of_options : {N : Type 0} → RecordData N → Option Octets
+octets_of_options (Opt v) = Some v.slice.now
+octets_of_options (Unknown rtype v) = if (rtype.code.value == opt_number) && is_option_data v.octets.now then Some v.octets.now else None
+octets_of_options v = None
 
 -- whether a name is the root
-abbrev pub is_root : List (List ℕ) → Bool
+abbrev pub is_root : Labels → Bool
 is_root [] = true
 is_root (label ∷ labels) = false
 
 -- the EDNS record whose fields stand as this class and this time to live
-abbrev pub edns_fields : ℕ → ℕ → List ℕ → EdnsOf (List ℕ)
+abbrev pub edns_fields : ℕ → ℕ → Octets → EdnsOf Octets
 edns_fields class ttl octets = record { payload = class; ext_rcode = ttl / 2 ^ 24; version = (ttl / 2 ^ 16) % 2 ^ 8; flags = ttl % 2 ^ 16; content = octets }
 
 -- the EDNS record that a record is: its owner is the root, its type is OPT, and its data have options
-abbrev pub edns_in : {N : Type 0} → Record (List (List ℕ)) (RecordData N) → Option (EdnsOf (List ℕ))
+abbrev pub edns_in : {N : Type 0} → Record Labels (RecordData N) → Option (EdnsOf Octets)
 edns_in form = do
-  octets ← if is_root form.rname && (form.rtype.code.value == opt_number) then option_octets form.rdata else None
+  octets ← if is_root form.rname && (form.rtype.code.value == opt_number) then octets_of_options form.rdata else None
   Some (edns_fields form.rclass.code.value form.ttl.value.value octets)

@@ -14,7 +14,7 @@ use Rattle.dns_record.specs.Formats.{rdata_format, format_txt}
 use Rattle.dns_record.specs.CharacterStrings.{character_string, character_strings}
 use Rattle.dns_record.specs.TypeBitMaps.{bitmap, some_bitmap}
 use Rattle.dns_record.proofs.Stepped.{stepped}
-use Rattle.dns_rdata.specs.Boxed.{is_readable, spelled}
+use Rattle.dns_rdata.specs.Boxed.{is_readable, spelled_fields}
 use Rattle.dns_rdata.specs.FormatLemmas.{put_in, spelled_is}
 
 -- a field that is read for a kind
@@ -71,8 +71,8 @@ data_shaped rtype bytes fields e = by (fields_of plain_name (rdata_format rtype)
       subst (OfKinds (rdata_format rtype)) same (fields_shaped (rdata_format rtype) bytes found [] is)
   by (Some (found, x ∷ rest)) is h = absurd cc
 
-pub spelled_shaped : (rtype : ℕ) (bytes : List ℕ) → is_readable rtype bytes ≡ true → OfKinds (rdata_format rtype) (spelled rtype bytes)
-spelled_shaped rtype bytes e = data_shaped rtype bytes (spelled rtype bytes) (spelled_is rtype bytes e)
+pub spelled_shaped : (rtype : ℕ) (bytes : List ℕ) → is_readable rtype bytes ≡ true → OfKinds (rdata_format rtype) (spelled_fields rtype bytes)
+spelled_shaped rtype bytes e = data_shaped rtype bytes (spelled_fields rtype bytes) (spelled_is rtype bytes e)
 
 -- TXT data are strings in one field
 pub text_shaped : (fields : List Field) → OfKinds format_txt fields → (octets : List ℕ) × (fields ≡ Raw octets ∷ [])

@@ -27,7 +27,7 @@ use Rattle.dns_record.proofs.EachFormat.{of_each_format}
 use Rattle.dns_record.proofs.Places.{octet_spelled, octets_spelled, text_spelled}
 use Rattle.dns_record.proofs.Sizes.{canonical_long}
 use Rattle.dns_record.proofs.Stepped.{stepped}
-use Rattle.dns_rdata.specs.Boxed.{is_readable, spelled}
+use Rattle.dns_rdata.specs.Boxed.{is_readable, spelled_fields}
 
 -- numbers of two octets or of four
 abbrev is_usual : Kind → Bool
@@ -131,12 +131,12 @@ data_spelled rtype bytes fields are e = by (fields_of plain_name (rdata_format r
   by (Some (found, x ∷ rest)) is h = absurd cc
 
 -- the fields that readable octets spell
-pub spelled_is : (rtype : ℕ) (bytes : List ℕ) → is_readable rtype bytes ≡ true → data_as plain_name rtype bytes ≡ Some (spelled rtype bytes)
+pub spelled_is : (rtype : ℕ) (bytes : List ℕ) → is_readable rtype bytes ≡ true → data_as plain_name rtype bytes ≡ Some (spelled_fields rtype bytes)
 spelled_is rtype bytes e = by (data_as plain_name rtype bytes) refl e where
-  by : (read : Option (List Field)) → data_as plain_name rtype bytes ≡ read → is_some read ≡ true → data_as plain_name rtype bytes ≡ Some (spelled rtype bytes)
+  by : (read : Option (List Field)) → data_as plain_name rtype bytes ≡ read → is_some read ≡ true → data_as plain_name rtype bytes ≡ Some (spelled_fields rtype bytes)
   by None is h = absurd cc
   by (Some fields) is h = rw is refl
 
 -- the canonical octets are as many as those that are kept
-pub spelled_long : (rtype : ℕ) (bytes : List ℕ) → AreOctets bytes → is_readable rtype bytes ≡ true → length (canonical_octets rtype (spelled rtype bytes)) ≡ length bytes
-spelled_long rtype bytes are e = canonical_long rtype (spelled rtype bytes) ∙ ap length (data_spelled rtype bytes (spelled rtype bytes) are (spelled_is rtype bytes e))
+pub spelled_long : (rtype : ℕ) (bytes : List ℕ) → AreOctets bytes → is_readable rtype bytes ≡ true → length (canonical_octets rtype (spelled_fields rtype bytes)) ≡ length bytes
+spelled_long rtype bytes are e = canonical_long rtype (spelled_fields rtype bytes) ∙ ap length (data_spelled rtype bytes (spelled_fields rtype bytes) are (spelled_is rtype bytes e))

@@ -1,5 +1,6 @@
 -- Data whose type has no name that pointers may lead through.
-use Rattle.std.specs.Prelude.{◌≡◌, ℕ, Bool, List, Option, Some, None, Result, Ok, Err}
+use Rattle.std.specs.Prelude.{◌≡◌, ℕ, Bool, Option, Some, None, Result, Ok, Err}
+use Rattle.dns_wire.specs.Octets.{Octets}
 use Rattle.dns_record.specs.Data.{data_as}
 use Rattle.dns_record.specs.Formats.{rdata_format}
 use Rattle.dns_record.proofs.UncompressedNames.{is_uncompressed_format}
@@ -11,11 +12,11 @@ unfoldable pub is_plain_type : ℕ → Bool
 is_plain_type rtype = is_uncompressed_format (rdata_format rtype)
 
 -- no such name is read
-abbrev pub no_compressible : {N : Type 0} → List ℕ → Option (N × List ℕ)
+abbrev pub no_compressible : {N : Type 0} → Octets → Option (N × Octets)
 no_compressible bytes = None
 
 -- What is answered where octets are read for such a type: `Ok` exactly where its RDATA format reads all of them, with data of the type
 -- that have these fields.
-abbrev pub ReadsPlain : {N E : Type 0} → Result (RecordData N) E → ℕ → List ℕ → Type 0
+abbrev pub ReadsPlain : {N E : Type 0} → Result (RecordData N) E → ℕ → Octets → Type 0
 ReadsPlain {N} (Ok v) rtype bytes = (data_as {N = N} no_compressible rtype bytes ≡ Some (data_fields v)) × IsDataOf v rtype
 ReadsPlain {N} (Err e) rtype bytes = data_as {N = N} no_compressible rtype bytes ≡ None

@@ -6,7 +6,7 @@ ghost use Rattle.dns_wire.specs.Names.{plain_name, name_labels, wire};
 ghost use Rattle.dns_wire.specs.Reading.{AreOctets};
 ghost use Rattle.dns_record.specs.Data.{data_as};
 ghost use Rattle.dns_record.specs.Fields.{named_by, canonical_octets};
-ghost use Rattle.dns_rdata.specs.Boxed.{is_readable, spelled, IsWhy};
+ghost use Rattle.dns_rdata.specs.Boxed.{is_readable, spelled_fields, IsWhy};
 ghost use Rattle.dns_rdata.specs.Data.{data_fields, type_number, written_fields, IsDataOf, NamesFit};
 
 use crate::box_error::BoxError;
@@ -54,7 +54,7 @@ impl BoxedRecordData {
 
     /// Keeps the octets of these data, names whole. `TooLong` comes exactly above 65,535 octets, before memory is taken.
     /// `Unreadable` comes where the RDATA format of the type doesn't read the octets, as those of NSEC without a type (RFC 4034 section
-    /// 4.1.2), or unknown octets under the number of a type that has others. `Memory` is lack of memory.
+    /// 4.1.2), or unknown octets under the number of a type that has others. `Memory` is out of memory.
     pub fn make<N: BuildBytes>(
         alloc: Global,
         content: &RecordData<'_, N>,
@@ -81,7 +81,7 @@ impl BoxedRecordData {
     }
 
     /// Keeps these octets under this type. `TooLong` comes exactly above 65,535 octets, before memory is taken. `Unreadable`
-    /// comes where the RDATA format of the type doesn't read them. `Memory` is lack of memory.
+    /// comes where the RDATA format of the type doesn't read them. `Memory` is out of memory.
     pub fn parse(alloc: Global, bytes: &[u8], rtype: RType) -> Result<BoxedRecordData, BoxError>
         ensures octets { IfOk result (λ boxed. boxed_octets boxed ≡ bytes.now) }
         ensures typed { IfOk result (λ boxed. boxed_type boxed ≡ rtype.code.value) }
@@ -157,13 +157,13 @@ impl BuildInMessage for BoxedRecordData {
     ghost use Rattle.dns_wire.specs.LayoutLemmas.{part_matches};
     ghost use Rattle.dns_record.specs.InMessage.{fields_write, fields_layout};
     ghost use Rattle.dns_record.proofs.FieldLayoutLemmas.{fields_match};
-    ghost use Rattle.dns_rdata.specs.Boxed.{spelled};
+    ghost use Rattle.dns_rdata.specs.Boxed.{spelled_fields};
 
-    ghost writes = { λ v. fields_write compressed_name_writes (spelled v.rtype.code.value v.octets.items) };
+    ghost writes = { λ v. fields_write compressed_name_writes (spelled_fields v.rtype.code.value v.octets.items) };
 
-    ghost layout = { λ v. fields_layout (λ labels. Some (NamePart labels ∷ [])) (spelled v.rtype.code.value v.octets.items) };
+    ghost layout = { λ v. fields_layout (λ labels. Some (NamePart labels ∷ [])) (spelled_fields v.rtype.code.value v.octets.items) };
 
-    ghost layout_matches = { λ v. fields_match compressed_name_writes (λ labels. Some (NamePart labels ∷ [])) (λ labels. part_matches (NamePart labels)) (spelled v.rtype.code.value v.octets.items) };
+    ghost layout_matches = { λ v. fields_match compressed_name_writes (λ labels. Some (NamePart labels ∷ [])) (λ labels. part_matches (NamePart labels)) (spelled_fields v.rtype.code.value v.octets.items) };
 
     fn build_in_message(
         &self,
@@ -179,7 +179,7 @@ impl BuildInMessage for BoxedRecordData {
 impl CanonicalRecordData for BoxedRecordData {
     ghost use Rattle.dns_rdata.specs.FormatLemmas.{spelled_long};
 
-    ghost canonical = { λ v. canonical_octets v.rtype.code.value (spelled v.rtype.code.value v.octets.items) };
+    ghost canonical = { λ v. canonical_octets v.rtype.code.value (spelled_fields v.rtype.code.value v.octets.items) };
 
     ghost rank = { λ v. v.rtype.code.value };
 

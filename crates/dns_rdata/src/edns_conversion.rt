@@ -4,7 +4,7 @@ ghost use Rattle.std.specs.Prelude.{◌≡◌, [], List};
 ghost use Rattle.dns_wire.specs.Reading.{Gives};
 ghost use Rattle.dns_edns.specs.Flags.{flag_bits};
 ghost use Rattle.dns_rdata.specs.Edns.{edns_seen};
-ghost use Rattle.dns_rdata.specs.EdnsForms.{IsFormOf, option_octets, edns_fields, edns_in};
+ghost use Rattle.dns_rdata.specs.EdnsForms.{IsFormOf, octets_of_options, edns_fields, edns_in};
 
 use crate::edns_record::EdnsRecord;
 use crate::record_data::RecordData;
@@ -47,7 +47,7 @@ impl<'a, N> From<EdnsRecord<Opt<'a>>> for Record<RevNameBuf, RecordData<'a, N>> 
 /// The options that the data have. `ParseError` comes exactly where they are neither OPT data nor unknown data with the
 /// number of OPT that are options of at most 65,535 octets in all.
 fn options_of<'a, N: Drop>(rdata: RecordData<'a, N>) -> Result<Opt<'a>, ParseError>
-    ensures { Gives (λ options. options.slice.now) result (option_octets rdata.entry) }
+    ensures { Gives (λ options. options.slice.now) result (octets_of_options rdata.entry) }
 {
     match rdata {
         RecordData::Opt(options) => Ok(options),

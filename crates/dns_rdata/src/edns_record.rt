@@ -98,7 +98,7 @@ impl<'a, D: ParseBytes<'a>> ReadPlainValue<'a> for EdnsRecord<D> {
     }
 }
 
-/// The octets after the head of an EDNS record. `ParseError` comes exactly where they don't begin with it.
+/// The octets after the root and the type of an EDNS record. `ParseError` comes exactly where they don't begin with these.
 fn split_fixed_header(bytes: &[u8]) -> Result<&[u8], ParseError>
     ensures exact { Gives (λ rest. rest.now) result (after_fixed_header bytes.now) }
     ensures within { IfOk result (λ rest. length rest.now ≤ length bytes.now) }
@@ -106,8 +106,8 @@ fn split_fixed_header(bytes: &[u8]) -> Result<&[u8], ParseError>
     if bytes.len() < FIXED_HEADER.len() {
         return Err(ParseError);
     }
-    let (head, rest) = bytes.split_at(FIXED_HEADER.len());
-    if head == FIXED_HEADER.as_slice() {
+    let (first, rest) = bytes.split_at(FIXED_HEADER.len());
+    if first == FIXED_HEADER.as_slice() {
         Ok(rest)
     } else {
         Err(ParseError)

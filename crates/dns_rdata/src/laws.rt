@@ -1,6 +1,6 @@
 //! The definitions of this crate in other words.
 
-ghost use Rattle.std.specs.Prelude.{◌≡◌, ◌&&◌, ℕ, List, nat_eq};
+ghost use Rattle.std.specs.Prelude.{◌≡◌, ◌&&◌, ℕ, List, nat_eq, ◌↔◌, IsTrue};
 ghost use Rattle.std.specs.Cmp.Lexicographic.{pointwise};
 ghost use Rattle.std.specs.Hash.{slice, u8};
 ghost use Rattle.dns_edns.specs.Flags.{flag_bits};
@@ -11,6 +11,7 @@ ghost use Rattle.dns_rdata.specs.BoxedValue.{boxed_type, boxed_octets};
 ghost use Rattle.dns_rdata.specs.declared.boxed_record_data.BoxedRecordData.{BoxedRecordData};
 ghost use Rattle.dns_rdata.specs.declared.record_data.RecordData.{RecordData};
 
+use crate::box_error::BoxError;
 use crate::boxed_record_data::BoxedRecordData;
 use crate::edns_record::EdnsRecord;
 use crate::record_data::RecordData;
@@ -64,3 +65,8 @@ pub fn boxed_data_are_as_read()
     data_of_any_type_are_equal_by_fields::<Name<'_>>();
     data_of_any_type_are_hashed_by_fields::<Name<'_>>();
 }
+
+/// Errors are equal exactly where they are the same.
+pub fn equal_errors()
+    ensures boxed { (a b : _) → IsTrue (⟦<BoxError as PartialEq>⟧.eq a b) ↔ (a ≡ b) }
+{}

@@ -18,7 +18,7 @@ pub use edns_laws::edns_records_come_back;
 pub use edns_record::EdnsRecord;
 pub use laws::{
     boxed_data_are_as_read, data_of_any_type_are_equal_by_fields,
-    data_of_any_type_are_hashed_by_fields, edns_records_are_equal_by_fields,
+    data_of_any_type_are_hashed_by_fields, edns_records_are_equal_by_fields, equal_errors,
     unknown_data_are_compared_by_octets,
 };
 pub use record_data::RecordData;

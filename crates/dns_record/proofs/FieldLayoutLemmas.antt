@@ -1,4 +1,4 @@
--- Data tell a part for each field: what they write is what the parts write.
+-- Data have a part for each field: what they write is what the parts write.
 use Rattle.std.specs.Prelude.{List, [], ◌∷◌, length, Option, Some, None}
 use Rattle.std.proofs.Common.{refl}
 use Rattle.std.specs.Int.{to_be_bytes}

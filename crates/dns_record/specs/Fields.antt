@@ -1,6 +1,7 @@
 -- The fields of record data, whatever their type (RFC 1035 section 3.3).
 use Rattle.std.specs.Prelude.{ℕ, List, [], ◌∷◌, ◌++◌, length, map, if◌then◌else◌}
 use Rattle.std.specs.Int.{Width, to_be_bytes}
+use Rattle.dns_wire.specs.Octets.{Octets, Labels}
 use Rattle.dns_wire.specs.Names.{wire, lowered}
 use Rattle.dns_record.specs.Types.{is_lowercased}
 
@@ -8,15 +9,15 @@ use Rattle.dns_record.specs.Types.{is_lowercased}
 -- octets, octets after an octet with their number, one octet, or a number of that many bits.
 pub data FieldOf (N : Type 0) : Type 0 where
   Compressible : N → FieldOf N
-  Uncompressed : List (List ℕ) → FieldOf N
-  Raw : List ℕ → FieldOf N
-  Sized : List ℕ → FieldOf N
+  Uncompressed : Labels → FieldOf N
+  Raw : Octets → FieldOf N
+  Sized : Octets → FieldOf N
   Byte : ℕ → FieldOf N
   Number : Width → ℕ → FieldOf N
 
 -- fields whose names are seen as their labels
 abbrev pub Field : Type 0
-Field = FieldOf (List (List ℕ))
+Field = FieldOf Labels
 
 -- the field with what is seen of its name
 abbrev pub named_by : {N S : Type 0} → (N → S) → FieldOf N → FieldOf S
@@ -30,7 +31,7 @@ named_by name (Number w n) = Number w n
 -- ---- octets
 
 -- a field's octets, a name whole
-abbrev pub field_octets : Field → List ℕ
+abbrev pub field_octets : Field → Octets
 field_octets (Compressible labels) = wire labels
 field_octets (Uncompressed labels) = wire labels
 field_octets (Raw octets) = octets
@@ -39,7 +40,7 @@ field_octets (Byte b) = b ∷ []
 field_octets (Number w n) = to_be_bytes w n
 
 -- the octets of fields, one after another
-abbrev pub fields_octets : List Field → List ℕ
+abbrev pub fields_octets : List Field → Octets
 fields_octets [] = []
 fields_octets (field ∷ fields) = field_octets field ++ fields_octets fields
 
@@ -59,5 +60,5 @@ abbrev pub canonical_fields : ℕ → List Field → List Field
 canonical_fields rtype fields = if is_lowercased rtype then map lowercased_field fields else fields
 
 -- the canonical octets of data of a type
-abbrev pub canonical_octets : ℕ → List Field → List ℕ
+abbrev pub canonical_octets : ℕ → List Field → Octets
 canonical_octets rtype fields = fields_octets (canonical_fields rtype fields)

@@ -112,7 +112,7 @@ rdata_formats =
 -- the RDATA format that stands under a number
 abbrev pub format_under : List (ℕ × List Kind) → ℕ → Option (List Kind)
 format_under [] rtype = None
-format_under (first ∷ others) rtype = if rtype == first.0 then Some first.1 else format_under others rtype
+format_under ((number, format) ∷ others) rtype = if rtype == number then Some format else format_under others rtype
 
 -- whether a type has an RDATA format
 abbrev pub has_rdata_format : ℕ → Bool

@@ -1,6 +1,7 @@
 -- What questions, records and the fields of data write in a message: names as their type writes them there, all else whole.
 use Rattle.std.specs.Prelude.{ℕ, List, [], ◌∷◌, ◌++◌, length, Option, Some, None, ⊤}
 use Rattle.std.specs.Int.{w16, w32, to_be_bytes}
+use Rattle.dns_wire.specs.Octets.{Octets, Places}
 use Rattle.dns_wire.specs.Compression.{CompressedWrite}
 use Rattle.dns_wire.specs.InMessage.{then_fits}
 use Rattle.dns_wire.specs.Names.{wire}
@@ -19,22 +20,22 @@ question_writes name qtype class = then_writes name (octets_writes (to_be_bytes 
 -- ---- records
 
 -- the octets between a record's owner and the size of its data
-abbrev pub record_numbers : ℕ → ℕ → ℕ → List ℕ
+abbrev pub record_numbers : ℕ → ℕ → ℕ → Octets
 record_numbers rtype class ttl = to_be_bytes w16 rtype ++ (to_be_bytes w16 class ++ to_be_bytes w32 ttl)
 
 -- an owner, these octets, and data after their size
-abbrev pub record_writes : CompressedWrite → List ℕ → CompressedWrite → CompressedWrite
+abbrev pub record_writes : CompressedWrite → Octets → CompressedWrite → CompressedWrite
 record_writes owner numbers content = then_writes owner (then_writes (octets_writes numbers) (sized_compressed_writes w16 content))
 
 -- what is prefixed in the owner fits, and so do the data after their size
-abbrev pub record_fits : (List ℕ → List ℕ → Type 0) → CompressedWrite → List ℕ → (List ℕ → List ℕ → Type 0) → CompressedWrite → List ℕ → List ℕ → Type 0
+abbrev pub record_fits : (Octets → Places → Type 0) → CompressedWrite → Octets → (Octets → Places → Type 0) → CompressedWrite → Octets → Places → Type 0
 record_fits owner_fits owner numbers content_fits content =
     then_fits owner_fits owner (λ contents places. sized_fits w16 content_fits content (contents ++ numbers) places)
 
 -- ---- fields of data
 
 -- what is said of a name, or else of the field's octets
-abbrev pub of_field : {N X : Type 0} → (N → X) → (List ℕ → X) → FieldOf N → X
+abbrev pub of_field : {N X : Type 0} → (N → X) → (Octets → X) → FieldOf N → X
 of_field name whole (Compressible n) = name n
 of_field name whole (Uncompressed labels) = whole (wire labels)
 of_field name whole (Raw octets) = whole octets
@@ -48,7 +49,7 @@ fields_write name [] = octets_writes []
 fields_write name (field ∷ fields) = then_writes (of_field name octets_writes field) (fields_write name fields)
 
 -- what is prefixed in a field fits
-abbrev pub field_fits : {N : Type 0} → (N → List ℕ → List ℕ → Type 0) → FieldOf N → List ℕ → List ℕ → Type 0
+abbrev pub field_fits : {N : Type 0} → (N → Octets → Places → Type 0) → FieldOf N → Octets → Places → Type 0
 field_fits name (Compressible n) contents places = name n contents places
 field_fits name (Uncompressed labels) contents places = ⊤
 field_fits name (Raw octets) contents places = ⊤
@@ -57,7 +58,7 @@ field_fits name (Byte b) contents places = ⊤
 field_fits name (Number w n) contents places = ⊤
 
 -- and so it does in each, where it is written
-abbrev pub fields_fit : {N : Type 0} → (N → List ℕ → List ℕ → Type 0) → (N → CompressedWrite) → List (FieldOf N) → List ℕ → List ℕ → Type 0
+abbrev pub fields_fit : {N : Type 0} → (N → Octets → Places → Type 0) → (N → CompressedWrite) → List (FieldOf N) → Octets → Places → Type 0
 fields_fit fits name [] contents places = ⊤
 fields_fit fits name (field ∷ fields) contents places =
     then_fits (field_fits fits field) (of_field name octets_writes field) (fields_fit fits name fields) contents places
@@ -72,7 +73,7 @@ one_name (Some (NamePart labels ∷ [])) = Some (NamePart labels ∷ [])
 one_name (Some (NamePart labels ∷ part ∷ layout)) = None
 one_name (Some (OctetsPart octets ∷ layout)) = None
 
--- a part for each field, where each name tells itself as one
+-- a part for each field, where each name is one part
 abbrev pub fields_layout : {N : Type 0} → (N → Option (List LayoutPart)) → List (FieldOf N) → Option (List LayoutPart)
 fields_layout name [] = Some []
 fields_layout name (field ∷ fields) = both_layouts (of_field (λ n. one_name (name n)) (λ octets. Some (OctetsPart octets ∷ [])) field) (fields_layout name fields)

@@ -2,6 +2,7 @@
 -- one table serves names of any type, with pointers and without.
 use Rattle.std.specs.Prelude.{ℕ, List, [], ◌∷◌, Option, Some, None}
 use Rattle.std.specs.Int.{Width}
+use Rattle.dns_wire.specs.Octets.{Octets, Labels}
 use Rattle.dns_wire.specs.Names.{plain_name}
 use Rattle.dns_wire.specs.Reading.{octet, octets, number, plain_at}
 use Rattle.dns_record.specs.Fields.{FieldOf}
@@ -26,7 +27,7 @@ pub data Kind : Type 0 where
 
 -- ---- at the start of octets
 
-abbrev pub field_of : {N : Type 0} → (List ℕ → Option (N × List ℕ)) → Kind → List ℕ → Option (FieldOf N × List ℕ)
+abbrev pub field_of : {N : Type 0} → (Octets → Option (N × Octets)) → Kind → Octets → Option (FieldOf N × Octets)
 field_of name OneByte bytes = first_to Byte (octet bytes)
 field_of name (OneNumber w) bytes = first_to (Number w) (number w bytes)
 field_of name (SoMany n) bytes = first_to Raw (octets n bytes)
@@ -40,16 +41,16 @@ field_of name NonEmptyTypeBitMaps bytes = first_to Raw (some_bitmap bytes)
 field_of name Rest bytes = Some (Raw bytes, [])
 
 -- the fields of these kinds, one after another, and the octets after them
-abbrev pub fields_of : {N : Type 0} → (List ℕ → Option (N × List ℕ)) → List Kind → List ℕ → Option (List (FieldOf N) × List ℕ)
+abbrev pub fields_of : {N : Type 0} → (Octets → Option (N × Octets)) → List Kind → Octets → Option (List (FieldOf N) × Octets)
 fields_of name [] bytes = Some ([], bytes)
 fields_of name (kind ∷ kinds) bytes = do
-  field ← field_of name kind bytes
-  others ← fields_of name kinds field.1
-  Some (field.0 ∷ others.0, others.1)
+  (field, after_field) ← field_of name kind bytes
+  (others, rest) ← fields_of name kinds after_field
+  Some (field ∷ others, rest)
 
 -- ---- at a place in the contents of a message
 
-abbrev pub field_in : {N : Type 0} → (List ℕ → ℕ → Option (N × ℕ)) → Kind → List ℕ → ℕ → Option (FieldOf N × ℕ)
+abbrev pub field_in : {N : Type 0} → (Octets → ℕ → Option (N × ℕ)) → Kind → Octets → ℕ → Option (FieldOf N × ℕ)
 field_in name OneByte contents at = first_to Byte (plain_at octet contents at)
 field_in name (OneNumber w) contents at = first_to (Number w) (plain_at (number w) contents at)
 field_in name (SoMany n) contents at = first_to Raw (plain_at (octets n) contents at)
@@ -63,14 +64,14 @@ field_in name NonEmptyTypeBitMaps contents at = first_to Raw (plain_at some_bitm
 field_in name Rest contents at = first_to Raw (plain_at (λ bytes. Some (bytes, [])) contents at)
 
 -- the fields of these kinds, one after another, and where the last ends
-abbrev pub fields_in : {N : Type 0} → (List ℕ → ℕ → Option (N × ℕ)) → List Kind → List ℕ → ℕ → Option (List (FieldOf N) × ℕ)
+abbrev pub fields_in : {N : Type 0} → (Octets → ℕ → Option (N × ℕ)) → List Kind → Octets → ℕ → Option (List (FieldOf N) × ℕ)
 fields_in name [] contents at = Some ([], at)
 fields_in name (kind ∷ kinds) contents at = do
-  field ← field_in name kind contents at
-  others ← fields_in name kinds contents field.1
-  Some (field.0 ∷ others.0, others.1)
+  (field, after_field) ← field_in name kind contents at
+  (others, end) ← fields_in name kinds contents after_field
+  Some (field ∷ others, end)
 
 -- ---- data in which no name may have pointers
 
-abbrev pub no_name : List ℕ → Option (List (List ℕ) × List ℕ)
+abbrev pub no_name : Octets → Option (Labels × Octets)
 no_name bytes = None

@@ -1,6 +1,7 @@
--- Data that are written whole in a message tell a part for each field.
-use Rattle.std.specs.Prelude.{ℕ, List, [], ◌∷◌, ◌++◌, Some}
+-- Data that are written whole in a message have a layout with a part for each field.
+use Rattle.std.specs.Prelude.{List, [], ◌∷◌, ◌++◌, Some}
 use Rattle.std.proofs.Common.{refl, ap}
+use Rattle.dns_wire.specs.Octets.{Octets}
 use Rattle.dns_wire.specs.Layout.{LayoutPart, octets_writes, list_writes, LayoutMatches}
 use Rattle.dns_wire.specs.Layout.LayoutPart.{OctetsPart}
 use Rattle.dns_record.specs.Fields.{Field, field_octets, fields_octets}
@@ -15,4 +16,4 @@ pub octets_match : (fields : List Field) → LayoutMatches (Some (octets_layout 
 unfolding list_writes
 octets_match [] contents places = refl
 octets_match (field ∷ fields) contents places =
-    ap (λ (r : List ℕ × List ℕ). (field_octets field ++ r.0, r.1)) (octets_match fields (contents ++ field_octets field) places)
+    ap (λ (r : Octets × Octets). (field_octets field ++ r.0, r.1)) (octets_match fields (contents ++ field_octets field) places)

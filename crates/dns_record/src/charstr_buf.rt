@@ -7,7 +7,7 @@ ghost use Rattle.std.specs.Cmp.{partial_equiv_from_equiv};
 ghost use Rattle.std.specs.Cmp.Lexicographic.{on_texts_equal};
 ghost use Rattle.std.specs.Str.{str_to_ascii_lowercase};
 ghost use Rattle.dns_wire.specs.Layout.{octets_writes};
-ghost use Rattle.dns_record.specs.CharStrs.{IsShort, charstr_wire, octets_of, same_charstr};
+ghost use Rattle.dns_record.specs.CharStrs.{FitsCharacterString, charstr_wire, octets_of, same_charstr};
 ghost use Rattle.dns_record.specs.CharStrTexts.{charstr_of};
 ghost use Rattle.dns_record.specs.CharacterStrings.{character_string};
 
@@ -54,7 +54,7 @@ impl CharStrBuf {
 
     /// The string of these octets.
     fn with_octets(octets: &[u8]) -> CharStrBuf
-        requires { IsShort octets.now }
+        requires { FitsCharacterString octets.now }
         ensures { result ≡ octets.now }
     {
         let mut wire = [0; 256];

@@ -3,7 +3,7 @@
 ghost use Rattle.std.specs.Prelude.{◌≡◌, ◌↔◌, ◌++◌, ℕ, List, Some, IsTrue};
 ghost use Rattle.std.specs.Str.{str_to_ascii_lowercase};
 ghost use Rattle.dns_wire.specs.Reading.{AreOctets};
-ghost use Rattle.dns_record.specs.CharStrs.{IsShort, charstr_wire, same_charstr};
+ghost use Rattle.dns_record.specs.CharStrs.{FitsCharacterString, charstr_wire, same_charstr};
 ghost use Rattle.dns_record.specs.CharacterStrings.{character_string};
 
 /// A string is read exactly where it stands on the wire: the number of its octets, which is at most 255, and
@@ -14,7 +14,7 @@ pub fn character_strings()
         character_string bytes ≡ Some (octets, rest) → bytes ≡ charstr_wire octets ++ rest }
     ensures read { (octets rest : List ℕ) → character_string (charstr_wire octets ++ rest) ≡ Some (octets, rest) }
     ensures short { (bytes octets rest : List ℕ) →
-        AreOctets bytes → character_string bytes ≡ Some (octets, rest) → IsShort octets }
+        AreOctets bytes → character_string bytes ≡ Some (octets, rest) → FitsCharacterString octets }
     ensures same { (a b : List ℕ) →
         IsTrue (same_charstr a b) ↔ (str_to_ascii_lowercase a ≡ str_to_ascii_lowercase b) }
 {}

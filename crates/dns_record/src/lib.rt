@@ -29,7 +29,7 @@ pub use code_laws::{class_numbers, question_type_numbers, record_type_numbers};
 pub use laws::{items_in_words, serial_numbers_compare, whole_data_are_short};
 pub use order_laws::{
     codes_are_equal_by_number, codes_are_hashed_by_number, codes_are_ordered_by_number,
-    items_are_equal_by_fields, items_are_hashed_by_fields,
+    equal_errors, items_are_equal_by_fields, items_are_hashed_by_fields,
 };
 pub use qclass::QClass;
 pub use qtype::QType;

@@ -1,9 +1,10 @@
 //! Codes, times, questions and records are compared and fed to a hasher field by field.
 
-ghost use Rattle.std.specs.Prelude.{◌≡◌, [], ◌∷◌, ◌++◌, ◌&&◌, nat_eq};
+ghost use Rattle.std.specs.Prelude.{◌≡◌, [], ◌∷◌, ◌++◌, ◌&&◌, nat_eq, ◌↔◌, IsTrue};
 ghost use Rattle.std.specs.Hash.{le_bytes};
 ghost use Rattle.std.specs.Ordering.{nat_cmp};
 
+use crate::charstr_error::CharStrParseError;
 use crate::qclass::QClass;
 use crate::qtype::QType;
 use crate::question::Question;
@@ -58,4 +59,9 @@ pub fn items_are_hashed_by_fields<N: Hash, D: Hash>()
         ≡ N.hash_input v.qname ++ (le_bytes 2 v.qtype.code.value ∷ le_bytes 2 v.qclass.code.value ∷ []) }
     ensures found { (v : _) → ⟦<Record<N, D> as Hash>⟧.hash_input v
         ≡ N.hash_input v.rname ++ (le_bytes 2 v.rtype.code.value ∷ le_bytes 2 v.rclass.code.value ∷ le_bytes 4 v.ttl.value.value ∷ D.hash_input v.rdata) }
+{}
+
+/// Errors are equal exactly where they are the same.
+pub fn equal_errors()
+    ensures character_string { (a b : _) → IsTrue (⟦<CharStrParseError as PartialEq>⟧.eq a b) ↔ (a ≡ b) }
 {}

@@ -5,7 +5,7 @@ ghost use Rattle.std.specs.Prelude.{◌≡◌, ◌≤◌, ◌<◌, ◌^◌, [], 
 ghost use Rattle.std.specs.Fn.{FnOnceTakesAt, FnOnceReturnsAt};
 ghost use Rattle.dns_wire.specs.Reading.{Gives};
 ghost use Rattle.dns_record.specs.InMessage.{record_numbers, record_writes, record_fits};
-ghost use Rattle.dns_record.specs.Records.{RecordOf, record_at, record_in, record_octets, SizedData, SizedDataIn};
+ghost use Rattle.dns_record.specs.Records.{RecordOf, record_at, record_in, octets_of_parts, SizedData, SizedDataIn};
 ghost use Rattle.dns_record.specs.Seen.{record_seen};
 
 use crate::rclass::RClass;
@@ -185,7 +185,7 @@ impl<'a, N: SplitMessageBytes<'a>, D: ParseRecordData<'a>> SplitMessageBytes<'a>
 
 /// The size and the data stand as data after their size do: the data are at most 65,535 octets.
 impl<N: BuildBytes, D: BuildBytes> BuildBytes for Record<N, D> {
-    ghost octets = { λ v. record_octets (N.octets v.rname) v.rtype.code.value v.rclass.code.value v.ttl.value.value (D.octets v.rdata) };
+    ghost octets = { λ v. octets_of_parts (N.octets v.rname) v.rtype.code.value v.rclass.code.value v.ttl.value.value (D.octets v.rdata) };
 
     ghost fits = { λ v. N.fits v.rname × (length (D.octets v.rdata) < 2 ^ 16) × D.fits v.rdata };
 

@@ -1,6 +1,7 @@
 -- The fields of the data of each type.
-use Rattle.std.specs.Prelude.{ℕ, List, [], ◌∷◌}
+use Rattle.std.specs.Prelude.{List, [], ◌∷◌}
 use Rattle.std.specs.Int.{w16, w32}
+use Rattle.dns_wire.specs.Octets.{Octets}
 use Rattle.dns_wire.specs.Names.{name_labels}
 use Rattle.dns_record.specs.Fields.{Field}
 use Rattle.dns_record.specs.Fields.FieldOf.{Uncompressed, Raw, Byte, Number}
@@ -45,5 +46,5 @@ rrsig_fields v =
     ∷ Uncompressed (name_labels v.signer.slice.now) ∷ Raw v.signature.now ∷ []
 
 -- the digest by its octets
-abbrev pub zonemd_fields : {D : Type 0} → (D → List ℕ) → ZoneMD D → List Field
+abbrev pub zonemd_fields : {D : Type 0} → (D → Octets) → ZoneMD D → List Field
 zonemd_fields octets v = Number w32 v.serial.0.value ∷ Byte v.scheme.code ∷ Byte v.hash_alg.code ∷ Raw (octets v.digest) ∷ []

@@ -1,13 +1,13 @@
 -- What several writes do together.
-use Rattle.std.proofs.Common.{◌≡◌, true, ℕ, ◌+◌, ◌-◌, length, length-take, length-drop, length-append, arith, Result, Err, suc, [], ◌∷◌, ◌<◌, ◌≤◌, ap, ◌∙◌, get_or, flat_map, take-append-drop, append_assoc, drop-cons, take_all, List, ◌++◌, Bool, take, drop, Some, None, IfSome, Ok, sym, subst, refl}
-use Rattle.std.specs.Prelude.{IsSome, IsOk, IsErr, MatchResult}
+use Rattle.std.proofs.Common.{◌≡◌, ℕ, ◌+◌, ◌-◌, length, length-take, length-drop, length-append, arith, Result, Err, suc, [], ◌∷◌, ◌<◌, ◌≤◌, ap, ◌∙◌, get_or, flat_map, take-append-drop, append_assoc, drop-cons, take_all, List, ◌++◌, Bool, take, drop, Some, None, IfSome, Ok, sym, subst, refl}
+use Rattle.std.specs.Prelude.{IsSome}
 use Rattle.std.specs.declared.option.Option.{Option}
 use Rattle.std.proofs.KnownBytes.{Appends-trans, Consumes-trans}
 use Rattle.std.proofs.Math.Seq.{take-add, take-append-add}
 use Rattle.std.proofs.lemmas.List.{take-append-le}
 use Rattle.std.proofs.lemmas.List.Concat.{flat_map-cons}
 use Rattle.std.proofs.lemmas.Grind.{flat_map-append}
-use Rattle.dns_wire.specs.Outside.{ReadsAll, WritesPrefix, Puts}
+use Rattle.dns_wire.specs.Outside.{WritesPrefix, Puts}
 use Rattle.dns_text.specs.Notes.{spaced, note_line}
 use Rattle.dns_text.specs.Taken.{TakesAtMost}
 use Rattle.std.specs.Io.KnownBytes.{Appends, Consumes}

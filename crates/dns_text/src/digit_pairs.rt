@@ -18,7 +18,7 @@ const VALUES: [u8; 256] = [
     16, 16, 16, 16, 16, 16, 16, 16, 16, 16, 16, 16, 16, 16,
 ];
 
-/// Puts the octets that the digits spell into the buffer, and tells whether they spell any. Where they spell none,
+/// Puts the octets that the digits spell into the buffer, and says whether they spell any. Where they spell none,
 /// what the buffer holds is open.
 pub(crate) fn put_octets(digits: &[u8], octets: &mut [u8]) -> bool
     requires { length digits.now ≡ 2 * length octets.old }

@@ -59,7 +59,7 @@ within_finds contents (at_pointer high room is before later end_is) zero enough 
 within_finds contents {start} {at} (at_pointer high room is before later end_is) (suc steps) enough =
     rw (label_type_pointer contents start at _ high room is before, within_finds contents later steps (omega arith), end_is) refl
 
--- what a head says of the octets
+-- what a label type says of the octets
 abbrev pub LabelTypeIs : List ℕ → ℕ → ℕ → LabelType → Type 0
 LabelTypeIs contents start at Root = (at < length contents) × (slice_index contents at ≡ 0)
 LabelTypeIs contents start at (Label size) = (slice_index contents at ≡ size) × (0 < size) × (size < 64) × (at + 1 + size ≤ length contents)
@@ -104,7 +104,7 @@ joined_is label end (Some (others, later)) labels at e =
     let same = some_pair_parts (label ++ others) labels (unwrap_or end later) at e in
     (others, later, refl, sym same.0, sym same.1)
 
--- what one head says, where the relation has what is found after it
+-- what one label type says, where the relation has what is found after it
 by_label_type : (steps : ℕ) (contents : List ℕ) (start at : ℕ) (labels : List (List ℕ)) (end : ℕ) → ((s p : ℕ) (l : List (List ℕ)) (q : ℕ) → segment_within steps contents s p ≡ Some (l, q) → Segment contents s p l q) → (label_type : Option LabelType) → label_type_at contents start at ≡ label_type → after_label_type (segment_within steps contents) contents start at label_type ≡ Some (labels, end) → Segment contents start at labels end
 by_label_type steps contents start at labels end again None is e = absurd cc
 by_label_type steps contents start at labels end again (Some Root) is e =

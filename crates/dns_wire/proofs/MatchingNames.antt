@@ -1,4 +1,4 @@
--- Names and places gone over head by head: the first label of a name, whether it is the name at a place, and how many labels
+-- Names and places gone over label by label: the first label of a name, whether it is the name at a place, and how many labels
 -- are read there.
 use Rattle.std.proofs.Common.{◌≡◌, ℕ, zero, suc, pred, ◌+◌, ◌-◌, ◌<◌, ◌≤◌, Bool, true, false, List, [], ◌∷◌, ◌++◌, length, get_or, take, drop, Option, Some, None, refl, sym, ap, ◌∙◌, arith, add-zero}
 use Rattle.std.specs.Prelude.{map, IsTrue, ◌↔◌, ◌&&◌, not, MatchOption, nat_le, if◌then◌else◌}
@@ -33,7 +33,7 @@ first_of_name name label rest is some label_is rest_is =
     label_type ∙ ap (λ (l : List ℕ). get_or name 0 0 ∷ l) body ∙ ap (λ (n : ℕ). n ∷ (take (get_or name 0 0) (drop 1 name) ++ drop (get_or name 0 0) (drop 1 name))) (sym long) in
     rw (label_is, rest_is) (record { labels = first.labels; whole = first.whole; parts = parts })
 
--- ---- head by head
+-- ---- label by label
 
 -- a step
 pub unrolled : (steps : ℕ) (contents : List ℕ) (segment at : ℕ) → 0 < steps → segment_within steps contents segment at ≡ after_label_type (segment_within (pred steps) contents) contents segment at (label_type_at contents segment at)

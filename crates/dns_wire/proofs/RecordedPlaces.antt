@@ -1,13 +1,12 @@
 -- The places that are recorded after a name is written, in words.
-use Rattle.std.proofs.Common.{◌≡◌, ℕ, zero, suc, ◌+◌, ◌-◌, ◌<◌, ◌≤◌, ◌⊎◌, inl, inr, Bool, true, false, cond, List, [], ◌∷◌, ◌++◌, length, take, drop, refl, sym, ap, subst, ◌∙◌, append_assoc, arith}
+use Rattle.std.proofs.Common.{◌≡◌, ℕ, zero, suc, ◌+◌, ◌-◌, ◌<◌, ◌≤◌, ◌⊎◌, inl, inr, Bool, true, false, List, [], ◌∷◌, ◌++◌, length, take, drop, refl, sym, ap, subst, ◌∙◌, append_assoc, arith}
 use Rattle.std.specs.Prelude.{slice_index, filter, Contains}
 use Rattle.std.specs.List.{AllByRecursion}
-use Rattle.std.proofs.lemmas.Bool.{cases_Bool}
 use Rattle.std.proofs.lemmas.Bool.Decides.{nat_tests}
 use Rattle.std.proofs.lemmas.List.{length-append, take-append-drop, take-take, take_all, take_at}
 use Rattle.std.proofs.lemmas.List.Elements.{Contains-append_left, Contains-append_right, Contains-append_cases}
 use Rattle.std.proofs.Math.Seq.{get_or-append_seam}
-use Rattle.dns_wire.specs.Compression.{BeginsAt, EndsLabels, is_label_size, is_within_reach, label_places, with_more, recorded}
+use Rattle.dns_wire.specs.Compression.{BeginsAt, EndsLabels, is_label_size, is_within_reach, label_places, recorded}
 use Rattle.dns_wire.specs.Names.{IsLabel, labels_wire}
 use Rattle.dns_wire.specs.declared.sizes.TheConstants.{LAST_PLACE, MAX_PLACES}
 use Rattle.dns_wire.proofs.Noting.{label_step, filter_step}

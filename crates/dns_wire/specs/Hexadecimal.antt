@@ -1,6 +1,7 @@
 -- Octets as hexadecimal text (RFC 4648 section 8).
 use Rattle.std.specs.Prelude.{◌≡◌, ◌⊎◌, ◌<◌, ℕ, ◌+◌, ◌-◌, ◌*◌, ◌/◌, ◌%◌, ◌==◌, ◌||◌, ◌&&◌, nat_le, Bool, if◌then◌else◌, List, [], ◌∷◌, ◌++◌, Option, Some, None, codes, slice_index, flat_map}
 use Rattle.std.specs.List.{AllByRecursion}
+use Rattle.dns_wire.specs.Octets.{Octets}
 
 -- ---- reading
 
@@ -12,21 +13,21 @@ is_blank b = b == 32 || b == 9 || b == 13 || b == 10
 abbrev pub IsBlank : ℕ → Type 0
 IsBlank b = (b ≡ 32) ⊎ ((b ≡ 9) ⊎ ((b ≡ 13) ⊎ (b ≡ 10)))
 
--- A text without the blanks at its end: what is left is its prefix, all after that is blanks, and what is left is empty
+-- A text without the blanks at its end: what is left is its start, all after that is blanks, and what is left is empty
 -- or ends in an octet that is none.
-pub record Trimmed (text left : List ℕ) : Type 0 where
-  pub blanks : List ℕ
+pub record Trimmed (text left : Octets) : Type 0 where
+  pub blanks : Octets
   pub text_is : text ≡ left ++ blanks
   pub blank : AllByRecursion IsBlank blanks
-  pub solid : (before : List ℕ) (last : ℕ) → left ≡ before ++ last ∷ [] → ¬ IsBlank last
+  pub solid : (before : Octets) (last : ℕ) → left ≡ before ++ last ∷ [] → ¬ IsBlank last
 
 -- an octet and the text after it, which has no blank at its end
-abbrev pub trim_cons : ℕ → List ℕ → List ℕ
+abbrev pub trim_cons : ℕ → Octets → Octets
 trim_cons b [] = if is_blank b then [] else b ∷ []
 trim_cons b (c ∷ rest) = b ∷ c ∷ rest
 
 -- a text without the blanks at its end; `trimmed_text` says it in other words
-unfoldable pub trim : List ℕ → List ℕ
+unfoldable pub trim : Octets → Octets
 trim [] = []
 trim (b ∷ rest) = trim_cons b (trim rest)
 
@@ -39,12 +40,12 @@ digit_value c =
     else None
 
 -- the octet of two digits, before the octets after it
-abbrev pub pair_before : Option ℕ → Option ℕ → Option (List ℕ) → Option (List ℕ)
+abbrev pub pair_before : Option ℕ → Option ℕ → Option Octets → Option Octets
 pair_before (Some high) (Some low) (Some octets) = Some ((high * 16 + low) ∷ octets)
 pair_before high low octets = None
 
 -- the octets that pairs of digits spell; none where the text is no pairs of digits
-unfoldable pub spelled : List ℕ → Option (List ℕ)
+unfoldable pub spelled : Octets → Option Octets
 spelled [] = Some []
 spelled (c ∷ []) = None
 spelled (c ∷ d ∷ rest) = pair_before (digit_value c) (digit_value d) (spelled rest)
@@ -54,28 +55,28 @@ abbrev pub IsDigit : ℕ → ℕ → Type 0
 IsDigit c value = (c ≡ slice_index (codes "0123456789abcdef") value) ⊎ (c ≡ slice_index (codes "0123456789ABCDEF") value)
 
 -- the text is pairs of digits, and they spell these octets, the high digit of each first
-pub data ArePairs : List ℕ → List ℕ → Type 0 where
+pub data ArePairs : Octets → Octets → Type 0 where
   ended : ArePairs [] []
-  pair : (c d high low : ℕ) (text octets : List ℕ) → high < 16 → low < 16 → IsDigit c high → IsDigit d low → ArePairs text octets → ArePairs (c ∷ d ∷ text) ((high * 16 + low) ∷ octets)
+  pair : (c d high low : ℕ) (text octets : Octets) → high < 16 → low < 16 → IsDigit c high → IsDigit d low → ArePairs text octets → ArePairs (c ∷ d ∷ text) ((high * 16 + low) ∷ octets)
 
 -- except for blanks at its end, the text is pairs of digits, and they spell these octets
-abbrev pub Spells : List ℕ → List ℕ → Type 0
+abbrev pub Spells : Octets → Octets → Type 0
 Spells text octets = spelled (trim text) ≡ Some octets
 
 -- the text spells no octets
-abbrev pub SpellsNothing : List ℕ → Type 0
+abbrev pub SpellsNothing : Octets → Type 0
 SpellsNothing text = spelled (trim text) ≡ None
 
 -- ---- writing
 
 -- the digits of an octet, in lowercase
-abbrev pub shown : ℕ → List ℕ
+abbrev pub shown : ℕ → Octets
 shown octet = slice_index (codes "0123456789abcdef") (octet / 16) ∷ slice_index (codes "0123456789abcdef") (octet % 16) ∷ []
 
 -- the digits of some octets, and LF
-abbrev pub line : List ℕ → List ℕ
+abbrev pub line : Octets → Octets
 line octets = flat_map shown octets ++ 10 ∷ []
 
 -- a line for each list of octets
-abbrev pub lines : List (List ℕ) → List ℕ
+abbrev pub lines : List Octets → Octets
 lines lists = flat_map line lists

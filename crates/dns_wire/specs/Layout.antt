@@ -1,13 +1,14 @@
 -- What is written in a message, one thing after another: names, which are compressed, and octets as they are.
-use Rattle.std.specs.Prelude.{◌≡◌, ℕ, List, [], ◌∷◌, ◌++◌, Option, Some, None, ⊤}
+use Rattle.std.specs.Prelude.{◌≡◌, List, [], ◌∷◌, ◌++◌, Option, Some, None, ⊤}
+use Rattle.dns_wire.specs.Octets.{Octets, Labels, Places}
 use Rattle.dns_wire.specs.Compression.{CompressedWrite, compressed_name_writes}
 
 pub data LayoutPart : Type 0 where
-  NamePart : List (List ℕ) → LayoutPart
-  OctetsPart : List ℕ → LayoutPart
+  NamePart : Labels → LayoutPart
+  OctetsPart : Octets → LayoutPart
 
 -- octets as they are, of which no place is noted
-abbrev pub octets_writes : List ℕ → CompressedWrite
+abbrev pub octets_writes : Octets → CompressedWrite
 octets_writes octets contents places = (octets, places)
 
 -- what a part writes
@@ -17,10 +18,9 @@ part_writes (OctetsPart octets) = octets_writes octets
 
 -- one after the other: the second one sees the octets of the first, and the places after it
 abbrev pub then_writes : CompressedWrite → CompressedWrite → CompressedWrite
-then_writes first second contents places = (
-  (first contents places).0 ++ (second (contents ++ (first contents places).0) (first contents places).1).0,
-  (second (contents ++ (first contents places).0) (first contents places).1).1,
-)
+then_writes first second contents places =
+    let (octets, known) = first contents places in
+    let (others, after) = second (contents ++ octets) known in (octets ++ others, after)
 
 -- what the values of a list write, one after another: each sees the octets and the places of those before it
 unfoldable pub list_writes : {A : Type 0} → (A → CompressedWrite) → List A → CompressedWrite
@@ -31,12 +31,12 @@ list_writes writes (value ∷ values) = then_writes (writes value) (list_writes 
 abbrev pub laid : List LayoutPart → CompressedWrite
 laid layout = list_writes part_writes layout
 
--- what is written is what the parts write, where they are known
+-- where the layout is known, what is written is what its parts write
 abbrev pub LayoutMatches : Option (List LayoutPart) → CompressedWrite → Type 0
 LayoutMatches None writes = ⊤
-LayoutMatches (Some layout) writes = (contents places : List ℕ) → writes contents places ≡ laid layout contents places
+LayoutMatches (Some layout) writes = (contents : Octets) (places : Places) → writes contents places ≡ laid layout contents places
 
--- the parts of one value and then of another, where both are known
+-- the layout of one value and then of another, where both are known
 abbrev pub both_layouts : Option (List LayoutPart) → Option (List LayoutPart) → Option (List LayoutPart)
 both_layouts None others = None
 both_layouts (Some layout) None = None

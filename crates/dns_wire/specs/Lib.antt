@@ -8,6 +8,7 @@ pub mod InMessage
 pub mod ReadingLemmas
 pub mod Lists
 pub mod Names
+pub mod Octets
 pub mod Outside
 pub mod Layout
 pub mod Pointers

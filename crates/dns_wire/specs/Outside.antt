@@ -1,6 +1,7 @@
 -- The outside: octets left to read, octets written, and faults.
-use Rattle.std.specs.Prelude.{◌≡◌, ℕ, ◌+◌, ◌-◌, ◌^◌, ◌≤◌, List, [], length, take, drop, Bool, false, min, nat_lt, if◌then◌else◌, OnOk, OnErr, IfSome, MatchResult, Option, Some, None, Result}
+use Rattle.std.specs.Prelude.{◌≡◌, ℕ, ◌+◌, ◌-◌, ◌^◌, ◌≤◌, [], length, take, drop, Bool, false, min, nat_lt, if◌then◌else◌, OnOk, OnErr, IfSome, MatchResult, Option, Some, None, Result}
 use Rattle.std.specs.Io.KnownBytes.{Appends}
+use Rattle.dns_wire.specs.Octets.{Octets}
 
 -- ---- faults
 
@@ -34,19 +35,19 @@ WriteFlag (Some old) new result = MatchResult result (λ n. new ≡ Some (if nat
 -- ---- where octets are read to
 
 -- only the octets that were read are put into the buffer, and nothing is where the call fails
-abbrev pub UnchangedAfter : {E : Type 0} → List ℕ → List ℕ → Result ℕ E → Type 0
+abbrev pub UnchangedAfter : {E : Type 0} → Octets → Octets → Result ℕ E → Type 0
 UnchangedAfter old new result = MatchResult result (λ n. drop n new ≡ drop n old) (λ _. new ≡ old)
 
 -- ---- whole texts
 
 -- all that was left has been read, and nothing is left, where octets are known
-abbrev pub ReadsAll : Option (List ℕ) → Option (List ℕ) → List ℕ → Type 0
+abbrev pub ReadsAll : Option Octets → Option Octets → Octets → Type 0
 ReadsAll old new text = IfSome old (λ all. (text ≡ all) × (new ≡ Some []))
 
 -- some prefix of the text has been written
-abbrev pub WritesPrefix : Option (List ℕ) → Option (List ℕ) → List ℕ → Type 0
+abbrev pub WritesPrefix : Option Octets → Option Octets → Octets → Type 0
 WritesPrefix old new text = (n : ℕ) × (n ≤ length text) × Appends old new (take n text)
 
 -- the text has been written at `Ok`, and some prefix of it at `Err`
-abbrev pub Puts : {E : Type 0} → Option (List ℕ) → Option (List ℕ) → List ℕ → Result (Unit {0}) E → Type 0
+abbrev pub Puts : {E : Type 0} → Option Octets → Option Octets → Octets → Result (Unit {0}) E → Type 0
 Puts old new text result = MatchResult result (λ _. Appends old new text) (λ _. WritesPrefix old new text)

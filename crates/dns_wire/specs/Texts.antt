@@ -1,7 +1,8 @@
 -- Octets as text.
-use Rattle.std.specs.Prelude.{ℕ, List, [], Option, Some, None, if◌then◌else◌}
+use Rattle.std.specs.Prelude.{[], Option, Some, None, if◌then◌else◌}
 use Rattle.std.specs.Str.{is_utf8}
+use Rattle.dns_wire.specs.Octets.{Octets}
 
 -- all the octets, where they are UTF-8
-abbrev pub text : List ℕ → Option (List ℕ × List ℕ)
+abbrev pub text : Octets → Option (Octets × Octets)
 text bytes = if is_utf8 bytes then Some (bytes, []) else None

@@ -21,7 +21,7 @@ pub trait BuildInMessage {
     /// places are known.
     ghost fits_in: { Self → List ℕ → List ℕ → Type 0 } = { λ _ _ _. ⊤ };
 
-    /// The value's parts, where it tells them: names that are compressed, and octets as they are.
+    /// The value's layout, where it is known: names that are compressed, and octets as they are.
     ghost layout: { Self → Option (List LayoutPart) } = { λ _. None };
 
     /// Writes the value at a place of the contents, which are the octets after the header, and gives the
@@ -71,7 +71,7 @@ pub trait BuildInMessage {
         Ok(end)
     }
 
-    /// Where parts are known, what is written is what they write one after another.
+    /// Where the layout is known, what is written is what its parts write one after another.
     ghost layout_matches: { (v : Self) → LayoutMatches (layout v) (writes v) };
 }
 

@@ -56,7 +56,7 @@ pub fn pointed_names()
 {}
 
 /// No chain of pointers is endless, as each leads to a segment that begins before its own. A reading goes
-/// over a head for each label, one for the root, and one for each pointer, of which there are no more than
+/// over a label type for each label, one for the root, and one for each pointer, of which there are no more than
 /// places before the segment: 128 label types of a name, and its place, are the most.
 pub fn pointers_lead_back()
     ensures segment { (contents : List ℕ) (start at : ℕ) (labels : List (List ℕ)) (end : ℕ)
@@ -102,7 +102,7 @@ pub fn lists_of_octets()
 {}
 
 /// What a list writes in a message: one value alone what it writes by itself, and a list that is cut in two
-/// anywhere what its prefix writes, and then its back. It fits exactly where each of its values fits after
+/// anywhere what its start writes, and then its rest. It fits exactly where each of its values fits after
 /// those before it.
 pub fn lists_in_messages<T: BuildInMessage>()
     ensures one { (value : T) (contents places : List ℕ) →

@@ -7,6 +7,7 @@ mod as_bytes;
 mod build;
 mod builders;
 mod compression;
+mod equality_laws;
 mod error;
 mod in_message;
 mod io;
@@ -28,6 +29,7 @@ pub use compression::{
     NameCompressor, compressed_names, compressed_names_are_read, longest_suffixes, put_name,
     recorded_places,
 };
+pub use equality_laws::equal_errors;
 pub use error::{ParseError, TruncationError};
 pub use in_message::{BuildInMessage, build_whole};
 pub use io::adapters::{ReadSource, WriteSink};

@@ -28,7 +28,7 @@ pub fn pointer_offset(first: u8, second: u8) -> usize
 }
 
 /// Reads what stands at a place of the segment that begins at `start` (RFC 1035 section 4.1.4).
-/// `ParseError` comes exactly where it is no head: after the end, of an octet from 64 to 191, where
+/// `ParseError` comes exactly where it is no label type: after the end, of an octet from 64 to 191, where
 /// too few octets follow, and of a pointer that leads into the header or not before `start`.
 #[tactic(auto, unfolding(crate::specs::Pointers::label_type_at))]
 pub fn read_label_type(contents: &[u8], start: usize, at: usize) -> Result<LabelType, ParseError>
@@ -61,12 +61,12 @@ pub fn read_label_type(contents: &[u8], start: usize, at: usize) -> Result<Label
     Ok(LabelType::Pointer(offset - HEADER_SIZE))
 }
 
-/// Where a reading of a name is: from head to head, and through pointers.
+/// Where a reading of a name is: from label to label, and through pointers.
 #[derive(Clone, Copy, Debug)]
 pub struct NameCursor {
     /// Where the segment of labels begins: the name's own, or the one that the last pointer led to.
     pub start: usize,
-    /// The place of the next head.
+    /// The place of the next label type.
     pub at: usize,
     /// Where what stands at the name's own place ends, once that is known: after the first pointer, or
     /// after the root.
@@ -74,7 +74,7 @@ pub struct NameCursor {
 }
 
 impl NameCursor {
-    /// At the first head of the name at this place.
+    /// At the first label type of the name at this place.
     pub fn new(place: usize) -> Self
         ensures { result ≡ record { start = place; at = place; end = None } }
     {
@@ -85,7 +85,7 @@ impl NameCursor {
         }
     }
 
-    /// Reads the head, and goes on after its label, or to where its pointer leads. `ParseError` comes as
+    /// Reads the label type, and goes on after its label, or to where its pointer leads. `ParseError` comes as
     /// from `read_label_type`, and then the cursor stays.
     pub fn next_label_type(&mut self, contents: &[u8]) -> Result<LabelType, ParseError>
         ensures exact { Gives (λ label_type. label_type) result (label_type_at contents.now self.old.start self.old.at) }

@@ -3,7 +3,7 @@
 ghost use Rattle.std.specs.Prelude.{◌≡◌, ◌≤◌, ◌-◌, take, drop};
 ghost use Rattle.std.specs.Borrow.{sem};
 
-/// A row of `N` octets. They are in a struct of their own so that a contract can say what a loan of a part of
+/// An array of `N` octets. They are in a struct so that a contract can say what a borrow of a part of
 /// them leaves.
 #[derive(Clone, Copy, Debug)]
 pub struct Storage<const N: usize> {

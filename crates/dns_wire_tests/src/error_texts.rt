@@ -31,7 +31,7 @@ fn errors_of_reading_a_whole_text_are_shown(rt: HostRuntime) {
     }
 }
 
-/// The errors of reading a prefix, and what they print.
+/// The errors of reading the start of a text, and what they print.
 fn split_errors() -> [(LabelSplitError, &'static str); 4] {
     [
         (LabelSplitError::Overlong, "the label was too large"),

@@ -34,7 +34,7 @@ fn the_first_fault_decides(rt: HostRuntime) {
     }
 }
 
-/// The errors of reading the whole text and of reading a label at its prefix.
+/// The errors of reading the whole text and of reading a label at its start.
 fn faults(text: &[u8]) -> (Option<LabelParseError>, Option<LabelSplitError>) {
     let split = match LabelBuf::split_str(text) {
         Ok(_) => None,

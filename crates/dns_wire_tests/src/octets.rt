@@ -66,7 +66,7 @@ fn are_put() -> bool {
     is_put && put(b"ef", &mut buffer, 5).is_err()
 }
 
-/// What is left of the buffer after an octet and two octets at its prefix.
+/// What is left of the buffer after an octet and two octets at its start.
 fn left_after_three(buffer: &mut [u8]) -> Option<&mut [u8]> {
     let octets: &[u8] = b"cd";
     match b'x'.build_bytes(buffer) {

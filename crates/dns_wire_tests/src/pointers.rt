@@ -1,5 +1,5 @@
 //! Labels, roots and pointers at an offset. Offsets of contents count from the end of the header, and those
-//! in pointers from its prefix.
+//! in pointers from its start.
 
 use crate::holds::all_hold;
 use dns_wire::{LabelType, read_label_type};

@@ -1,4 +1,4 @@
-//! Sources and sinks in memory, which fail at the calls that they are known.
+//! Sources and sinks in memory, which fail at the calls that they are given.
 
 ghost use Rattle.std.specs.Prelude.{◌≡◌, ℕ, ◌+◌, ◌-◌, ◌<◌, ◌≤◌, ◌↔◌, ◌⊎◌, [], ◌++◌, drop, MatchResult, min, length, take, Some, None, false, true, Contains, IsErr, IsOk, OnOk, OnErr, IfOk};
 ghost use Rattle.std.specs.Io.{ReadsAtMost, WritesAtMost};
@@ -9,7 +9,7 @@ ghost use Rattle.dns_wire.specs.Outside.{HasCause, BecomesFlag, UnchangedAfter, 
 use crate::io::traits::{Failed, Sink, Source, count_fault};
 use std::marker::Model;
 
-/// Gives a text in parts, and fails at the calls whose numbers it was given.
+/// Gives a text in pieces, and fails at the calls whose numbers it was given.
 #[derive(Drop)]
 pub struct TextSource<'a> {
     rest: &'a [u8],
@@ -248,7 +248,7 @@ impl<'b> Sink for TextSink<'b> {
     }
 }
 
-/// Takes every part whole, tells nothing and never fails.
+/// Takes every piece whole, reports nothing and never fails.
 #[derive(Drop)]
 pub struct NullSink;
 

@@ -20,7 +20,7 @@ pub(crate) fn count_fault(faults: &mut u64) -> Failed
 
 /// Octets to read.
 pub trait Source {
-    /// The octets still to come, where it tells them.
+    /// The octets still to come, where it reports them.
     ghost left: { Self → Option (List ℕ) };
 
     /// How many calls have failed, up to 2^64 - 1, where the count stops. It never falls.
@@ -29,7 +29,7 @@ pub trait Source {
     /// Puts the next octets at the start of `into`, and answers how many. `Ok(0)` for a buffer with
     /// room is the end. `Failed` comes only where the count of faults counted this call, and then no octet
     /// is lost; at `Ok` it counts nothing. What `into` holds after the octets that were read, and at
-    /// `Failed`, is open.
+    /// `Failed`, is unspecified.
     fn read(&mut self, into: &mut [u8]) -> Result<usize, Failed>
         ensures bound { ReadsAtMost result into.new }
         ensures bytes { ReadConsumes (left self.old) (left self.new) result into.new }
@@ -38,16 +38,16 @@ pub trait Source {
 
 /// Where octets go.
 pub trait Sink {
-    /// All the octets that it has taken, where it tells them.
+    /// All the octets that it has taken, where it reports them.
     ghost written: { Self → Option (List ℕ) };
 
-    /// Whether all that was taken has arrived, where it tells that.
+    /// Whether all that was taken has arrived, where it reports that.
     ghost is_flushed: { Self → Option Bool };
 
     /// How many calls have failed, up to 2^64 - 1, where the count stops. It never falls.
     ghost faults: { Self → ℕ };
 
-    /// Takes octets from the start of `piece`, at least one of a part that has any, and answers how
+    /// Takes octets from the start of `piece`, at least one if `piece` has any, and answers how
     /// many. `Failed` comes only where the count of faults counted this call, and then nothing else
     /// changes; at `Ok` it counts nothing.
     fn write(&mut self, piece: &[u8]) -> Result<usize, Failed>

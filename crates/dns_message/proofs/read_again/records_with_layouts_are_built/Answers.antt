@@ -1,12 +1,11 @@
-use Rattle.std.proofs.Common.{◌≡◌, ℕ, List, [], ◌∷◌, Option, Some, refl, ap, subst, ◌∙◌}
+use Rattle.std.proofs.Common.{◌≡◌, ℕ, List, [], ◌∷◌, Option, ap, subst, ◌∙◌}
 use Rattle.std.specs.Prelude.{map}
 use Rattle.dns_wire.specs.Compression.{CompressedWrite, compressed_name_writes}
 use Rattle.dns_wire.specs.Layout.{LayoutPart, part_writes, laid, LayoutMatches}
 use Rattle.dns_wire.specs.Layout.LayoutPart.{NamePart}
 use Rattle.dns_wire.specs.LayoutLemmas.{list_writes-one}
 use Rattle.dns_record.specs.InMessage.{record_numbers, record_writes}
-use Rattle.dns_message.specs.Built.{field_part, built}
-use Rattle.dns_message.specs.Messages.{RecordValue}
+use Rattle.dns_message.specs.Built.{field_part}
 use Rattle.dns_message.proofs.read_again.records_with_layouts_are_built.Goals as goal
 
 pub returns : goal.returns

@@ -3,12 +3,12 @@ use Rattle.std.proofs.lemmas.List.{length-take}
 use Rattle.std.proofs.lemmas.Option.{some_pair_parts}
 use Rattle.dns_wire.specs.Reading.{AreOctets}
 use Rattle.dns_wire.proofs.Spelled.{chosen}
-use Rattle.dns_record.specs.CharStrs.{IsShort}
+use Rattle.dns_record.specs.CharStrs.{FitsCharacterString}
 use Rattle.dns_record.specs.CharacterStrings.{character_string}
 use Rattle.dns_record.proofs.charstr_laws.character_strings.Goals as goal
 
 -- the length octet says at most 255
-short : (bytes octets rest : List ℕ) → AreOctets bytes → character_string bytes ≡ Some (octets, rest) → IsShort octets
+short : (bytes octets rest : List ℕ) → AreOctets bytes → character_string bytes ≡ Some (octets, rest) → FitsCharacterString octets
 short [] octets rest are e = absurd cc
 short (size ∷ more) octets rest are e =
     elim (chosen (ltb (length more) size) _ _ _ e) [

@@ -12,10 +12,10 @@ bounds-self-0 c = (unparsed_size _ _ c.args.self.now.is_name).0
 
 pub returns-then-size-eq0 : goal.returns-then-size-eq0
 returns-then-size-eq0 c =
-    let head = first_label_type _ _ c.args.self.now.is_name in
+    let first = first_label_type _ _ c.args.self.now.is_name in
     elim c.then-size-eq0.branch [
-      | then-size-eq0-via-then-size-eq0 w ↦ ap (λ (n : Unparsed). n.0) (head.root w.if-size-eq0.true)
-      | then-size-eq0-via-else-size-eq0+then-size-ge-POINTER_TAG w ↦ (head.pointer w.if-size-ge-POINTER_TAG.true).1
+      | then-size-eq0-via-then-size-eq0 w ↦ ap (λ (n : Unparsed). n.0) (first.root w.if-size-eq0.true)
+      | then-size-eq0-via-else-size-eq0+then-size-ge-POINTER_TAG w ↦ (first.pointer w.if-size-ge-POINTER_TAG.true).1
     ]
 
 pub split_at-requires : goal.split_at-requires

@@ -1,7 +1,7 @@
 use Rattle.std.proofs.Common.{ℕ, ap, ◌∙◌, arith, get_or}
 use Rattle.dns_message.specs.Messages.{counts_of}
 use Rattle.dns_message.proofs.NextItem.{count_at, placed_first, placed_later, placed_here, placed_last}
-use Rattle.dns_message.proofs.parser.MessageParser.place.Goals as goal
+use Rattle.dns_message.proofs.parser.MessageParser.next_position.Goals as goal
 
 pub loop-section-init : goal.loop-section-init
 loop-section-init c = placed_first c.args.self.now.message.slice.now c.args.self.now.given
