@@ -1,7 +1,8 @@
-//! Comparisons and readings that count their steps. No program sees the count: the clauses give it, and here the
-//! labels and pointers that a reading goes over are counted one by one.
+//! Comparisons and readings that count their steps. No program sees the count: only clauses speak of it. So a test
+//! goes over the name's label types and counts those. It is proved that a reading raises the count by that number.
 
-ghost use Rattle.std.specs.Prelude.{◌≡◌, ◌<◌};
+ghost use Rattle.std.specs.Prelude.{◌≡◌, ◌+◌, ◌<◌, ℕ, List, IfSome};
+ghost use Rattle.dns_wire.specs.Pointers.{NameAt, label_type_count};
 
 use crate::assertion::holds;
 use crate::names::name;
@@ -74,17 +75,43 @@ fn counted_end(contents: &[u8], offset: usize) -> Option<usize> {
     }
 }
 
-/// How many labels, pointers and roots a reading from the offset goes over, at most 10,000.
-fn labels_wire(contents: &[u8], offset: usize) -> Option<usize> {
+/// How many label types a reading from the offset goes over: one for each label and each pointer, and one for the
+/// root. `None` where no root is among the first 10,000.
+fn label_types_read(contents: &[u8], offset: usize) -> Option<usize>
+    ensures { IfSome result (λ n. (labels : List (List ℕ)) (end : ℕ) (found : NameAt contents.now offset labels end) → label_type_count found.reads ≡ n) }
+{
     let mut cursor = NameCursor::new(offset);
-    for count in 1..10_001usize {
-        match cursor.next_label_type(contents) {
-            Ok(LabelType::Root) => return Some(count),
-            Ok(_) => {}
-            Err(_) => return None,
+    for count in 0..10_000 {
+        if let LabelType::Root = cursor.next_label_type(contents).ok()? {
+            return Some(count + 1);
         }
     }
     None
+}
+
+/// How many steps the reading of the name at the offset takes. The count rises by exactly that number.
+fn steps_taken<L: Ledger>(contents: &[u8], offset: usize, steps: &mut Steps<L>) -> Option<usize>
+    ensures { IfSome result (λ n. steps.new ≡ steps.old + n) }
+{
+    match NameBuf::split_counted(contents, offset, steps) {
+        Ok(_) => label_types_read(contents, offset),
+        Err(_) => None,
+    }
+}
+
+/// The same, with a count that begins at 0.
+fn steps_from_zero<L: Ledger>(contents: &[u8], offset: usize, blank: Blank) -> Option<usize>
+    requires name { blank.name ≡ L.name }
+    requires parts { blank.parts ≡ L.parts }
+    requires some { 0 < blank.parts }
+{
+    let mut steps: Steps<L> = Steps::new(blank);
+    steps_taken(contents, offset, &mut steps)
+}
+
+/// The same, with a count that begins here.
+fn steps_counted(contents: &[u8], offset: usize) -> Option<usize> {
+    steps_from_zero::<Brand>(contents, offset, Blank::new(1))
 }
 
 #[test]
@@ -92,7 +119,7 @@ fn a_counted_reading_goes_over_each_pointer(rt: HostRuntime) {
     holds(&rt, counted_end(CHAIN, 18) == Some(20), "a chain");
     holds(
         &rt,
-        labels_wire(CHAIN, 18) == Some(5),
+        steps_counted(CHAIN, 18) == Some(5),
         "four pointers and the root",
     );
 }
@@ -129,7 +156,7 @@ fn a_chain_of_8000_pointers_is_read_to_its_end(rt: HostRuntime) {
     );
     holds(
         &rt,
-        labels_wire(&contents, 16_012) == Some(8_002),
+        steps_counted(&contents, 16_012) == Some(8_002),
         "8,001 pointers and the root",
     );
     holds(
