@@ -210,7 +210,11 @@ fn a_message_ends_at_an_error(rt: HostRuntime) {
     holds(&rt, is_refused_after(NO_ANSWER, 0), "no answer");
     holds(&rt, end_after(NO_ANSWER, 1) == Some((true, 0)), "no other");
     let position = position_after(NO_ANSWER, 0);
-    holds(&rt, position == Some((1, 0, true)), "the position of no answer");
+    holds(
+        &rt,
+        position == Some((1, 0, true)),
+        "the position of no answer",
+    );
     let position = position_after(ANSWER, 2);
     holds(&rt, position == Some((1, 1, false)), "the second answer");
 }
