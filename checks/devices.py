@@ -45,7 +45,8 @@ CANON = Command("canon", ["canon"], samples.text("edns-transfer"), samples.lines
 SAME = Command("same", ["same"], samples.TWO_ALIKE, b"same\n", (["same"], b"0g", 3))
 MAKE = Command("make", ["make", "1000"], b"", samples.MADE_1000, (["make", "1001"], b"", 5))
 LONG = Command("canon on a long message", ["canon"], *samples.long_message(), (["canon"], b"0g", 3))
-COMMANDS = [CANON, SAME, MAKE, LONG]
+ZONE = Command("zone", ["zone", "example."], samples.ZONE, samples.ZONE_TEXT, (["zone", "example."], b"0g", 3))
+COMMANDS = [CANON, SAME, MAKE, LONG, ZONE]
 
 
 def fault(status, printed, noted, wanted, lines, notes):

@@ -122,6 +122,7 @@ def runs():
         ("canon of 1,000 equal records", ["canon"], samples.THOUSAND_ALIKE, samples.THOUSAND_LINE),
         ("same", ["same"], samples.TWO_ALIKE, b"same\n"),
         ("make 1", ["make", "1"], b"", samples.MADE_1),
+        ("zone", ["zone", "example."], samples.ZONE, samples.ZONE_TEXT),
     ):
         yield Case(f"the program, {name}", words, text, "status 8", refused, Ended(0, printed, b"", None))
 

@@ -1,5 +1,6 @@
 """What is given to the library and to the program, and what must come of it: from samples/, README.md and docs/FORMATS.md."""
 
+import hashlib
 from pathlib import Path
 
 HERE = Path(__file__).resolve().parent
@@ -41,6 +42,22 @@ MADE_1000 = b"records 1000 octets 35113 message 19257\n"
 RECORD_ALIKE = b"016100000100010000003c0004c0000201"
 THOUSAND_ALIKE = b"12348180000003e800000000" + 1000 * RECORD_ALIKE
 THOUSAND_LINE = RECORD_ALIKE + b"\n"
+
+
+def zone_text(name, apex):
+    """What `zone` prints for a sample that is a whole zone, by its lines: those of ZONEMD records at the apex, and of the signatures
+    over these, are left out."""
+    octets = [bytes.fromhex(line.decode()) for line in lines(name).splitlines()]
+    rest = [(line, line[len(apex) :]) for line in octets]
+    of_digest = [line for line, after in rest if line.startswith(apex) and (after[:2] == b"\0\x3f" or after[:2] == b"\0\x2e" and after[10:12] == b"\0\x3f")]
+    held = [line for line in octets if line not in of_digest]
+    stream = b"".join(held)
+    return f"records {len(held)} octets {len(stream)}\ndigest {hashlib.sha384(stream).hexdigest()}\n".encode()
+
+
+# The zone that docs/FORMATS.md takes the digest of.
+ZONE = text("signed-zone-with-hashed-names")
+ZONE_TEXT = zone_text("signed-zone-with-hashed-names", b"\x07example\0")
 
 
 def long_message():

@@ -57,6 +57,7 @@ seconds_of() {
     dns_name | dns_record) echo 82 ;;
     dns_rdata | dns_canon) echo 256 ;;
     dns_message) echo 160 ;;
+    dns_zone) echo 41 ;;
     dnscanon) echo 108 ;;
     *) echo 41 ;;
     esac

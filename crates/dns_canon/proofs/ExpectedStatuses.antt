@@ -6,11 +6,11 @@ use Rattle.dns_wire.specs.Hexadecimal.{Spells, SpellsNothing, spelled, trim}
 use Rattle.dns_message.specs.Messages.{RecordValue, Reading, Valid, BadAt, message_reading}
 use Rattle.dns_message.specs.Messages.Reading.{Short as TooShort, Stopped, Whole}
 use Rattle.dns_canon.specs.Run.{AllowedStatus}
-use Rattle.dns_canon.specs.Refusals.{RefusedOrMemory}
+use Rattle.dns_message.specs.Refusals.{RefusedOrMemory}
 use Rattle.dns_canon.specs.Statuses.{canon_status}
 use Rattle.dns_canon.specs.ExpectedStatus.{expected_status, first_refusal}
-use Rattle.dns_canon.specs.declared.error.CanonError.{CanonError}
-use Rattle.dns_canon.specs.declared.error.CanonError.TheVariants as canon
+use Rattle.dns_message.specs.declared.canon_error.CanonError.{CanonError}
+use Rattle.dns_message.specs.declared.canon_error.CanonError.TheVariants as canon
 use Rattle.dns_canon.specs.declared.status.Status.{Status}
 use Rattle.dns_canon.specs.declared.status.Status.TheVariants.{Done, Short, Item, BadHex, TooLong, Usage, ReadFault, WriteFault, Memory}
 use Rattle.dns_canon.specs.declared.words.Command.{Command}

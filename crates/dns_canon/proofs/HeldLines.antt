@@ -1,6 +1,6 @@
 -- Lines that are held one after another.
-use Rattle.std.proofs.Common.{◌≡◌, Bool, Some, None, IfSome, subst, take-append-drop, take_all, ℕ, ◌+◌, ◌*◌, ◌<◌, ◌≤◌, List, [], ◌∷◌, ◌++◌, length, map, take, drop, Result, Ok, Err, refl, sym, ap, ◌∙◌, arith, get_or, flat_map, append_assoc, append-nil}
-use Rattle.std.specs.Prelude.{⊤, IsOk, IsSome, slice_set}
+use Rattle.std.proofs.Common.{◌≡◌, Bool, Some, None, IfSome, subst, take-append-drop, take_all, ℕ, ◌+◌, ◌*◌, ◌<◌, ◌≤◌, List, [], ◌∷◌, ◌++◌, length, map, take, drop, Result, refl, sym, ap, ◌∙◌, arith, get_or, flat_map, append_assoc, append-nil}
+use Rattle.std.specs.Prelude.{IsSome, slice_set}
 use Rattle.std.specs.declared.option.Option.{Option}
 use Rattle.std.proofs.KnownBytes.{Appends-trans}
 use Rattle.dns_wire.specs.Outside.{WritesPrefix, Puts}
@@ -11,17 +11,8 @@ use Rattle.std.proofs.lemmas.Grind.{take-set_at, flat_map-append}
 use Rattle.std.proofs.lemmas.List.{length-append, length-take-le, map-append, take_at, take_more}
 use Rattle.std.proofs.lemmas.List.Concat.{flat_map-cons}
 use Rattle.hex.specs.Hex.{encode_lower}
-use Rattle.dns_wire.specs.Building.{Builds}
 use Rattle.dns_wire.specs.Hexadecimal.{shown, line, lines}
-use Rattle.dns_canon.proofs.Encoding.{encoded}
-
--- ---- octets before others
-
-pub written_prefix : {E : Type 0} (octets old new : List ℕ) (result : Result ℕ E) → length octets ≤ length old → Builds ⊤ octets old 0 new result → IsOk result × (take (length octets) new ≡ octets)
-written_prefix octets old new (Ok end) room built =
-    let stands = built.ok.1 in
-    (refl, ap (take (length octets)) stands.new_is ∙ take_at octets (drop end old) (length octets) refl)
-written_prefix octets old new (Err e) room built = absurd (omega (arith, built.err.2 tt, room))
+use Rattle.dns_text.proofs.Encoding.{encoded}
 
 -- ---- a line after others
 

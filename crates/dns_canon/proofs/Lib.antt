@@ -1,8 +1,5 @@
 -- The crate's own lemmas.
-pub mod Chained
 pub mod DecimalLemmas
-pub mod Encoding
-pub mod Exclusive
 pub mod GeneratedRecords
 pub mod HeldLines
 pub mod MadeLemmas

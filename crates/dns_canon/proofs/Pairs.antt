@@ -7,12 +7,13 @@ use Rattle.dns_wire.specs.Steps.{◌>>=◌}
 use Rattle.dns_message.specs.Messages.{RecordValue, Valid, BadAt, message_reading}
 use Rattle.dns_message.proofs.OneReading.{three_kinds}
 use Rattle.dns_message.proofs.Phrased.{short_reading}
+use Rattle.dns_text.specs.Spelled.{all_spelled}
 use Rattle.dns_canon.specs.Parts.{first_text, second_text}
-use Rattle.dns_canon.specs.Refusals.{RefusedOrMemory}
+use Rattle.dns_message.specs.Refusals.{RefusedOrMemory}
 use Rattle.dns_canon.specs.Statuses.{canon_status}
-use Rattle.dns_canon.specs.ExpectedStatus.{expected_status, first_refusal, all_spelled, on_messages, SpellsBoth}
-use Rattle.dns_canon.specs.declared.error.CanonError.{CanonError}
-use Rattle.dns_canon.specs.declared.error.CanonError.TheVariants as canon
+use Rattle.dns_canon.specs.ExpectedStatus.{expected_status, first_refusal, on_messages, SpellsBoth}
+use Rattle.dns_message.specs.declared.canon_error.CanonError.{CanonError}
+use Rattle.dns_message.specs.declared.canon_error.CanonError.TheVariants as canon
 use Rattle.dns_canon.specs.declared.status.Status.{Status}
 use Rattle.dns_canon.specs.declared.status.Status.TheVariants.{Done, Short, Item, BadHex, TooLong, Usage, ReadFault, WriteFault, Memory}
 use Rattle.dns_canon.specs.declared.words.Command.TheVariants.{Same}

@@ -1,14 +1,17 @@
 -- What a command calls for, by the text that it reads.
 use Rattle.dns_wire.specs.Octets.{Octets}
 use Rattle.dns_canon.specs.declared.words.TheConstants.{LIMIT, LIMIT_OF_TWO}
-use Rattle.std.specs.Prelude.{ℕ, ◌+◌, ◌≤◌, List, [], ◌∷◌, length, map, Option, Some, None, Bool, true, false, nat_lt, if◌then◌else◌}
-use Rattle.dns_wire.specs.Hexadecimal.{Spells, spelled, trim}
-use Rattle.dns_wire.specs.Steps.{◌>>=◌}
+use Rattle.std.specs.Prelude.{ℕ, ◌≤◌, List, [], ◌∷◌, length, map, Option, Some, None, Bool, true, false, nat_lt, if◌then◌else◌}
+use Rattle.dns_wire.specs.Hexadecimal.{Spells}
+use Rattle.dns_text.specs.Endings.{text_if}
+use Rattle.dns_text.specs.Spelled.{all_spelled}
 use Rattle.dns_message.specs.Messages.{Reading, message_reading}
-use Rattle.dns_message.specs.Messages.Reading.{Short as TooShort, Stopped, Whole}
+use Rattle.dns_message.specs.Refusals.{first_refused}
+use Rattle.dns_message.specs.declared.canon_error.CanonError.{CanonError}
 use Rattle.dns_canon.specs.Parts.{first_text, second_text}
+use Rattle.dns_canon.specs.Statuses.{canon_status}
 use Rattle.dns_canon.specs.declared.status.Status.{Status}
-use Rattle.dns_canon.specs.declared.status.Status.TheVariants.{Done, Short, Item, BadHex, TooLong, Usage}
+use Rattle.dns_canon.specs.declared.status.Status.TheVariants.{Done, BadHex, TooLong, Usage}
 use Rattle.dns_canon.specs.declared.words.Command.{Command}
 use Rattle.dns_canon.specs.declared.words.Command.TheVariants.{Canon, Same, Make}
 
@@ -23,7 +26,7 @@ reads (Some (Make count)) = false
 
 -- the text that is read, as far as the source reports what it has left
 abbrev pub text_read : Option Command → Option Octets → Option Octets
-text_read command left = if reads command then left else Some []
+text_read command left = text_if (reads command) left
 
 -- the most octets of the text
 abbrev pub limit_of : Command → ℕ
@@ -39,20 +42,14 @@ texts_in (Make count) text = []
 
 -- ---- the expected status
 
--- the octets that each text spells; none where one of them spells none
-abbrev pub all_spelled : List Octets → Option (List Octets)
-all_spelled [] = Some []
-all_spelled (text ∷ texts) = do
-  message ← spelled (trim text)
-  messages ← all_spelled texts
-  Some (message ∷ messages)
+-- the status of the first message that is not read whole, where there is one
+abbrev pub status_of_first : Option (ℕ × CanonError) → Status
+status_of_first None = Done
+status_of_first (Some (message, error)) = canon_status message error
 
 -- the refusal of the first message that is not read whole, where messages count from this number
 abbrev pub first_refusal : ℕ → List Reading → Status
-first_refusal number [] = Done
-first_refusal number (TooShort ∷ later) = Short number
-first_refusal number (Stopped items section index place ∷ later) = Item number section index
-first_refusal number (Whole items end ∷ later) = first_refusal (number + 1) later
+first_refusal number readings = status_of_first (first_refused number readings)
 
 -- texts that are no digits are refused before any message
 abbrev pub on_messages : Option (List Octets) → Status

@@ -2,7 +2,6 @@
 pub mod Generated
 pub mod Making
 pub mod Parts
-pub mod Refusals
 pub mod Run
 pub mod Statuses
 pub mod ExpectedStatus

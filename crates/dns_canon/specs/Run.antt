@@ -1,16 +1,17 @@
 -- What a run answers, writes and leaves.
-use Rattle.std.specs.Prelude.{◌≡◌, ◌≢◌, ◌⊎◌, List, [], ◌∷◌, ◌++◌, codes, Option, Some, IfSome, Result, Ok, Err}
-use Rattle.std.specs.Io.KnownBytes.{Appends}
+use Rattle.std.specs.Prelude.{◌≡◌, ◌⊎◌, ℕ, List, [], ◌∷◌, ◌++◌, codes, Option, Result, Ok, Err}
 use Rattle.dns_wire.specs.Octets.{Octets}
 use Rattle.dns_wire.specs.Hexadecimal.{Spells, lines}
-use Rattle.dns_wire.specs.Outside.{WritesPrefix}
+use Rattle.dns_text.specs.Endings.{AllowedAs, EmptiesAs, Rules, WritesAs}
 use Rattle.dns_message.specs.Messages.{RecordValue, Valid}
 use Rattle.dns_message.specs.Order.{canonical_list}
 use Rattle.dns_message.specs.Same.{Same as AreSame}
+use Rattle.dns_canon.specs.ExpectedStatus.{expected_status, limit_of, reads}
 use Rattle.dns_canon.specs.Generated.{made_line}
 use Rattle.dns_canon.specs.Parts.{first_text, second_text}
+use Rattle.dns_canon.specs.Statuses.{ending_of}
 use Rattle.dns_canon.specs.declared.status.Status.{Status}
-use Rattle.dns_canon.specs.declared.status.Status.TheVariants.{Done, Short, Item, BadHex, Usage, ReadFault, WriteFault, Memory}
+use Rattle.dns_canon.specs.declared.status.Status.TheVariants.{Done, Usage, ReadFault, WriteFault, Memory}
 use Rattle.dns_canon.specs.declared.words.Command.{Command}
 use Rattle.dns_canon.specs.declared.words.Command.TheVariants.{Canon, Same, Make}
 
@@ -19,10 +20,7 @@ use Rattle.dns_canon.specs.declared.words.Command.TheVariants.{Canon, Same, Make
 -- The answer is the expected status, or one that may come in its place: the source failed, the sink failed at a text that was to be
 -- written, or memory ran out. Nothing comes in place of `Usage`.
 abbrev pub AllowedStatus : Status → Status → Type 0
-AllowedStatus expected_status ReadFault = expected_status ≢ Usage
-AllowedStatus expected_status WriteFault = expected_status ≡ Done
-AllowedStatus expected_status Memory = expected_status ≢ Usage
-AllowedStatus expected_status answer = answer ≡ expected_status
+AllowedStatus expected answer = AllowedAs Done Usage (ending_of answer) expected answer
 
 -- how a run ends whose command came to this
 abbrev pub ended : Result (Unit {0}) Status → Status
@@ -44,21 +42,27 @@ Prints (Make count) text printed = printed ≡ made_line count
 
 -- all of it is written at `Done`, and some prefix of it at `WriteFault`
 abbrev pub WritesText : Command → Octets → Option Octets → Option Octets → Status → Type 0
-WritesText command text old new Done = (printed : Octets) × Prints command text printed × Appends old new printed
-WritesText command text old new WriteFault = (printed : Octets) × Prints command text printed × WritesPrefix old new printed
-WritesText command text old new answer = Unit {0}
+WritesText command text old new answer = WritesAs (Prints command text) old new (ending_of answer)
 
 -- ---- what is left
 
--- nothing is left of what was known
-abbrev pub IsEmptied : Option Octets → Option Octets → Type 0
-IsEmptied old new = IfSome old (λ _. new ≡ Some [])
-
 -- where the whole text has been read, nothing of it is left
 abbrev pub Empties : Status → Option Octets → Option Octets → Type 0
-Empties Done old new = IsEmptied old new
-Empties (Short message) old new = IsEmptied old new
-Empties (Item message section index) old new = IsEmptied old new
-Empties BadHex old new = IsEmptied old new
-Empties WriteFault old new = IsEmptied old new
-Empties answer old new = Unit {0}
+Empties answer old new = EmptiesAs (ending_of answer) old new
+
+-- ---- all of it
+
+-- the rules of these commands
+abbrev pub canon_rules : Rules Command Status
+canon_rules = record {
+  ending = ending_of;
+  done = Done;
+  usage = Usage;
+  read_fault = ReadFault;
+  write_fault = WriteFault;
+  memory = Memory;
+  reads = reads;
+  limit = limit_of;
+  expected = expected_status;
+  Prints = Prints;
+}

@@ -1,9 +1,11 @@
 -- How a run ends: codes, lines, and the status of each refusal.
-use Rattle.std.specs.Prelude.{ℕ, [], ◌∷◌, codes}
+use Rattle.std.specs.Prelude.{ℕ, List, [], ◌∷◌, codes}
 use Rattle.dns_wire.specs.Octets.{Octets}
-use Rattle.dns_text.specs.Notes.{note_line}
-use Rattle.dns_canon.specs.declared.error.CanonError.{CanonError}
-use Rattle.dns_canon.specs.declared.error.CanonError.TheVariants as canon
+use Rattle.dns_text.specs.Endings.{Ending}
+use Rattle.dns_text.specs.Endings.Ending.{Printed, NoCommand, TextTooLong, TextRefused, SourceFailed, SinkFailed, NoMemory}
+use Rattle.dns_text.specs.Notes.{ending_note, note_line}
+use Rattle.dns_message.specs.declared.canon_error.CanonError.{CanonError}
+use Rattle.dns_message.specs.declared.canon_error.CanonError.TheVariants as canon
 use Rattle.dns_text.specs.declared.error.HexError.{HexError}
 use Rattle.dns_text.specs.declared.error.HexError.TheVariants as hexadecimal
 use Rattle.dns_text.specs.declared.error.TextError.{TextError}
@@ -22,19 +24,31 @@ code_of ReadFault = 6
 code_of WriteFault = 7
 code_of Memory = 8
 
+-- ---- the kind of a status
+
+abbrev pub ending_of : Status → Ending
+ending_of Done = Printed
+ending_of (Short message) = TextRefused
+ending_of (Item message section index) = TextRefused
+ending_of BadHex = TextRefused
+ending_of TooLong = TextTooLong
+ending_of Usage = NoCommand
+ending_of ReadFault = SourceFailed
+ending_of WriteFault = SinkFailed
+ending_of Memory = NoMemory
+
 -- ---- the line for a status
+
+-- the line for a refused text
+abbrev pub refusal_line : Status → Octets
+refusal_line (Short message) = note_line (codes "short") (message ∷ [])
+refusal_line (Item message section index) = note_line (codes "item") (message ∷ section ∷ index ∷ [])
+refusal_line BadHex = note_line (codes "bad hex") []
+refusal_line status = []
 
 -- the line that is noted for a status; nothing is noted for `Done`
 abbrev pub note_of : Status → Octets
-note_of Done = []
-note_of (Short message) = note_line (codes "short") (message ∷ [])
-note_of (Item message section index) = note_line (codes "item") (message ∷ section ∷ index ∷ [])
-note_of BadHex = note_line (codes "bad hex") []
-note_of TooLong = note_line (codes "too long") []
-note_of Usage = note_line (codes "usage") []
-note_of ReadFault = note_line (codes "read fault") []
-note_of WriteFault = note_line (codes "write fault") []
-note_of Memory = note_line (codes "out of memory") []
+note_of status = ending_note (ending_of status) (refusal_line status)
 
 -- ---- the status of each way in which a part of the work is refused
 

@@ -2,14 +2,12 @@
 
 ghost use Rattle.std.specs.Prelude.{◌≡◌, ◌≤◌, ◌⊎◌, ◌↔◌, ℕ, List, map, length, IfOk, IfErr, OnErr, IsNone, IsTrue, slice_get};
 ghost use Rattle.std.specs.Option.{option_copied};
-ghost use Rattle.dns_canon.specs.Refusals.{RefusedAs, RefusedOrMemory};
+ghost use Rattle.dns_message.specs.Refusals.{RefusedAs, RefusedOrMemory};
 ghost use Rattle.dns_message.specs.Canonical.{canonical_wire};
 ghost use Rattle.dns_message.specs.Messages.{RecordValue, Valid};
 ghost use Rattle.dns_message.specs.Order.{canonical_list};
 
-use crate::error::CanonError;
-use crate::message::read_records;
-use dns_message::{CanonicalRecord, collapsed};
+use dns_message::{CanonError, CanonicalRecord, collapsed, read_records};
 use dns_wire::BuildBytes;
 use std::alloc::{AllocError, Global};
 use std::marker::Model;

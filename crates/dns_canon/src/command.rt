@@ -7,13 +7,13 @@ ghost use Rattle.dns_message.specs.Messages.{RecordValue, Valid};
 ghost use Rattle.dns_message.specs.Order.{sort_key};
 ghost use Rattle.std.specs.Prelude.{filter};
 ghost use Rattle.dns_message.specs.Canonical.{is_not_opt};
-ghost use Rattle.dns_canon.specs.Refusals.{RefusedOrMemory};
+ghost use Rattle.dns_message.specs.Refusals.{RefusedOrMemory};
 ghost use Rattle.dns_canon.specs.Run.{AllowedStatus, ended, Prints, WritesText, Empties};
 ghost use Rattle.dns_canon.specs.Statuses.{canon_status, note_of};
 ghost use Rattle.dns_text.specs.Taken.{TakesAtMost};
 ghost use Rattle.dns_canon.specs.ExpectedStatus.{reads, text_read, limit_of, expected_status};
 ghost use Rattle.dns_canon.specs.Words.{command_of};
-ghost use Rattle.dns_canon.specs.declared.error.CanonError.{CanonError};
+ghost use Rattle.dns_message.specs.declared.canon_error.CanonError.{CanonError};
 ghost use Rattle.dns_canon.specs.declared.words.TheConstants.{MOST_RECORDS};
 
 use crate::lines::{LineBuffer, put_records};
@@ -155,7 +155,7 @@ fn report<N: Sink>(notes: &mut N, status: Status) -> Result<(), Failed>
 {
     match status {
         Status::Done => Ok(()),
-        Status::Short { message } => put_line(notes, b"short", &[u16::from(message)]),
+        Status::Short { message } => put_line(notes, b"short", &[u32::from(message)]),
         Status::Item {
             message,
             section,
@@ -163,7 +163,7 @@ fn report<N: Sink>(notes: &mut N, status: Status) -> Result<(), Failed>
         } => put_line(
             notes,
             b"item",
-            &[u16::from(message), u16::from(section), index],
+            &[u32::from(message), u32::from(section), u32::from(index)],
         ),
         Status::BadHex => put_line(notes, b"bad hex", &[]),
         Status::TooLong => put_line(notes, b"too long", &[]),

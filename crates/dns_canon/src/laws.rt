@@ -12,7 +12,6 @@ ghost use Rattle.dns_canon.specs.Words.{command_of};
 ghost use Rattle.dns_canon.specs.declared.words.TheConstants.{LIMIT, LIMIT_OF_TWO, MOST_RECORDS};
 ghost use Rattle.dns_wire.specs.declared.sizes.TheConstants.{HEADER_SIZE};
 
-use crate::error::CanonError;
 use crate::status::Status;
 use crate::words::Command;
 
@@ -72,9 +71,8 @@ pub fn expected_statuses_in_words()
     ensures usage { (t : List ℕ) → expected_status None t ≡ Status.Usage }
 {}
 
-/// Errors, statuses and commands are equal exactly where they are the same.
-pub fn equal_errors()
-    ensures canon { (a b : _) → IsTrue (⟦<CanonError as PartialEq>⟧.eq a b) ↔ (a ≡ b) }
+/// Statuses and commands are equal exactly where they are the same.
+pub fn equal_statuses()
     ensures status { (a b : _) → IsTrue (⟦<Status as PartialEq>⟧.eq a b) ↔ (a ≡ b) }
     ensures command { (a b : _) → IsTrue (⟦<Command as PartialEq>⟧.eq a b) ↔ (a ≡ b) }
 {}

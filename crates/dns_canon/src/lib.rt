@@ -3,7 +3,6 @@
 
 mod canonical;
 mod command;
-mod error;
 mod laws;
 mod lines;
 mod make;
@@ -14,10 +13,10 @@ mod words;
 
 pub use canonical::{CanonList, canonicalise};
 pub use command::run;
+pub use dns_message::CanonError;
 pub use dns_text::READ_CHUNK;
-pub use error::CanonError;
 pub use laws::{
-    answers_on_sameness, equal_errors, equal_lines, expected_statuses_in_words, parted_texts,
+    answers_on_sameness, equal_lines, equal_statuses, expected_statuses_in_words, parted_texts,
     words_of_commands,
 };
 pub use status::Status;

@@ -5,9 +5,9 @@ ghost use Rattle.dns_wire.specs.Hexadecimal.{line, lines};
 ghost use Rattle.dns_wire.specs.Outside.{HasCause, BecomesFlag, Puts};
 ghost use Rattle.dns_message.specs.Canonical.{canonical_wire};
 
-use dns_message::CanonicalRecord;
+use dns_message::{CanonicalRecord, put_canonical};
 use dns_text::{put_all, put_text};
-use dns_wire::{BuildBytes, Failed, Sink};
+use dns_wire::{Failed, Sink};
 use std::alloc::{AllocError, Global};
 use std::marker::Model;
 
@@ -16,14 +16,6 @@ const MOST_OCTETS: usize = CanonicalRecord::MAX_SIZE;
 
 /// The most octets of a line: two digits for each of those, and LF.
 const MOST_LINE: usize = 2 * MOST_OCTETS + 1;
-
-/// Writes the canonical octets of a record to the start of some octets, of which there are enough.
-fn write_octets(found: &CanonicalRecord<'_>, octets: &mut [u8])
-    requires { length (canonical_wire found.now) ≤ length octets.old }
-    ensures { take (length (canonical_wire found.now)) octets.new ≡ canonical_wire found.now }
-{
-    found.build_at(octets, 0).unwrap();
-}
 
 /// Writes the line of some octets after what stands before a place of the text, where there is room for it.
 fn write_line(text: &mut [u8], start: usize, octets: &[u8])
@@ -91,7 +83,7 @@ impl LineBuffer {
         ensures { self.new ≡ self.old ++ line (canonical_wire found.now) }
     {
         let size = found.size();
-        write_octets(found, &mut self.octets);
+        put_canonical(found, &mut self.octets);
         write_line(&mut self.text, self.filled, &self.octets[..size]);
         self.filled += 2 * size + 1;
     }

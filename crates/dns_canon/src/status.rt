@@ -1,6 +1,6 @@
 //! How a run ends.
 
-use crate::error::CanonError;
+use dns_message::CanonError;
 use dns_text::{HexError, TextError};
 use std::alloc::AllocError;
 

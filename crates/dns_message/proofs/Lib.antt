@@ -2,10 +2,13 @@
 pub mod Accepted
 pub mod BuiltSo
 pub mod CanonBuilt
+pub mod CanonicalOctets
+pub mod Chained
 pub mod Collapsing
 pub mod Counting
 pub mod Drafts
 pub mod EdnsBuilt
+pub mod Exclusive
 pub mod Extended
 pub mod EdnsLemmas
 pub mod Laid
@@ -21,6 +24,7 @@ pub mod BuiltLemmas
 pub mod Repushed
 pub mod FirstOfRuns
 pub mod CanonicalListSameness
+pub mod SeveralMessages
 pub mod Shorter
 pub mod SizedRead
 pub mod SlotLemmas

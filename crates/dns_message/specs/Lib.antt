@@ -10,8 +10,10 @@ pub mod Order
 pub mod Parsing
 pub mod LayoutRead
 pub mod Pushes
+pub mod Refusals
 pub mod Same
 pub mod Seen
+pub mod Several
 pub mod Sorted
 pub mod WellFormed
 pub mod Worded

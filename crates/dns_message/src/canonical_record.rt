@@ -16,6 +16,8 @@ ghost use Rattle.dns_message.specs.Order.{record_cmp, sort_key, sort_key_cmp, al
 ghost use Rattle.dns_message.specs.Same.{Alike};
 ghost use Rattle.dns_message.specs.Seen.{AreSound, HasSoundDataUnlessOpt, data_seen, item_seen, record_value};
 
+mod parts;
+
 use crate::item::{MessageItem, ParsedMessageItem};
 use dns_name::{CanonicalName, Lowercased, NameBuf, RevNameBuf};
 use dns_num::{SizePrefixed, U16};

@@ -26,6 +26,7 @@ ghost use Rattle.dns_message.specs.WellFormed.{WellFormed};
 ghost use Rattle.dns_message.specs.Worded.{ItemAt, FailsAt, ReadsWhole};
 
 use crate::build_error::MessageBuildError;
+use crate::canon_error::CanonError;
 use crate::header::HeaderFlags;
 use crate::parser::ItemPosition;
 use dns_name::{Name, NameBuf, RevNameBuf};
@@ -183,6 +184,7 @@ pub fn header_flags()
 /// Errors are equal exactly where they are the same.
 pub fn equal_errors()
     ensures build { (a b : _) → IsTrue (⟦<MessageBuildError as PartialEq>⟧.eq a b) ↔ (a ≡ b) }
+    ensures canon { (a b : _) → IsTrue (⟦<CanonError as PartialEq>⟧.eq a b) ↔ (a ≡ b) }
 {}
 
 /// Positions of items are equal where section and index are.

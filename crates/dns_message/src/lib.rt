@@ -4,6 +4,7 @@
 mod build_error;
 mod build_laws;
 mod builder;
+mod canon_error;
 mod canonical_list;
 mod canonical_record;
 mod header;
@@ -13,6 +14,8 @@ mod message;
 mod parser;
 mod push_laws;
 mod read_again;
+mod records;
+mod several_laws;
 
 pub use build_error::MessageBuildError;
 pub use build_laws::{
@@ -20,6 +23,7 @@ pub use build_laws::{
     pushed_records_are_read, pushes_add_an_item, pushes_count_one_more,
 };
 pub use builder::MessageBuilder;
+pub use canon_error::CanonError;
 pub use canonical_list::{collapse, collapsed};
 pub use canonical_record::CanonicalRecord;
 pub use header::{Header, HeaderFlags, SectionCounts};
@@ -39,3 +43,5 @@ pub use read_again::{
     edns_records_are_built, layouts_are_read, prefixed_layouts_are_read, records_are_built,
     records_with_layouts_are_built,
 };
+pub use records::{put_canonical, read_records};
+pub use several_laws::first_refusals_in_words;

@@ -1,5 +1,6 @@
 -- The crate's own lemmas.
 mod Decoding
 mod DigitTable
+pub mod Encoding
 pub mod Transfers
 mod Trimming

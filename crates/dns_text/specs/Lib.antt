@@ -1,3 +1,6 @@
 -- What the contracts of whole texts cite.
+pub mod Endings
 pub mod Notes
+pub mod Outcomes
+pub mod Spelled
 pub mod Taken

@@ -3,9 +3,16 @@
 ghost use Rattle.std.specs.Prelude.{◌≡◌, ◌↔◌, IsTrue};
 
 use crate::error::{HexError, TextError};
+use crate::outcome::{Outcome, PrintError};
 
 /// Errors are equal exactly where they are the same.
 pub fn equal_errors()
     ensures text { (a b : _) → IsTrue (⟦<TextError as PartialEq>⟧.eq a b) ↔ (a ≡ b) }
     ensures hex { (a b : _) → IsTrue (⟦<HexError as PartialEq>⟧.eq a b) ↔ (a ≡ b) }
+{}
+
+/// Outcomes, and errors of printing, are equal exactly where they are the same, if that is so of the refusals that they hold.
+pub fn equal_outcomes<R: PartialEq>()
+    ensures outcome { ((r s : R) → IsTrue (R.eq r s) ↔ (r ≡ s)) → (a b : _) → IsTrue (⟦<Outcome<R> as PartialEq>⟧.eq a b) ↔ (a ≡ b) }
+    ensures print { ((r s : R) → IsTrue (R.eq r s) ↔ (r ≡ s)) → (a b : _) → IsTrue (⟦<PrintError<R> as PartialEq>⟧.eq a b) ↔ (a ≡ b) }
 {}

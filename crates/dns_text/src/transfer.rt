@@ -64,7 +64,7 @@ pub fn put_text<K: Sink>(sink: &mut K, text: &[u8]) -> Result<(), Failed>
 }
 
 /// Writes a space, and the number in decimal digits.
-fn put_number<K: Sink>(sink: &mut K, number: u16) -> Result<(), Failed>
+fn put_number<K: Sink>(sink: &mut K, number: u32) -> Result<(), Failed>
     ensures puts { Puts (K.written sink.old) (K.written sink.new) (spaced number) result }
     ensures cause { HasCause (K.faults sink.old) (K.faults sink.new) result }
 {
@@ -74,7 +74,7 @@ fn put_number<K: Sink>(sink: &mut K, number: u16) -> Result<(), Failed>
 }
 
 /// Writes a word, the numbers in decimal digits after it, and LF. It takes no memory.
-pub fn put_line<K: Sink>(sink: &mut K, word: &[u8], numbers: &[u16]) -> Result<(), Failed>
+pub fn put_line<K: Sink>(sink: &mut K, word: &[u8], numbers: &[u32]) -> Result<(), Failed>
     ensures puts { Puts (K.written sink.old) (K.written sink.new) (note_line word.now numbers.now) result }
     ensures cause { HasCause (K.faults sink.old) (K.faults sink.new) result }
 {

@@ -1,7 +1,10 @@
 //! The program `dnscanon`: answers the words of the command line over the standard streams.
 #![tactic(auto)]
 
-use dns_canon::{Status, Words, run};
+mod answer;
+
+use answer::dispatch;
+use dns_canon::Status;
 use dns_wire::{ReadSource, WriteSink};
 use std::process::ExitCode;
 use std::{env, io};
@@ -10,12 +13,12 @@ use std::{env, io};
 const NO_WORDS: u8 = 14;
 
 /// The words of the command line, without the program's own name.
-fn words_of(rt: &HostRuntime) -> io::Result<Words> {
+fn words_of(rt: &HostRuntime) -> io::Result<Vec<String>> {
     let mut words = Vec::new(rt.alloc());
     for word in env::args(rt)?.skip(1) {
         words.push(word)?;
     }
-    Ok(Words::new(words))
+    Ok(words)
 }
 
 /// The code for an error with which the words could not be had.
@@ -31,12 +34,12 @@ fn main(rt: HostRuntime) -> ExitCode {
         Ok(words) => words,
         Err(error) => return ExitCode::from(code_without_words(&error)),
     };
-    let status = run(
+    let answer = dispatch(
         rt.alloc(),
-        &words,
+        words,
         &mut ReadSource::new(rt.stdin()),
         &mut WriteSink::new(rt.stdout()),
         &mut WriteSink::new(rt.stderr()),
     );
-    ExitCode::from(status.code())
+    ExitCode::from(answer.code())
 }

@@ -1,6 +1,6 @@
 use Rattle.std.proofs.Common.{◌∙◌, ap, inl, inr, Err}
 use Rattle.std.proofs.lemmas.Result.{err_from_is_err_and}
-use Rattle.dns_canon.proofs.Exclusive.{memory_alone, that_or_memory, refused_not_valid}
+use Rattle.dns_message.proofs.Exclusive.{memory_alone, that_or_memory, refused_not_valid}
 use Rattle.dns_canon.proofs.SortedReferences.{octets_lent}
 use Rattle.dns_canon.proofs.canonical.canonicalise.Goals as goal
 

@@ -6,7 +6,7 @@ use Rattle.dns_message.specs.Canonical.{canonical_wire}
 use Rattle.dns_message.specs.Headers.{header_bits}
 use Rattle.dns_message.specs.Messages.{Valid}
 use Rattle.dns_canon.specs.Statuses.{canon_status}
-use Rattle.dns_canon.proofs.Exclusive.{memory_alone}
+use Rattle.dns_message.proofs.Exclusive.{memory_alone}
 use Rattle.dns_canon.proofs.SortedReferences.{octets_lent}
 use Rattle.dns_canon.proofs.MadeLemmas.{none_made, all_made, valid_made, canonical_list_short, printed_so}
 use Rattle.dns_canon.proofs.make.make_text.Goals as goal

@@ -1,0 +1,50 @@
+//! The records of a message, read and written in canonical form.
+
+ghost use Rattle.std.specs.Prelude.{◌≡◌, ◌≤◌, List, IfOk, IfErr, filter, length, take};
+ghost use Rattle.dns_message.specs.Canonical.{canonical_wire, is_not_opt};
+ghost use Rattle.dns_message.specs.Messages.{RecordValue, Valid};
+ghost use Rattle.dns_message.specs.Refusals.{RefusedOrMemory};
+
+use crate::canon_error::CanonError;
+use crate::canonical_record::CanonicalRecord;
+use crate::parser::MessageParser;
+use dns_wire::BuildBytes;
+use std::alloc::Global;
+
+/// The fewest octets of a record: a root, and ten octets after it (RFC 1035 section 3.2.1).
+const FEWEST_OCTETS: usize = 11;
+
+/// Reads a whole message, and keeps its records but those of type OPT, in the message's order. Their data are borrowed by the
+/// message, and memory is taken once, for as many as the header counts and the contents can hold.
+pub fn read_records(alloc: Global, message: &[u8]) -> Result<Vec<CanonicalRecord<'_>>, CanonError>
+    ensures read { IfOk result (λ records. (rs : List RecordValue) × Valid message.now rs × (records.items ≡ filter is_not_opt rs)) }
+    ensures refused { IfErr result (RefusedOrMemory message.now) }
+{
+    let Ok(mut parser) = MessageParser::new(message) else {
+        return Err(CanonError::Short);
+    };
+    let [_, answers, authorities, additional] = parser.header().counts.as_array();
+    let counted = usize::from(answers) + usize::from(authorities) + usize::from(additional);
+    let held = parser.message().contents().len() / FEWEST_OCTETS;
+    let mut records = Vec::with_capacity(alloc, counted.min(held))?;
+    while let Some((position, item)) = parser.next_item() {
+        let Ok(item) = item else {
+            return Err(CanonError::Item {
+                section: position.section,
+                index: position.index,
+            });
+        };
+        if let Some(found) = CanonicalRecord::of(item) {
+            records.push(found)?;
+        }
+    }
+    Ok(records)
+}
+
+/// Writes the canonical octets of a record to the start of some octets, of which there are enough.
+pub fn put_canonical(found: &CanonicalRecord<'_>, octets: &mut [u8])
+    requires { length (canonical_wire found.now) ≤ length octets.old }
+    ensures { take (length (canonical_wire found.now)) octets.new ≡ canonical_wire found.now }
+{
+    found.build_at(octets, 0).unwrap();
+}

@@ -1,0 +1,16 @@
+//! What follows of several messages.
+
+ghost use Rattle.std.specs.Prelude.{◌≡◌, ◌↔◌, ℕ, List, Some, None, map};
+ghost use Rattle.dns_message.specs.Messages.{RecordValue, message_reading};
+ghost use Rattle.dns_message.specs.Refusals.{first_refused};
+ghost use Rattle.dns_message.specs.Several.{AreValid, IsFirstRefused};
+ghost use Rattle.dns_message.specs.declared.canon_error.CanonError.{CanonError};
+
+/// Of several messages the first that is refused is the one that is refused while all before it are valid, and none is exactly where
+/// all are valid.
+pub fn first_refusals_in_words()
+    ensures refused { (messages : List (List ℕ)) (number : ℕ) (error : CanonError) →
+        (first_refused 0 (map message_reading messages) ≡ Some (number, error)) ↔ IsFirstRefused messages number error }
+    ensures none { (messages : List (List ℕ)) →
+        (first_refused 0 (map message_reading messages) ≡ None) ↔ ((records : List (List RecordValue)) × AreValid messages records) }
+{}

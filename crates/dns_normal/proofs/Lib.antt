@@ -1,0 +1,9 @@
+-- The crate's own lemmas.
+pub mod AnswersLemmas
+pub mod NormalForms
+pub mod NormalOctets
+pub mod NormalTexts
+pub mod Outcomes
+pub mod PushedRecords
+pub mod RecordsOf
+pub mod SameRecords

@@ -1,0 +1,5 @@
+use Rattle.dns_normal.proofs.Outcomes.{normal_words}
+use Rattle.dns_normal.proofs.laws.words_of_normal.Goals as goal
+
+pub returns : goal.returns
+returns c = normal_words

@@ -1,0 +1,49 @@
+-- A message in which records are built as answers.
+use Rattle.std.specs.Prelude.{◌≡◌, ℕ, ◌+◌, ◌*◌, ◌<◌, ◌≤◌, List, [], length, map, Result, Ok, Err}
+use Rattle.std.specs.List.{AllByRecursion}
+use Rattle.dns_wire.specs.Octets.{Octets}
+use Rattle.dns_wire.specs.Compression.{FitsIn}
+use Rattle.dns_wire.specs.Layout.{list_writes}
+use Rattle.dns_wire.specs.declared.sizes.TheConstants.{HEADER_SIZE}
+use Rattle.dns_message.specs.Building.{Draft, drafted}
+use Rattle.dns_message.specs.Built.{built}
+use Rattle.dns_message.specs.Canonical.{canonical_wire, lowercase_names}
+use Rattle.dns_message.specs.Messages.{Item, RecordValue, message_reading, records_among}
+use Rattle.dns_message.specs.Messages.Reading.{Whole}
+use Rattle.dns_message.specs.WellFormed.{WellFormed}
+use Rattle.dns_normal.specs.Normal.{answers_header, answers_message}
+use Rattle.dns_normal.specs.declared.refusal.TheConstants.{MESSAGE_LIMIT}
+
+-- ---- records by their canonical octets
+
+-- well formed records that have these canonical octets, one by one
+abbrev pub AreRecordsOf : List Octets → List RecordValue → Type 0
+AreRecordsOf lists rs = AllByRecursion WellFormed rs × (map canonical_wire rs ≡ lists)
+
+-- there are such records
+abbrev pub HaveRecords : List Octets → Type 0
+HaveRecords lists = (rs : List RecordValue) × AreRecordsOf lists rs
+
+-- a well formed record has these canonical octets
+abbrev pub IsRecordOf : Octets → Type 0
+IsRecordOf octets = (r : RecordValue) × WellFormed r × (canonical_wire r ≡ octets)
+
+-- ---- records as answers
+
+-- The records stand as answers in a buffer of 65,535 octets, and nothing else: their octets are those that are built one after
+-- another, and the message is read whole as them, but for ASCII case where it does not count.
+pub record HasAnswers (rs : List RecordValue) (draft : Draft) : Type 0 where
+  pub header : draft.header ≡ answers_header (length rs)
+  pub size : draft.size ≡ MESSAGE_LIMIT
+  pub room : HEADER_SIZE + length draft.contents ≤ MESSAGE_LIMIT
+  pub few : 10 * length rs ≤ length draft.contents
+  pub octets : list_writes built rs [] [] ≡ (draft.contents, draft.places)
+  pub known : FitsIn draft.places draft.contents
+  pub items : List Item
+  pub read : message_reading (drafted draft) ≡ Whole items (length draft.contents)
+  pub alike : map lowercase_names (records_among items) ≡ map lowercase_names rs
+
+-- where they were accepted they stand so, and where one was refused they are more octets than a message may have
+abbrev pub HasAnswersIfFew : {A E : Type 0} → List RecordValue → Draft → Result A E → Type 0
+HasAnswersIfFew rs draft (Ok done) = HasAnswers rs draft
+HasAnswersIfFew rs draft (Err error) = MESSAGE_LIMIT < length (answers_message rs)

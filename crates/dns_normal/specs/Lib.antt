@@ -1,0 +1,4 @@
+-- What the contracts of normal forms cite.
+pub mod Answers
+pub mod Normal
+pub mod Texts

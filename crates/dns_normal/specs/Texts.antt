@@ -1,0 +1,101 @@
+-- The message in a text, and the outcome that a text calls for.
+use Rattle.std.specs.Prelude.{◌≡◌, ℕ, List, [], ◌∷◌, bytes_eq, codes, length, nat_lt, Option, Some, None, if◌then◌else◌, ⊤}
+use Rattle.dns_wire.specs.Octets.{Octets}
+use Rattle.dns_wire.specs.Hexadecimal.{Spells, line, spelled, trim}
+use Rattle.dns_text.specs.Notes.{note_line}
+use Rattle.dns_text.specs.Endings.{Rules}
+use Rattle.dns_text.specs.Outcomes.{expected_outcome, text_rules}
+use Rattle.dns_text.specs.declared.outcome.Outcome.{Outcome}
+use Rattle.dns_text.specs.declared.outcome.Outcome.TheVariants as outcome
+use Rattle.dns_message.specs.Messages.{Reading, RecordValue, Valid, message_reading, records_among}
+use Rattle.dns_message.specs.Messages.Reading.{Short as TooShort, Stopped, Whole}
+use Rattle.dns_normal.specs.Normal.{normal_form}
+use Rattle.dns_normal.specs.declared.refusal.Refusal.{Refusal}
+use Rattle.dns_normal.specs.declared.refusal.Refusal.TheVariants.{BadHex, Short, Item, TooLarge}
+use Rattle.dns_normal.specs.declared.refusal.TheConstants.{LIMIT, MESSAGE_LIMIT}
+use Rattle.dns_normal.specs.declared.status.NormalStatus.{NormalStatus}
+use Rattle.dns_normal.specs.declared.status.NormalStatus.TheVariants as status
+
+-- ---- words
+
+-- the command, where the words are `normal` alone
+abbrev pub command_of : List Octets → Option ⊤
+command_of [] = None
+command_of (word ∷ []) = if bytes_eq word (codes "normal") then Some tt else None
+command_of (word ∷ other ∷ more) = None
+
+-- ---- the expected outcome
+
+-- why a message is refused that has more octets than a message may have
+abbrev pub size_refusal : Octets → Option Refusal
+size_refusal m = if nat_lt MESSAGE_LIMIT (length m) then Some TooLarge else None
+
+-- why a message is refused that is read so
+abbrev pub reading_refusal : Reading → Option Refusal
+reading_refusal TooShort = Some Short
+reading_refusal (Stopped items section index place) = Some (Item section index)
+reading_refusal (Whole items end) = size_refusal (normal_form (records_among items))
+
+-- why a text is refused that does or does not spell octets
+abbrev pub spelling_refusal : Option Octets → Option Refusal
+spelling_refusal None = Some BadHex
+spelling_refusal (Some m) = reading_refusal (message_reading m)
+
+-- why a text is refused; none where the normal form of its message is printed for it
+abbrev pub normal_refusal : ⊤ → Octets → Option Refusal
+normal_refusal command text = spelling_refusal (spelled (trim text))
+
+abbrev pub normal_limit : ⊤ → ℕ
+normal_limit command = LIMIT
+
+-- the outcome that a text calls for; `normal_statuses_in_words` says it in other words
+abbrev pub normal_outcome : Option ⊤ → Octets → Outcome Refusal
+normal_outcome = expected_outcome normal_limit normal_refusal
+
+-- ---- what is printed
+
+-- the text spells a valid message, and these are its records
+abbrev pub HasRecords : Octets → List RecordValue → Type 0
+HasRecords text rs = (m : Octets) × Spells text m × Valid m rs
+
+-- what is printed for a text: the digits of the normal form of its message, and LF
+abbrev pub PrintsNormal : ⊤ → Octets → Octets → Type 0
+PrintsNormal command text printed = (rs : List RecordValue) × HasRecords text rs × (printed ≡ line (normal_form rs))
+
+-- ---- lines and statuses
+
+-- the line that is noted for a refusal; the message has the number 0
+abbrev pub normal_note : Refusal → Octets
+normal_note BadHex = note_line (codes "bad hex") []
+normal_note Short = note_line (codes "short") (0 ∷ [])
+normal_note (Item section index) = note_line (codes "item") (0 ∷ section ∷ index ∷ [])
+normal_note TooLarge = note_line (codes "too large") []
+
+-- the rules of the command
+abbrev pub normal_rules : Rules ⊤ (Outcome Refusal)
+normal_rules = text_rules normal_limit normal_refusal PrintsNormal
+
+-- a status as an outcome
+abbrev pub outcome_of : NormalStatus → Outcome Refusal
+outcome_of status.Done = outcome.Done
+outcome_of status.Short = outcome.Refused Short
+outcome_of (status.Item section index) = outcome.Refused (Item section index)
+outcome_of status.BadHex = outcome.Refused BadHex
+outcome_of status.TooLong = outcome.TooLong
+outcome_of status.Usage = outcome.Usage
+outcome_of status.ReadFault = outcome.ReadFault
+outcome_of status.WriteFault = outcome.WriteFault
+outcome_of status.Memory = outcome.Memory
+outcome_of status.TooLarge = outcome.Refused TooLarge
+
+abbrev pub code_of : NormalStatus → ℕ
+code_of status.Done = 0
+code_of status.Short = 1
+code_of (status.Item section index) = 2
+code_of status.BadHex = 3
+code_of status.TooLong = 4
+code_of status.Usage = 5
+code_of status.ReadFault = 6
+code_of status.WriteFault = 7
+code_of status.Memory = 8
+code_of status.TooLarge = 11

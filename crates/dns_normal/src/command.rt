@@ -1,0 +1,87 @@
+//! The command `normal`.
+
+ghost use Rattle.std.specs.Prelude.{◌≡◌};
+ghost use Rattle.dns_text.specs.Endings.{Ran};
+ghost use Rattle.dns_text.specs.Outcomes.{note_of};
+ghost use Rattle.dns_normal.specs.Texts.{PrintsNormal, command_of, normal_limit, normal_note, normal_refusal, normal_rules, outcome_of};
+
+use crate::message::normal_line;
+use crate::refusal::{LIMIT, Refusal};
+use crate::status::NormalStatus;
+use dns_text::{Args, Command, HexError, PrintError, octets_of, put_line, run_command};
+use dns_wire::{Failed, Sink, Source};
+use std::alloc::Global;
+use std::marker::Model;
+
+/// The normal form of a message.
+#[derive(Drop)]
+struct Normal;
+
+impl Model for Normal {
+    ghost use Rattle.std.specs.Prelude.{⊤};
+
+    ghost Value = { ⊤ };
+
+    ghost view = { λ _. tt };
+}
+
+impl Command for Normal {
+    type Refusal = Refusal;
+
+    ghost limit = { normal_limit };
+
+    ghost refusal = { normal_refusal };
+
+    ghost prints = { PrintsNormal };
+
+    ghost refusal_note = { normal_note };
+
+    fn text_limit(&self) -> usize {
+        LIMIT
+    }
+
+    fn print(&self, alloc: Global, text: &[u8]) -> Result<Vec<u8>, PrintError<Refusal>> {
+        match octets_of(alloc, text) {
+            Ok(message) => normal_line(alloc, &message),
+            Err(HexError::BadHex) => Err(PrintError::Refused(Refusal::BadHex)),
+            Err(HexError::Memory) => Err(PrintError::Memory),
+        }
+    }
+
+    fn put_refusal<N: Sink>(refused: Refusal, notes: &mut N) -> Result<(), Failed> {
+        match refused {
+            Refusal::BadHex => put_line(notes, b"bad hex", &[]),
+            Refusal::Short => put_line(notes, b"short", &[0]),
+            Refusal::Item { section, index } => {
+                put_line(notes, b"item", &[0, u32::from(section), u32::from(index)])
+            }
+            Refusal::TooLarge => put_line(notes, b"too large", &[]),
+        }
+    }
+}
+
+/// The command that the words are: `normal` alone, and no others.
+fn command_of(args: &Args) -> Option<Normal>
+    ensures { result ≡ command_of args.now }
+{
+    let (Some(word), None) = (args.get(0), args.get(1)) else {
+        return None;
+    };
+    if word == "normal" { Some(Normal) } else { None }
+}
+
+/// Answers `normal`: writes the normal form of the message that the source has in hexadecimal digits, a message with its records in
+/// canonical order and alike ones once, as answers whose names are written once (RFC 4034 section 6, RFC 1035 section 4.1.4); or says
+/// on `notes` why nothing is printed. All memory is taken before the first octet is written.
+pub fn run_normal<S: Source, K: Sink, N: Sink>(
+    alloc: Global,
+    args: &Args,
+    source: &mut S,
+    sink: &mut K,
+    notes: &mut N,
+) -> NormalStatus
+    ensures { Ran S.Source K.Sink N.Sink normal_rules (note_of normal_note) (command_of args.now) source.old source.new sink.old sink.new notes.old notes.new (outcome_of result) }
+{
+    let outcome = run_command(alloc, &command_of(args), source, sink, notes);
+    NormalStatus::of_outcome(outcome)
+}

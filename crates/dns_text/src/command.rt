@@ -1,0 +1,123 @@
+//! Commands that read a text and print one, over a source, a sink and notes.
+
+ghost use Rattle.std.specs.Prelude.{◌≡◌, ◌≢◌, ◌≤◌, ℕ, List, length, Option, Some, None, true, IfOk, IfErr};
+ghost use Rattle.dns_wire.specs.Outside.{Rose, HasCause, BecomesFlag, Puts};
+ghost use Rattle.dns_text.specs.Endings.{AllowedAs, Answered, Ran, WritesAs};
+ghost use Rattle.dns_text.specs.Outcomes.{RefusesFor, ending_of, note_of, refused_or_done, text_rules};
+
+use crate::outcome::{Outcome, PrintError};
+use crate::transfer::{put_line, put_text, read_text};
+use dns_wire::{Failed, Sink, Source};
+use std::alloc::Global;
+
+/// A command that prints a text for the text that it reads. Whatever it is, `run_command` carries it out.
+pub trait Command: Drop {
+    /// Why a text is refused.
+    type Refusal: Copy;
+
+    /// The most octets of the text that is read.
+    ghost limit: { Self → ℕ };
+
+    /// Why a text is refused; none where one is printed for it.
+    ghost refusal: { Self → List ℕ → Option Self.Refusal };
+
+    /// The text that is printed for a text.
+    ghost prints: { Self → List ℕ → List ℕ → Type 0 };
+
+    /// The line that is noted for a refusal.
+    ghost refusal_note: { Self.Refusal → List ℕ };
+
+    /// The most octets of the text that is read.
+    fn text_limit(&self) -> usize
+        ensures { result ≡ limit self.now };
+
+    /// The whole text that is printed for a text.
+    fn print(&self, alloc: Global, text: &[u8]) -> Result<Vec<u8>, PrintError<Self::Refusal>>
+        requires { length text.now ≤ limit self.now }
+        ensures printed { IfOk result (λ printed. prints self.now text.now printed.items) }
+        ensures accepted { IfOk result (λ _. refusal self.now text.now ≡ None) }
+        ensures refused { IfErr result (RefusesFor (refusal self.now text.now)) };
+
+    /// Writes the line for a refusal.
+    fn put_refusal<N: Sink>(refused: Self::Refusal, notes: &mut N) -> Result<(), Failed>
+        ensures puts { Puts (N.written notes.old) (N.written notes.new) (refusal_note refused) result }
+        ensures cause { HasCause (N.faults notes.old) (N.faults notes.new) result };
+}
+
+/// Writes what the command prints for a text.
+fn print_for<C: Command, K: Sink>(
+    alloc: Global,
+    command: &C,
+    text: &[u8],
+    sink: &mut K,
+) -> Outcome<C::Refusal>
+    requires { length text.now ≤ C.limit command.now }
+    ensures allowed { AllowedAs Outcome.Done Outcome.Usage (ending_of result) (refused_or_done (C.refusal command.now text.now)) result }
+    ensures no_others { (result ≢ Outcome.Usage) × (result ≢ Outcome.TooLong) × (result ≢ Outcome.ReadFault) }
+    ensures write_fault { result ≡ Outcome.WriteFault → Rose (K.faults sink.old) (K.faults sink.new) }
+    ensures write_steady { (result ≢ Outcome.WriteFault) → K.faults sink.new ≡ K.faults sink.old }
+    ensures written { WritesAs (C.prints command.now text.now) (K.written sink.old) (K.written sink.new) (ending_of result) }
+    ensures unwritten { (result ≢ Outcome.Done) → (result ≢ Outcome.WriteFault) → sink.new ≡ sink.old }
+    ensures flushed { result ≡ Outcome.Done → BecomesFlag (K.is_flushed sink.old) (K.is_flushed sink.new) true }
+{
+    let printed = match command.print(alloc, text) {
+        Ok(printed) => printed,
+        Err(error) => return Outcome::from(error),
+    };
+    match put_text(sink, &printed) {
+        Ok(()) => Outcome::Done,
+        Err(_) => Outcome::WriteFault,
+    }
+}
+
+/// Reads the text of the command, and writes what the command prints for it.
+fn carry_out<C: Command, S: Source, K: Sink>(
+    alloc: Global,
+    command: &C,
+    source: &mut S,
+    sink: &mut K,
+) -> Outcome<C::Refusal>
+    ensures { Answered S.Source K.Sink (text_rules C.limit C.refusal C.prints) (Some command.now) source.old source.new sink.old sink.new result }
+{
+    match read_text(alloc, source, command.text_limit()) {
+        Ok(text) => print_for(alloc, command, &text, sink),
+        Err(error) => Outcome::from(error),
+    }
+}
+
+/// Writes the line for an outcome.
+fn put_note<C: Command, N: Sink>(outcome: Outcome<C::Refusal>, notes: &mut N) -> Result<(), Failed>
+    ensures quiet { outcome ≡ Outcome.Done → notes.new ≡ notes.old }
+    ensures puts { Puts (N.written notes.old) (N.written notes.new) (note_of C.refusal_note outcome) result }
+    ensures cause { HasCause (N.faults notes.old) (N.faults notes.new) result }
+{
+    match outcome {
+        Outcome::Done => Ok(()),
+        Outcome::Usage => put_line(notes, b"usage", &[]),
+        Outcome::TooLong => put_line(notes, b"too long", &[]),
+        Outcome::Refused(refused) => C::put_refusal(refused, notes),
+        Outcome::ReadFault => put_line(notes, b"read fault", &[]),
+        Outcome::WriteFault => put_line(notes, b"write fault", &[]),
+        Outcome::Memory => put_line(notes, b"out of memory", &[]),
+    }
+}
+
+/// Answers a command: writes what it prints for the source's text, or says on `notes` why nothing is printed. Where the words
+/// are no command, none is given. All memory is taken before the first octet is written.
+pub fn run_command<C: Command, S: Source, K: Sink, N: Sink>(
+    alloc: Global,
+    command: &Option<C>,
+    source: &mut S,
+    sink: &mut K,
+    notes: &mut N,
+) -> Outcome<C::Refusal>
+    ensures { Ran S.Source K.Sink N.Sink (text_rules C.limit C.refusal C.prints) (note_of C.refusal_note) command.now source.old source.new sink.old sink.new notes.old notes.new result }
+{
+    let outcome = match command {
+        Some(command) => carry_out(alloc, command, source, sink),
+        None => Outcome::Usage,
+    };
+    // A fault of the notes changes no answer.
+    let _ = put_note::<C, N>(outcome, notes);
+    outcome
+}

@@ -1,0 +1,7 @@
+-- The crate's own lemmas.
+pub mod Lines
+pub mod Members
+pub mod Outcomes
+pub mod ReadSoFar
+pub mod Streams
+pub mod Suffixes

@@ -1,0 +1,115 @@
+//! The command `zone APEX`.
+
+ghost use Rattle.std.specs.Prelude.{◌≡◌, ◌≤◌, ℕ, List, length};
+ghost use Rattle.dns_text.specs.Endings.{Ran};
+ghost use Rattle.dns_text.specs.Outcomes.{RefusesFor, note_of};
+ghost use Rattle.dns_zone.specs.Texts.{PrintsZone, apex_of, outcome_of, zone_limit, zone_note, zone_refusal, zone_rules};
+ghost use Rattle.dns_zone.specs.Zone.{has_soa};
+
+use crate::digest::zone_text;
+use crate::member::is_soa_of;
+use crate::messages::{messages_in, records_in};
+use crate::refusal::{LIMIT, Refusal};
+use crate::status::ZoneStatus;
+use dns_message::CanonicalRecord;
+use dns_name::RevNameBuf;
+use dns_text::{Args, Command, PrintError, put_line, run_command};
+use dns_wire::{Failed, Sink, Source};
+use std::alloc::Global;
+use std::marker::Model;
+
+/// The digest of the zone of an apex.
+#[derive(Drop)]
+struct Zone {
+    apex: RevNameBuf,
+}
+
+impl Model for Zone {
+    ghost use Rattle.std.specs.Prelude.{ℕ, List};
+
+    ghost Value = { List (List ℕ) };
+
+    ghost view = { λ z. z.apex };
+}
+
+/// Whether one of the records is the SOA record of the apex.
+fn has_soa(records: &[CanonicalRecord<'_>], apex: &RevNameBuf) -> bool
+    ensures { result ≡ has_soa apex.now records.now }
+{
+    records.iter().any(|found| is_soa_of(found, apex))
+}
+
+impl Command for Zone {
+    type Refusal = Refusal;
+
+    ghost limit = { zone_limit };
+
+    ghost refusal = { zone_refusal };
+
+    ghost prints = { PrintsZone };
+
+    ghost refusal_note = { zone_note };
+
+    fn text_limit(&self) -> usize {
+        LIMIT
+    }
+
+    fn print(&self, alloc: Global, text: &[u8]) -> Result<Vec<u8>, PrintError<Refusal>> {
+        let messages = messages_in(alloc, text)?;
+        let records = records_in(alloc, &messages)?;
+        if !has_soa(&records, &self.apex) {
+            return Err(PrintError::Refused(Refusal::NoSoa));
+        }
+        let printed = zone_text(alloc, records, &self.apex)?;
+        Ok(printed)
+    }
+
+    fn put_refusal<N: Sink>(refused: Refusal, notes: &mut N) -> Result<(), Failed> {
+        match refused {
+            Refusal::BadHex => put_line(notes, b"bad hex", &[]),
+            Refusal::Short { message } => put_line(notes, b"short", &[message]),
+            Refusal::Item {
+                message,
+                section,
+                index,
+            } => put_line(
+                notes,
+                b"item",
+                &[message, u32::from(section), u32::from(index)],
+            ),
+            Refusal::NoSoa => put_line(notes, b"no soa", &[]),
+        }
+    }
+}
+
+/// The zone that the words `zone APEX` name; none where they are other words, or APEX is not the text of a name.
+fn zone_of(args: &Args) -> Option<Zone>
+    ensures { result ≡ apex_of args.now }
+{
+    let (Some(word), Some(text), None) = (args.get(0), args.get(1), args.get(2)) else {
+        return None;
+    };
+    if word != "zone" {
+        return None;
+    }
+    match RevNameBuf::parse_str(text.as_bytes()) {
+        Ok(apex) => Some(Zone { apex }),
+        Err(_) => None,
+    }
+}
+
+/// Answers `zone APEX`: writes how many members the zone's digest is taken of, how many octets they have, and the digest (RFC 8976, the
+/// SIMPLE scheme with SHA-384), for the messages that the source has, a line of hexadecimal digits each; or says on `notes` why nothing
+/// is printed. All memory is taken before the first octet is written.
+pub fn run_zone<S: Source, K: Sink, N: Sink>(
+    alloc: Global,
+    args: &Args,
+    source: &mut S,
+    sink: &mut K,
+    notes: &mut N,
+) -> ZoneStatus
+    ensures { Ran S.Source K.Sink N.Sink zone_rules (note_of zone_note) (apex_of args.now) source.old source.new sink.old sink.new notes.old notes.new (outcome_of result) }
+{
+    let outcome = run_command(alloc, &zone_of(args), source, sink, notes);
+    ZoneStatus::of_outcome(outcome)
+}

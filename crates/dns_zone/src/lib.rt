@@ -1,0 +1,18 @@
+//! The digest of a zone that is given as messages (RFC 8976, the SIMPLE scheme with SHA-384).
+#![tactic(auto)]
+
+mod command;
+mod digest;
+mod laws;
+mod member;
+mod messages;
+mod refusal;
+mod status;
+
+pub use command::run_zone;
+pub use laws::{
+    apex_soas, equal_statuses, equal_zones, members_in_words, words_of_zones,
+    zone_statuses_in_words,
+};
+pub use refusal::LIMIT;
+pub use status::ZoneStatus;

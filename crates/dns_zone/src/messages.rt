@@ -1,0 +1,80 @@
+//! The messages in a text, and their records.
+
+ghost use Rattle.std.specs.Prelude.{◌≡◌, ◌≤◌, ◌<◌, ◌+◌, ◌^◌, [], ◌∷◌, Some, None, IfOk, IfErr, filter, length, map, vec_len};
+ghost use Rattle.dns_wire.specs.Hexadecimal.{Spells, SpellsNothing, spelled, trim};
+ghost use Rattle.dns_text.specs.Outcomes.{RefusesFor};
+ghost use Rattle.dns_text.specs.Spelled.{all_spelled};
+ghost use Rattle.dns_message.specs.Canonical.{is_not_opt};
+ghost use Rattle.dns_message.specs.Messages.{message_reading};
+ghost use Rattle.dns_message.specs.Refusals.{first_refused};
+ghost use Rattle.dns_message.specs.Several.{all_records};
+ghost use Rattle.dns_zone.specs.Texts.{first_refusal, message_error, spelling_refusal, texts_in};
+
+use crate::refusal::Refusal;
+use dns_message::{CanonError, CanonicalRecord, read_records};
+use dns_text::{HexError, PrintError, octets_of, trimmed};
+use std::alloc::Global;
+
+/// The octets of the message that a line spells.
+fn message_in(alloc: Global, line: &[u8]) -> Result<Vec<u8>, PrintError<Refusal>>
+    ensures spelled { IfOk result (λ octets. Spells line.now octets.items) }
+    ensures refused { IfErr result (RefusesFor (spelling_refusal (all_spelled (line.now ∷ [])))) }
+{
+    match octets_of(alloc, line) {
+        Ok(octets) => Ok(octets),
+        Err(HexError::BadHex) => Err(PrintError::Refused(Refusal::BadHex)),
+        Err(HexError::Memory) => Err(PrintError::Memory),
+    }
+}
+
+/// The octets of the messages in a text, a line each; blanks at the end of the text and of a line do not count.
+pub(crate) fn messages_in(alloc: Global, text: &[u8]) -> Result<Vec<Vec<u8>>, PrintError<Refusal>>
+    ensures spelled { IfOk result (λ messages. all_spelled (texts_in text.now) ≡ Some (map (λ m. m.items) messages.items)) }
+    ensures few { IfOk result (λ messages. vec_len messages ≤ length text.now + 1) }
+    ensures refused { IfErr result (RefusesFor (spelling_refusal (all_spelled (texts_in text.now)))) }
+{
+    let solid = trimmed(text);
+    let mut messages = Vec::new(alloc);
+    if solid.is_empty() {
+        return Ok(messages);
+    }
+    for line in solid.split(|octet| *octet == b'\n') {
+        messages.push(message_in(alloc, line)?)?;
+    }
+    Ok(messages)
+}
+
+/// Why the message of a number is refused.
+fn refused(message: u32, error: CanonError) -> PrintError<Refusal>
+    ensures { result ≡ message_error message error }
+{
+    match error {
+        CanonError::Short => PrintError::Refused(Refusal::Short { message }),
+        CanonError::Item { section, index } => PrintError::Refused(Refusal::Item {
+            message,
+            section,
+            index,
+        }),
+        CanonError::Memory => PrintError::Memory,
+    }
+}
+
+/// The records of all messages other than OPT, in order.
+pub(crate) fn records_in(
+    alloc: Global,
+    messages: &[Vec<u8>],
+) -> Result<Vec<CanonicalRecord<'_>>, PrintError<Refusal>>
+    requires { length messages.now < 2 ^ 32 }
+    ensures valid { IfOk result (λ _. first_refused 0 (map message_reading (map (λ m. m.items) messages.now)) ≡ None) }
+    ensures read { IfOk result (λ records. records.items ≡ filter is_not_opt (all_records (map (λ m. m.items) messages.now))) }
+    ensures refused { IfErr result (RefusesFor (first_refusal (map (λ m. m.items) messages.now))) }
+{
+    let mut records = Vec::new(alloc);
+    for (number, message) in messages.iter().enumerate() {
+        match read_records(alloc, message) {
+            Ok(mut more) => records.append(&mut more)?,
+            Err(error) => return Err(refused(number as u32, error)),
+        }
+    }
+    Ok(records)
+}

@@ -1,0 +1,23 @@
+//! Why the text of a zone is refused.
+
+/// The most octets of the text of a zone.
+pub const LIMIT: usize = 4_194_304;
+
+/// Why the text of a zone is refused.
+#[derive(Clone, Copy, Debug, PartialEq, Eq)]
+pub(crate) enum Refusal {
+    /// A line is not pairs of hexadecimal digits.
+    BadHex,
+    /// A message has fewer than 12 octets. Messages count from 0.
+    Short {
+        message: u32,
+    },
+    /// This item is the first of a message that can't be read.
+    Item {
+        message: u32,
+        section: u8,
+        index: u16,
+    },
+    /// The messages have no SOA record of the apex.
+    NoSoa,
+}

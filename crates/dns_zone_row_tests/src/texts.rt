@@ -1,0 +1,39 @@
+//! What the calls on whole texts answer.
+
+use dns_text::{Args, octets_of, read_text};
+use dns_wire::PlainSource;
+use std::alloc::Global;
+use std::io;
+
+/// Prints how many octets are read of a text, up to a limit, or why it is not read.
+pub(crate) fn show_read(
+    rt: &impl Print,
+    alloc: Global,
+    name: &str,
+    limit: usize,
+    text: &str,
+) -> io::Result<()> {
+    match read_text(alloc, &mut PlainSource::new(text.as_bytes()), limit) {
+        Ok(read) => println!(rt; "{name}: {} octets", read.len()),
+        Err(error) => println!(rt; "{name}: {error:?}"),
+    }
+}
+
+/// Prints the octets that a text spells, as numbers, or why it spells none.
+pub(crate) fn show_octets(
+    rt: &impl Print,
+    alloc: Global,
+    name: &str,
+    text: &str,
+) -> io::Result<()> {
+    match octets_of(alloc, text.as_bytes()) {
+        Ok(octets) => println!(rt; "{name}: {octets:?}"),
+        Err(error) => println!(rt; "{name}: {error:?}"),
+    }
+}
+
+/// Prints how many words there are, the first of them, and whether one is after the last.
+pub(crate) fn show_words(rt: &impl Print, name: &str, words: &Args) -> io::Result<()> {
+    let after = words.get(words.len());
+    println!(rt; "{name}: {}, {:?}, {after:?}", words.len(), words.get(0))
+}
