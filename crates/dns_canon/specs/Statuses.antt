@@ -1,9 +1,10 @@
 -- How a run ends: codes, lines, and the status of each refusal.
-use Rattle.std.specs.Prelude.{ℕ, List, [], ◌∷◌, codes}
+use Rattle.std.specs.Prelude.{ℕ, []}
 use Rattle.dns_wire.specs.Octets.{Octets}
 use Rattle.dns_text.specs.Endings.{Ending}
 use Rattle.dns_text.specs.Endings.Ending.{Printed, NoCommand, TextTooLong, TextRefused, SourceFailed, SinkFailed, NoMemory}
-use Rattle.dns_text.specs.Notes.{ending_note, note_line}
+use Rattle.dns_text.specs.Notes.{ending_note, notice_line}
+use Rattle.dns_text.specs.declared.notice.Notice.TheVariants as notice
 use Rattle.dns_message.specs.declared.canon_error.CanonError.{CanonError}
 use Rattle.dns_message.specs.declared.canon_error.CanonError.TheVariants as canon
 use Rattle.dns_text.specs.declared.error.HexError.{HexError}
@@ -41,9 +42,9 @@ ending_of Memory = NoMemory
 
 -- the line for a refused text
 abbrev pub refusal_line : Status → Octets
-refusal_line (Short message) = note_line (codes "short") (message ∷ [])
-refusal_line (Item message section index) = note_line (codes "item") (message ∷ section ∷ index ∷ [])
-refusal_line BadHex = note_line (codes "bad hex") []
+refusal_line (Short message) = notice_line (notice.Short message)
+refusal_line (Item message section index) = notice_line (notice.Item message section index)
+refusal_line BadHex = notice_line notice.BadHex
 refusal_line status = []
 
 -- the line that is noted for a status; nothing is noted for `Done`

@@ -23,7 +23,7 @@ use crate::parts::parted;
 use crate::status::Status;
 use crate::words::{Command, LIMIT, LIMIT_OF_TWO, Words};
 use dns_message::{CanonicalRecord, collapsed};
-use dns_text::{READ_CHUNK, octets_of, put_line, put_text, read_text};
+use dns_text::{Notice, READ_CHUNK, octets_of, put_notice, put_text, read_text};
 use dns_wire::{Failed, Sink, Source};
 use std::alloc::Global;
 
@@ -155,22 +155,30 @@ fn report<N: Sink>(notes: &mut N, status: Status) -> Result<(), Failed>
 {
     match status {
         Status::Done => Ok(()),
-        Status::Short { message } => put_line(notes, b"short", &[u32::from(message)]),
+        Status::Short { message } => put_notice(
+            Notice::Short {
+                message: u32::from(message),
+            },
+            notes,
+        ),
         Status::Item {
             message,
             section,
             index,
-        } => put_line(
+        } => put_notice(
+            Notice::Item {
+                message: u32::from(message),
+                section,
+                index,
+            },
             notes,
-            b"item",
-            &[u32::from(message), u32::from(section), u32::from(index)],
         ),
-        Status::BadHex => put_line(notes, b"bad hex", &[]),
-        Status::TooLong => put_line(notes, b"too long", &[]),
-        Status::Usage => put_line(notes, b"usage", &[]),
-        Status::ReadFault => put_line(notes, b"read fault", &[]),
-        Status::WriteFault => put_line(notes, b"write fault", &[]),
-        Status::Memory => put_line(notes, b"out of memory", &[]),
+        Status::BadHex => put_notice(Notice::BadHex, notes),
+        Status::TooLong => put_notice(Notice::TooLong, notes),
+        Status::Usage => put_notice(Notice::Usage, notes),
+        Status::ReadFault => put_notice(Notice::ReadFault, notes),
+        Status::WriteFault => put_notice(Notice::WriteFault, notes),
+        Status::Memory => put_notice(Notice::Memory, notes),
     }
 }
 

@@ -2,7 +2,8 @@
 use Rattle.std.specs.Prelude.{◌≡◌, ℕ, List, [], ◌∷◌, bytes_eq, codes, length, nat_lt, Option, Some, None, if◌then◌else◌, ⊤}
 use Rattle.dns_wire.specs.Octets.{Octets}
 use Rattle.dns_wire.specs.Hexadecimal.{Spells, line, spelled, trim}
-use Rattle.dns_text.specs.Notes.{note_line}
+use Rattle.dns_text.specs.Notes.{note_line, notice_line}
+use Rattle.dns_text.specs.declared.notice.Notice.TheVariants as notice
 use Rattle.dns_text.specs.Endings.{Rules}
 use Rattle.dns_text.specs.Outcomes.{expected_outcome, text_rules}
 use Rattle.dns_text.specs.declared.outcome.Outcome.{Outcome}
@@ -66,9 +67,9 @@ PrintsNormal command text printed = (rs : List RecordValue) × HasRecords text r
 
 -- the line that is noted for a refusal; the message has the number 0
 abbrev pub normal_note : Refusal → Octets
-normal_note BadHex = note_line (codes "bad hex") []
-normal_note Short = note_line (codes "short") (0 ∷ [])
-normal_note (Item section index) = note_line (codes "item") (0 ∷ section ∷ index ∷ [])
+normal_note BadHex = notice_line notice.BadHex
+normal_note Short = notice_line (notice.Short 0)
+normal_note (Item section index) = notice_line (notice.Item 0 section index)
 normal_note TooLarge = note_line (codes "too large") []
 
 -- the rules of the command

@@ -8,7 +8,9 @@ ghost use Rattle.dns_normal.specs.Texts.{PrintsNormal, command_of, normal_limit,
 use crate::message::normal_line;
 use crate::refusal::{LIMIT, Refusal};
 use crate::status::NormalStatus;
-use dns_text::{Args, Command, HexError, PrintError, octets_of, put_line, run_command};
+use dns_text::{
+    Args, Command, HexError, Notice, PrintError, octets_of, put_line, put_notice, run_command,
+};
 use dns_wire::{Failed, Sink, Source};
 use std::alloc::Global;
 use std::marker::Model;
@@ -50,11 +52,16 @@ impl Command for Normal {
 
     fn put_refusal<N: Sink>(refused: Refusal, notes: &mut N) -> Result<(), Failed> {
         match refused {
-            Refusal::BadHex => put_line(notes, b"bad hex", &[]),
-            Refusal::Short => put_line(notes, b"short", &[0]),
-            Refusal::Item { section, index } => {
-                put_line(notes, b"item", &[0, u32::from(section), u32::from(index)])
-            }
+            Refusal::BadHex => put_notice(Notice::BadHex, notes),
+            Refusal::Short => put_notice(Notice::Short { message: 0 }, notes),
+            Refusal::Item { section, index } => put_notice(
+                Notice::Item {
+                    message: 0,
+                    section,
+                    index,
+                },
+                notes,
+            ),
             Refusal::TooLarge => put_line(notes, b"too large", &[]),
         }
     }

@@ -5,8 +5,9 @@ ghost use Rattle.dns_wire.specs.Outside.{Rose, HasCause, BecomesFlag, Puts};
 ghost use Rattle.dns_text.specs.Endings.{AllowedAs, Answered, Ran, WritesAs};
 ghost use Rattle.dns_text.specs.Outcomes.{RefusesFor, ending_of, note_of, refused_or_done, text_rules};
 
+use crate::notice::{Notice, put_notice};
 use crate::outcome::{Outcome, PrintError};
-use crate::transfer::{put_line, put_text, read_text};
+use crate::transfer::{put_text, read_text};
 use dns_wire::{Failed, Sink, Source};
 use std::alloc::Global;
 
@@ -93,12 +94,12 @@ fn put_note<C: Command, N: Sink>(outcome: Outcome<C::Refusal>, notes: &mut N) ->
 {
     match outcome {
         Outcome::Done => Ok(()),
-        Outcome::Usage => put_line(notes, b"usage", &[]),
-        Outcome::TooLong => put_line(notes, b"too long", &[]),
+        Outcome::Usage => put_notice(Notice::Usage, notes),
+        Outcome::TooLong => put_notice(Notice::TooLong, notes),
         Outcome::Refused(refused) => C::put_refusal(refused, notes),
-        Outcome::ReadFault => put_line(notes, b"read fault", &[]),
-        Outcome::WriteFault => put_line(notes, b"write fault", &[]),
-        Outcome::Memory => put_line(notes, b"out of memory", &[]),
+        Outcome::ReadFault => put_notice(Notice::ReadFault, notes),
+        Outcome::WriteFault => put_notice(Notice::WriteFault, notes),
+        Outcome::Memory => put_notice(Notice::Memory, notes),
     }
 }
 

@@ -3,11 +3,13 @@
 ghost use Rattle.std.specs.Prelude.{◌≡◌, ◌↔◌, IsTrue};
 
 use crate::error::{HexError, TextError};
+use crate::notice::Notice;
 use crate::outcome::{Outcome, PrintError};
 
-/// Errors are equal exactly where they are the same.
+/// Errors and notices are equal exactly where they are the same.
 pub fn equal_errors()
     ensures text { (a b : _) → IsTrue (⟦<TextError as PartialEq>⟧.eq a b) ↔ (a ≡ b) }
+    ensures notice { (a b : _) → IsTrue (⟦<Notice as PartialEq>⟧.eq a b) ↔ (a ≡ b) }
     ensures hex { (a b : _) → IsTrue (⟦<HexError as PartialEq>⟧.eq a b) ↔ (a ≡ b) }
 {}
 

@@ -8,6 +8,7 @@ mod digit_pairs;
 mod equality_laws;
 mod error;
 mod hexadecimal;
+mod notice;
 mod outcome;
 mod transfer;
 
@@ -16,5 +17,6 @@ pub use command::{Command, run_command};
 pub use equality_laws::{equal_errors, equal_outcomes};
 pub use error::{HexError, TextError};
 pub use hexadecimal::{octets_of, trimmed};
+pub use notice::{Notice, put_notice};
 pub use outcome::{Outcome, PrintError};
 pub use transfer::{READ_CHUNK, put_all, put_line, put_text, read_text};

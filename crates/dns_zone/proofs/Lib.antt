@@ -3,5 +3,6 @@ pub mod Lines
 pub mod Members
 pub mod Outcomes
 pub mod ReadSoFar
+pub mod SameZones
 pub mod Streams
 pub mod Suffixes

@@ -55,12 +55,12 @@ soa_kept apex rs = any-filter_same (is_soa_of apex) is_not_opt true (λ r e. oth
 
 -- ---- in words
 
-two_octets : (octets : List ℕ) → starts_with nat_eq octets (0 ∷ 63 ∷ []) ≡ true → (rest : List ℕ) × (octets ≡ 0 ∷ 63 ∷ rest)
+pub two_octets : (octets : List ℕ) → starts_with nat_eq octets (0 ∷ 63 ∷ []) ≡ true → (rest : List ℕ) × (octets ≡ 0 ∷ 63 ∷ rest)
 two_octets octets e =
     let first : 0 ∷ 63 ∷ [] ≡ take 2 octets = (bytes_decides (0 ∷ 63 ∷ []) (take 2 octets)).0 e in
     (drop 2 octets, sym (take-append-drop 2 octets) ∙ ap (λ (l : List ℕ). l ++ drop 2 octets) (sym first))
 
-starts_two : (octets rest : List ℕ) → octets ≡ 0 ∷ 63 ∷ rest → starts_with nat_eq octets (0 ∷ 63 ∷ []) ≡ true
+pub starts_two : (octets rest : List ℕ) → octets ≡ 0 ∷ 63 ∷ rest → starts_with nat_eq octets (0 ∷ 63 ∷ []) ≡ true
 starts_two octets rest is = ap (λ (l : List ℕ). starts_with nat_eq l (0 ∷ 63 ∷ [])) is
 
 -- what a record of the zone's own digests is

@@ -4,7 +4,8 @@ use Rattle.std.specs.List.{slice_split}
 use Rattle.std.specs.Result.{result_ok}
 use Rattle.dns_wire.specs.Octets.{Octets, Labels}
 use Rattle.dns_wire.specs.Hexadecimal.{trim}
-use Rattle.dns_text.specs.Notes.{note_line}
+use Rattle.dns_text.specs.Notes.{note_line, notice_line}
+use Rattle.dns_text.specs.declared.notice.Notice.TheVariants as notice
 use Rattle.dns_text.specs.Endings.{Rules}
 use Rattle.dns_text.specs.Outcomes.{expected_outcome, text_rules}
 use Rattle.dns_text.specs.Spelled.{all_spelled}
@@ -115,9 +116,9 @@ PrintsZone apex text printed = (rs : List RecordValue) × HasRecords text rs × 
 
 -- the line that is noted for a refusal
 abbrev pub zone_note : Refusal → Octets
-zone_note BadHex = note_line (codes "bad hex") []
-zone_note (Short message) = note_line (codes "short") (message ∷ [])
-zone_note (Item message section index) = note_line (codes "item") (message ∷ section ∷ index ∷ [])
+zone_note BadHex = notice_line notice.BadHex
+zone_note (Short message) = notice_line (notice.Short message)
+zone_note (Item message section index) = notice_line (notice.Item message section index)
 zone_note NoSoa = note_line (codes "no soa") []
 
 -- the rules of the command

@@ -13,7 +13,7 @@ use crate::refusal::{LIMIT, Refusal};
 use crate::status::ZoneStatus;
 use dns_message::CanonicalRecord;
 use dns_name::RevNameBuf;
-use dns_text::{Args, Command, PrintError, put_line, run_command};
+use dns_text::{Args, Command, Notice, PrintError, put_line, put_notice, run_command};
 use dns_wire::{Failed, Sink, Source};
 use std::alloc::Global;
 use std::marker::Model;
@@ -66,16 +66,19 @@ impl Command for Zone {
 
     fn put_refusal<N: Sink>(refused: Refusal, notes: &mut N) -> Result<(), Failed> {
         match refused {
-            Refusal::BadHex => put_line(notes, b"bad hex", &[]),
-            Refusal::Short { message } => put_line(notes, b"short", &[message]),
+            Refusal::BadHex => put_notice(Notice::BadHex, notes),
+            Refusal::Short { message } => put_notice(Notice::Short { message }, notes),
             Refusal::Item {
                 message,
                 section,
                 index,
-            } => put_line(
+            } => put_notice(
+                Notice::Item {
+                    message,
+                    section,
+                    index,
+                },
                 notes,
-                b"item",
-                &[message, u32::from(section), u32::from(index)],
             ),
             Refusal::NoSoa => put_line(notes, b"no soa", &[]),
         }

@@ -32,6 +32,14 @@ pub fn equal_zones()
         PrintsZone apex t printed → PrintsZone apex u other → printed ≡ other }
 {}
 
+/// Lists of records that are the same have the same records in the zone of an apex. So two inputs whose messages have the same records have
+/// the same text.
+pub fn same_zones()
+    ensures zones { (apex : List (List ℕ)) (rs ss : List RecordValue) → Same rs ss → Same (in_zone apex rs) (in_zone apex ss) }
+    ensures printed { (apex : List (List ℕ)) (t u printed other : List ℕ) (rs ss : List RecordValue) → HasRecords t rs → HasRecords u ss → Same rs ss →
+        PrintsZone apex t printed → PrintsZone apex u other → printed ≡ other }
+{}
+
 /// The words of the command are `zone` and the text of a name, and no others.
 pub fn words_of_zones()
     ensures { (words apex : List (List ℕ)) → (apex_of words ≡ Some apex) ↔ ((text : List ℕ) × (words ≡ codes "zone" ∷ text ∷ []) × (parsed_name text ≡ Ok apex)) }
