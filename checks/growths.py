@@ -123,6 +123,7 @@ def runs():
         ("same", ["same"], samples.TWO_ALIKE, b"same\n"),
         ("make 1", ["make", "1"], b"", samples.MADE_1),
         ("zone", ["zone", "example."], samples.ZONE, samples.ZONE_TEXT),
+        ("normal", ["normal"], samples.REPLY, samples.REPLY_NORMAL),
     ):
         yield Case(f"the program, {name}", words, text, "status 8", refused, Ended(0, printed, b"", None))
 

@@ -55,6 +55,15 @@ def zone_text(name, apex):
     return f"records {len(held)} octets {len(stream)}\ndigest {hashlib.sha384(stream).hexdigest()}\n".encode()
 
 
+# A reply with an alias, an address and an OPT, and its normal form.
+REPLY = (
+    b"12348180000100020000000103777777076578616d706c65036f72670000010001c00c0005000100000e10000603776562c010c02d0001000100000e10"
+    b"0004c000020100002904d0000000000000"
+)
+REPLY_NORMAL = (
+    b"00000000000000020000000003776562076578616d706c65036f7267000001000100000e100004c000020103777777c0100005000100000e100002c00c\n"
+)
+
 # The zone that docs/FORMATS.md takes the digest of.
 ZONE = text("signed-zone-with-hashed-names")
 ZONE_TEXT = zone_text("signed-zone-with-hashed-names", b"\x07example\0")
