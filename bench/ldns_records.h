@@ -31,7 +31,7 @@ static void read_message(ldns_rr_list *all, const char *line, size_t digits) {
     keep(all, ldns_pkt_additional(pkt));
 }
 
-/* Writes the canonical octets of the record at `i` to the buffer, and gives where the next one is. Alike records stand together, since
+/* Writes the canonical octets of the record at `i` to the buffer, and gives where the next one is. Alike records are together, since
    ldns does not compare TTLs: of those that are alike the one with the least TTL is written. */
 static size_t write_next(ldns_buffer *buffer, ldns_rr_list *sorted, size_t i) {
     size_t count = ldns_rr_list_rr_count(sorted);

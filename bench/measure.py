@@ -2,7 +2,7 @@
 """Measures `dnscanon canon` beside plain C, ldns and dnspython, and prints a table.
 
 The instructions are those that callgrind counts, less those on a message of twelve octets; the milliseconds are the best of many
-runs. Where the lines of two programs differ, that is said, and nothing is measured."""
+runs. If the lines of two programs differ, that is said, and nothing is measured."""
 import argparse
 import math
 import re

@@ -1,6 +1,6 @@
 /* `dnscanon canon` as plain C: records are borrowed from the message, compared in place, and written by table. It is what the
  * program's speed is measured against, and no part of it. It reads one message in hexadecimal from standard input and writes
- * the canonical lines of its records; it ends with status 1 where the text spells no valid message. */
+ * the canonical lines of its records; it ends with status 1 if the text spells no valid message. */
 #include <stdint.h>
 #include <stdio.h>
 #include <stdlib.h>
@@ -13,7 +13,7 @@ static uint8_t text[LIMIT + 1], message[LIMIT / 2], lower[256], values[256];
 static char digits[256][2];
 static size_t size;
 
-/* The fields of data: P a name that may have pointers, N one that has none, 1 to 9 and above so many octets, S a string,
+/* The fields of data: P a name that may have pointers, N one that has none, 1 to 9 and above that many octets, S a string,
  * T strings up to the end, R the rest, B a bitmap, O options. */
 struct row {
     uint16_t type;
@@ -38,7 +38,7 @@ struct record {
     uint16_t type, class;
     uint16_t labels;        /* how many */
     uint16_t octets;        /* of the owner, with the root */
-    uint32_t first;         /* where the places of its labels stand */
+    uint32_t first;         /* where the places of its labels are */
 };
 
 static struct record *records;
@@ -55,20 +55,20 @@ static size_t name_at(size_t at, size_t bound, int pointers, uint16_t *labels, u
     unsigned n = 0, sum = 1;
     for (;;) {
         if (at >= bound) fail();
-        unsigned head = message[at];
-        if (head == 0) {
+        unsigned length = message[at];
+        if (length == 0) {
             *count = n;
             *octets = sum;
             return end ? end : at + 1;
         }
-        if (head < 64) {
-            sum += head + 1;
-            if (sum > MOST_NAME || at + 1 + head > bound) fail();
+        if (length < 64) {
+            sum += length + 1;
+            if (sum > MOST_NAME || at + 1 + length > bound) fail();
             if (labels) labels[n] = at;
             n++;
-            at += 1 + head;
+            at += 1 + length;
         } else {
-            if (!pointers || head < 192 || at + 2 > bound) fail();
+            if (!pointers || length < 192 || at + 2 > bound) fail();
             size_t target = number(at) & 0x3fff;
             if (target < HEADER || target >= start) fail();
             if (!end) end = at + 2;
@@ -154,24 +154,24 @@ static int owners_cmp(const struct record *r, const struct record *s) {
 /* Writes the canonical octets of a name. */
 static uint8_t *put_name(uint8_t *out, size_t at, int lowered) {
     for (;;) {
-        unsigned head = message[at];
-        if (head >= 192) {
+        unsigned length = message[at];
+        if (length >= 192) {
             at = number(at) & 0x3fff;
             continue;
         }
-        *out++ = head;
-        if (!head) return out;
-        for (unsigned i = 1; i <= head; i++) *out++ = lowered ? lower[message[at + i]] : message[at + i];
-        at += 1 + head;
+        *out++ = length;
+        if (!length) return out;
+        for (unsigned i = 1; i <= length; i++) *out++ = lowered ? lower[message[at + i]] : message[at + i];
+        at += 1 + length;
     }
 }
 
 static size_t skip_name(size_t at) {
     for (;;) {
-        unsigned head = message[at];
-        if (head == 0) return at + 1;
-        if (head >= 192) return at + 2;
-        at += 1 + head;
+        unsigned length = message[at];
+        if (length == 0) return at + 1;
+        if (length >= 192) return at + 2;
+        at += 1 + length;
     }
 }
 
@@ -278,9 +278,9 @@ static size_t spell(const struct record *r) {
     uint8_t *p = line;
     const uint16_t *a = places + r->first;
     for (unsigned i = 0; i < r->labels; i++) {
-        unsigned head = message[a[i]];
-        *p++ = head;
-        for (unsigned j = 1; j <= head; j++) *p++ = lower[message[a[i] + j]];
+        unsigned length = message[a[i]];
+        *p++ = length;
+        for (unsigned j = 1; j <= length; j++) *p++ = lower[message[a[i] + j]];
     }
     *p++ = 0;
     *p++ = r->type >> 8, *p++ = r->type, *p++ = r->class >> 8, *p++ = r->class;

@@ -1,7 +1,7 @@
 #!/usr/bin/env python3
 """Measures `dnscanon zone` beside ldns, and `sha384sum` on the same input, for zones of 64 KiB to 4 MiB of text.
 
-Milliseconds are the best of several runs, and the memory is the most that one run held. Where the texts of the two programs
+Milliseconds are the best of several runs, and the memory is the most that one run held. If the texts of the two programs
 differ, that is said, and nothing is measured."""
 import argparse
 import math

@@ -57,7 +57,7 @@ FILES = {}
 
 
 def resolve(module, name):
-    """The definition that a name of a module is, or None where the module is no file of specs/."""
+    """The definition that a name of a module is, or None if the module is no file of specs/."""
     parts = module.split(".")
     if parts[0] != "Rattle" or len(parts) < 4 or parts[2] != "specs" or parts[3] == "declared":
         return None

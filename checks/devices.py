@@ -50,7 +50,7 @@ COMMANDS = [CANON, SAME, MAKE, LONG, ZONE]
 
 
 def fault(status, printed, noted, wanted, lines, notes):
-    """What is wrong with the end of a run; nothing where it ended with the wanted status, its line and what belongs to it."""
+    """What is wrong with the end of a run; nothing if it ended with the wanted status, its line and what belongs to it."""
     if status < 0:
         return f"ended by signal {-status}"
     if status not in wanted:
@@ -63,8 +63,8 @@ def fault(status, printed, noted, wanted, lines, notes):
 
 
 def judge(report, name, status, printed, noted, wanted, lines, notes=None, size=None):
-    """Reports on the end of a run. The notes are not looked at where they are None, as where nobody could read them. Where a size
-    is given, so many octets must be written."""
+    """Reports on the end of a run. The notes are not looked at if they are None, as when nobody could read them. If a size
+    is given, that many octets must be written."""
     wrong = fault(status, printed, noted, (wanted,), lines, notes)
     written = f"{len(printed)} of {len(lines)} octets written" if printed else "nothing written"
     is_ok = wrong is None and size in (None, len(printed))
@@ -140,7 +140,7 @@ def start_into_pipe(command):
 
 
 def read_all(back, size):
-    """All that comes from a pipe, at most so many octets at a time."""
+    """All that comes from a pipe, at most `size` octets at a time."""
     printed = bytearray()
     while piece := os.read(back, size):
         printed += piece
@@ -175,7 +175,7 @@ def check_readers_that_go(report):
 
 
 def check_full_files(report):
-    """Files that may have so many octets and no more (the limit is `ulimit -f`, with its signal ignored)."""
+    """Files that may have a given number of octets and no more (the limit is `ulimit -f`, with its signal ignored)."""
     for command in COMMANDS:
         size = len(command.lines)
         limits = sorted({*range(0, size, max(1, size // 50)), 4096 if size > 4096 else 0, size - 1, size})
@@ -200,7 +200,7 @@ def check_full_files(report):
 
 
 def check_full_disk(report):
-    """Files on a file system of so many octets, some of which are free."""
+    """Files on a file system of a given number of octets, some of which are free."""
     script = (
         'mount -t tmpfs -o "size=$2" none "$1" && cd "$1" && head -c $(($2 - $3)) /dev/zero >zeros || exit 99; '
         'shift 3; "$0" "$@" >lines; status=$?; cat lines; exit $status'
@@ -243,7 +243,7 @@ def check_slow_streams(report):
         judge(report, name, running.returncode, printed, noted, 0, command.lines)
 
 
-# How the system tells that a process waits in a read of standard input, or in a write to standard output.
+# How the system reports that a process waits in a read of standard input, or in a write to standard output.
 READING = "0 0x0 "
 WRITING = "1 0x1 "
 
@@ -328,7 +328,7 @@ def calls_of(command, call, descriptor):
 
 
 def check_failing_calls(report):
-    """Each read, and each write, in turn: it fails by EINTR, as where a signal came before an octet did, or by EIO."""
+    """Each read, and each write, in turn: it fails by EINTR, as when a signal came before an octet did, or by EIO."""
     for command in COMMANDS:
         for call, descriptor, fails in (("read", 0, 6), ("write", 1, 7)):
             for error in ("EINTR", "EIO"):
@@ -376,7 +376,7 @@ def check_memory_limits(report):
 
 
 def build():
-    """Builds the program where it is not current. That proves the library, which takes its time."""
+    """Builds the program if it is not current. That proves the library, which takes its time."""
     with open(samples.ROOT / "samples" / "address.hex", "rb") as given:
         ran = subprocess.run([samples.ROOT / "dnscanon", "canon"], stdin=given, stdout=subprocess.PIPE)
     return ran.returncode, ran.stdout

@@ -24,11 +24,11 @@ class Ended:
     status: int
     printed: bytes
     noted: bytes
-    # How many growths were asked for, where rt tells it.
+    # How many growths were asked for, if rt reports it.
     asked: int
 
 
-# The program writes nothing where memory for its own words is refused.
+# The program writes nothing if memory for its own words is refused.
 WORDS_REFUSED = Ended(8, b"", b"", None)
 
 
@@ -42,7 +42,7 @@ class Case:
     refusal: str
     refused: Ended
     done: Ended
-    # Whether the lines that are printed stand in another order than those that are wanted.
+    # Whether the lines that are printed are in another order than those that are wanted.
     in_any_order: bool = False
 
     def __post_init__(self):
@@ -124,6 +124,10 @@ def runs():
         ("make 1", ["make", "1"], b"", samples.MADE_1),
         ("zone", ["zone", "example."], samples.ZONE, samples.ZONE_TEXT),
         ("normal", ["normal"], samples.REPLY, samples.REPLY_NORMAL),
+        ("hash", ["hash", "example.", "aabbccdd", "12"], b"", samples.HASHED),
+        ("covers", ["covers", "b."], samples.DENIAL, b"nsec covers\n"),
+        ("signed", ["signed", "0"], samples.SIGNED, samples.SIGNED_OCTETS),
+        ("keytags", ["keytags"], samples.KEY, b"44736\n"),
     ):
         yield Case(f"the program, {name}", words, text, "status 8", refused, Ended(0, printed, b"", None))
 
@@ -140,7 +144,7 @@ def copy_of_repository(folder):
 
 
 def try_all(crate, cases, number):
-    """How each case ends where the growth of this number is refused, by its place in the list; and what rt said."""
+    """How each case ends if the growth of this number is refused, by its place in the list; and what rt said."""
     with tempfile.TemporaryDirectory() as folder:
         for place, case in cases.items():
             Path(folder, str(place)).write_bytes(case.given)
@@ -154,10 +158,10 @@ def try_all(crate, cases, number):
     printed = {int(place): text for place, text in zip(parts[1::2], parts[2::2])}
     ended, noted, asked = {}, b"", None
     for line in ran.stderr.splitlines(keepends=True):
-        told = re.match(rb"allocations: (?:at least )?(\d+)$", line)
+        counted = re.match(rb"allocations: (?:at least )?(\d+)$", line)
         end = re.match(rb"case=(\d+) run=(\w+)(?: status=(\d+))?", line)
-        if told:
-            asked = None if b"at least" in line else int(told[1])
+        if counted:
+            asked = None if b"at least" in line else int(counted[1])
         elif end:
             place, status = int(end[1]), int(end[3] or -1)
             ended[place] = Ended(status, printed.get(place, b""), noted, asked)

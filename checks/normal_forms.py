@@ -21,7 +21,7 @@ def normal(text):
 
 
 def lines_by_dnspython(message):
-    """The canonical lines of the answers, in their order; an error where the message has anything else."""
+    """The canonical lines of the answers, in their order; an error if the message has anything else."""
     ident, flags, questions, answers, authorities, additional = struct.unpack(">HHHHHH", message[:12])
     assert (ident, flags, questions, authorities, additional) == (0, 0, 0, 0, 0)
     lines, at = [], 12

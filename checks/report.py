@@ -7,7 +7,7 @@ class Report:
         self.failed = []
 
     def add(self, name, came, is_ok):
-        """Tells what came of a check, and whether that is as the documents say."""
+        """Reports what came of a check, and whether that is as the documents say."""
         print(f"{name}: {came}: {'ok' if is_ok else 'NOT OK'}", flush=True)
         self.count += 1
         if not is_ok:

@@ -20,7 +20,7 @@ def lines(name):
 
 
 def data_of(line):
-    """The digits of the data in the line of a record: they stand behind the owner and ten octets."""
+    """The digits of the data in the line of a record: they come after the owner and ten octets."""
     octets = bytes.fromhex(line.decode())
     end = 0
     while octets[end]:
@@ -64,19 +64,30 @@ REPLY_NORMAL = (
     b"00000000000000020000000003776562076578616d706c65036f7267000001000100000e100004c000020103777777c0100005000100000e100002c00c\n"
 )
 
+# The hash of `example.` in RFC 5155 appendix A, an NSEC record from `a.` to `c.`, a key whose tag RFC 4034 appendix B gives, and a
+# wildcard's signature with its record and the octets that it is over (RFC 4034 section 3.1.8.1).
+HASHED = b"0p9mhaveqvm6t7vbl5lop2u3t2rp3tom\n"
+DENIAL = b"123481800000000100000000016100002f000100000e100006016300000140"
+SIGNED = (
+    b"1234818000000002000000000161016200002e000100000e1000160001080100000e1000000002000000010003014200ff"
+    b"0141016200000100010000000a0004c0000201"
+)
+SIGNED_OCTETS = b"0001080100000e1000000002000000010003016200012a0162000001000100000e100004c0000201\n"
+KEY = b"1234818000000001000000000161000030000100000000000601000305aabb"
+
 # The zone that docs/FORMATS.md takes the digest of.
 ZONE = text("signed-zone-with-hashed-names")
 ZONE_TEXT = zone_text("signed-zone-with-hashed-names", b"\x07example\0")
 
 
 def long_message():
-    """The text of a message of 600 addresses whose owners are one name of 255 octets, and its lines, as docs/FORMATS.md tells
-    them. They are more octets than the program writes at once, and than a pipe holds."""
+    """The text of a message of 600 addresses whose owners are one name of 255 octets, and its lines, as docs/FORMATS.md
+    describes them. They are more octets than the program writes at once, and than a pipe holds."""
     owner = b"".join(bytes([size]) + b"a" * size for size in (63, 63, 63, 61)) + b"\0"
-    behind = bytes.fromhex("0001 0001 0000003c 0004")
+    fixed_fields = bytes.fromhex("0001 0001 0000003c 0004")
     addresses = [bytes([192, 0, number // 256, number % 256]) for number in range(600)]
     header = bytes.fromhex("0000 8400 0000 0258 0000 0000")
     # The first record has the owner in full, and the others a pointer to octet 12.
-    records = owner + behind + addresses[0] + b"".join(b"\xc0\x0c" + behind + address for address in addresses[1:])
-    lines = b"".join((owner + behind + address).hex().encode() + b"\n" for address in addresses)
+    records = owner + fixed_fields + addresses[0] + b"".join(b"\xc0\x0c" + fixed_fields + address for address in addresses[1:])
+    lines = b"".join((owner + fixed_fields + address).hex().encode() + b"\n" for address in addresses)
     return (header + records).hex().encode(), lines

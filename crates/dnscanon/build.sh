@@ -1,7 +1,7 @@
 #!/bin/sh
-# Proves the repository's libraries, side by side where none stands on another, and then builds the program as out/dnscanon.
+# Proves the repository's libraries, side by side if none depends on another, and then builds the program as out/dnscanon.
 # A program that was built before stays there until the new one is built. How far the build is, and about how many minutes are
-# left, goes to standard error. What rt prints goes to out/NAME.log, which is shown where the crate NAME fails.
+# left, goes to standard error. What rt prints goes to out/NAME.log, which is shown if the crate NAME fails.
 
 crates=$(CDPATH='' cd -- "$(dirname -- "$0")/.." && pwd) || exit 1
 list=$crates/../crates.txt
@@ -72,9 +72,9 @@ processors() {
     echo "$count"
 }
 
-# A library is kept where its proof began after the last change of its sources and of the toolchain, and after the proofs of
+# A library is up to date if its proof began after the last change of its sources and of the toolchain, and after the proofs of
 # those below it. Only time hangs on this: rt itself goes by what the files hold.
-is_kept() {
+is_up_to_date() {
     mark=$crates/$1/out/proved
     [ -f "$mark" ] && [ -d "$crates/$1/out/rlib" ] || return 1
     set -- "$crates/$1" $(below "$1" | sed "s|[^ ]*|../&/out/proved|g")
@@ -118,7 +118,7 @@ clear_rooms() {
     rm -rf "$rooms"
 }
 
-# Proves the library $1 with $2 processes, in the background. As it ends, its status stands in a file. A mark tells when it
+# Proves the library $1 with $2 processes, in the background. When it ends, its status is in a file. A mark tells when it
 # began.
 start() {
     : >"$rooms/$1.mark"
@@ -134,7 +134,7 @@ start() {
     running="$running $1"
 }
 
-# Starts what waits and stands on proved libraries alone, with the free processes divided among it.
+# Starts what waits and depends on proved libraries alone, with the free processes divided among it.
 start_ready() {
     ready=
     for name in $waiting; do
@@ -149,7 +149,7 @@ start_ready() {
     done
 }
 
-# Takes in the crates that have ended, and fails where one has failed, or was ended before it could tell.
+# Takes in the crates that have ended, and fails where one has failed, or was ended before it could report.
 gather() {
     for name in $running; do
         kill -0 "$(cat "$rooms/$name.pid")" 2>/dev/null || [ -s "$rooms/$name.status" ] || echo 1 >"$rooms/$name.status"
@@ -180,7 +180,7 @@ minutes_left() {
 }
 
 # A line with the minutes that are left and the crates at work, and how many functions of each are checked, of how many. On a
-# terminal it is written over itself; elsewhere it comes where a crate is proved, and each minute.
+# terminal it is written over itself; elsewhere it comes when a crate is proved, and each minute.
 show() {
     [ -t 2 ] || [ -n "$change" ] || [ $((seconds % 60)) = 0 ] || return 0
     line="dnscanon: $(echo $proved | wc -w) of $all crates proved, about $(minutes_left) min left"
@@ -208,7 +208,7 @@ stop() {
     exit 1
 }
 
-# One build at a time: a second one waits, and then finds the libraries kept. A file with its process stands for each.
+# One build at a time: a second one waits, and then finds the libraries up to date. A file with its process number is there for each.
 take_turn() {
     mkdir -p "$out" && echo $$ >"$out/builder.$$" || exit 1
     trap 'rm -f "$out/builder.$$"' EXIT
@@ -223,12 +223,12 @@ take_turn() {
     trap stop INT TERM HUP
 }
 
-# What is kept already, and what waits.
+# What is up to date, and what waits.
 take_stock() {
     for name in $(sed 's/ .*//' "$rooms/plan"); do
         if [ "$name" = dnscanon ]; then
             continue
-        elif has_all "$(below "$name")" "$proved" && (is_kept "$name"); then
+        elif has_all "$(below "$name")" "$proved" && (is_up_to_date "$name"); then
             proved="$proved $name"
         else
             waiting="$waiting $name"

@@ -1,4 +1,4 @@
--- The fields of the data of each type, in the order in which they stand.
+-- The fields of the data of each type, in the order in which they come.
 use Rattle.std.specs.Prelude.{List, [], ◌∷◌}
 use Rattle.std.specs.Int.{w16, w32}
 use Rattle.dns_record.specs.Fields.{FieldOf}

@@ -1,4 +1,4 @@
-//! Data are compared and fed to a hasher field by field, in the order in which the fields stand on the wire.
+//! Data are compared and fed to a hasher field by field, in the order in which the fields come on the wire.
 
 ghost use Rattle.std.specs.Prelude.{◌≡◌};
 ghost use Rattle.std.specs.Ordering.{eq_by_cmp, on};
@@ -26,7 +26,7 @@ pub fn data_are_ordered_by_fields<N: Ord>()
     ensures mx { (a b : _) → ⟦<Mx<N> as Ord>⟧.cmp a b ≡ fields_cmp N.cmp (on key key_cmp) (mx_fields a) (mx_fields b) }
 {}
 
-/// Data are equal where all their fields are, names as their type says.
+/// Data are equal if all their fields are, names as their type says.
 pub fn data_are_equal_by_fields<N: PartialEq>()
     ensures ns { (a b : _) → ⟦<Ns<N> as PartialEq>⟧.eq a b ≡ fields_eq N.eq (eq_by_cmp (on key key_cmp)) same_charstr (ns_fields a) (ns_fields b) }
     ensures cname { (a b : _) → ⟦<CName<N> as PartialEq>⟧.eq a b ≡ fields_eq N.eq (eq_by_cmp (on key key_cmp)) same_charstr (cname_fields a) (cname_fields b) }

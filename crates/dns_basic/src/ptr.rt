@@ -25,7 +25,7 @@ use dns_wire::{
 };
 use std::cmp::Ordering;
 
-/// The name that the owner stands for (RFC 1035 section 3.3.12).
+/// The name that the owner represents (RFC 1035 section 3.3.12).
 #[derive(Clone, Copy, Debug, PartialEq, Eq, PartialOrd, Ord, Hash, Drop)]
 pub struct Ptr<N> {
     /// The name.

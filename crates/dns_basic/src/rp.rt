@@ -29,9 +29,9 @@ use std::cmp::Ordering;
 /// Who is responsible for the owner (RFC 1183 section 2.2).
 #[derive(Clone, Copy, Debug, PartialEq, Eq, Hash, Drop)]
 pub struct Rp<N> {
-    /// The mailbox, as a name: its first label is what stands before the `@`.
+    /// The mailbox, as a name: its first label is what comes before the `@`.
     pub mailbox: N,
-    /// The owner of TXT records about the person, and the root where there are none.
+    /// The owner of TXT records about the person, and the root if there are none.
     pub texts: N,
 }
 

@@ -33,13 +33,13 @@ use std::cmp::Ordering;
 pub struct Soa<N> {
     /// The server from which the others have the zone.
     pub mname: N,
-    /// The mailbox of who is responsible, as a name: its first label is what stands before the `@`.
+    /// The mailbox of who is responsible, as a name: its first label is what comes before the `@`.
     pub rname: N,
     /// The version of the zone, which rises with each change (RFC 1982).
     pub serial: Serial,
     /// After how many seconds a secondary asks again.
     pub refresh: U32,
-    /// After how many seconds it does where that failed.
+    /// After how many seconds it does if that failed.
     pub retry: U32,
     /// After how many seconds it gives the zone up.
     pub expire: U32,

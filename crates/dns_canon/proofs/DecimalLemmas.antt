@@ -7,7 +7,7 @@ use Rattle.std.proofs.lemmas.Bool.{agree_below, agree_below_at, and_parts, le-le
 use Rattle.std.proofs.lemmas.Fmt.{decimal_by_steps, decimal_nonempty, length-decimal-le}
 use Rattle.std.proofs.lemmas.List.{length-append}
 use Rattle.dns_wire.specs.Reading.{AreOctets}
-use Rattle.dns_label.specs.Text.{is_plain, SpellsLabel}
+use Rattle.dns_label.specs.Text.{is_unescaped, SpellsLabel}
 use Rattle.dns_label.specs.Text.SpellsLabel.{ended, itself}
 use Rattle.dns_message.proofs.Octets.{no_octets, one_more}
 use Rattle.dns_canon.specs.Generated.{numbered}
@@ -31,17 +31,17 @@ digits_some n small = (decimal_nonempty n (omega (arith, small)), length-decimal
 
 -- ---- plain words
 
--- an octet that stands for itself in text
+-- an octet that represents itself in text
 abbrev pub IsPlain : ℕ → Type 0
-IsPlain octet = (is_plain octet ≡ true) × (octet < 256)
+IsPlain octet = (is_unescaped octet ≡ true) × (octet < 256)
 
-digits_agree : agree_below (λ octet. not (leb 48 octet) || is_plain octet) (λ octet. true) 58 ≡ true
-unfolding is_plain
+digits_agree : agree_below (λ octet. not (leb 48 octet) || is_unescaped octet) (λ octet. true) 58 ≡ true
+unfolding is_unescaped
 digits_agree = refl
 
 digit_plain : (octet : ℕ) → IsDigit octet → IsPlain octet
 digit_plain octet (low, high) =
-    let t : (not (leb 48 octet) || is_plain octet) ≡ true = agree_below_at (λ (o : ℕ). not (leb 48 o) || is_plain o) (λ (o : ℕ). true) 58 octet digits_agree high in
+    let t : (not (leb 48 octet) || is_unescaped octet) ≡ true = agree_below_at (λ (o : ℕ). not (leb 48 o) || is_unescaped o) (λ (o : ℕ). true) 58 octet digits_agree high in
     let from : leb 48 octet ≡ true = le-leb 48 octet low in
     ((rw from at t), omega (arith, high))
 
@@ -70,41 +70,41 @@ plain_octets (octet ∷ text) (one, all) = one_more octet text one.1 (plain_octe
 -- ---- words
 
 abbrev is_word : List ℕ → Bool
-is_word text = list_all (λ octet. is_plain octet && ltb octet 256) text
+is_word text = list_all (λ octet. is_unescaped octet && ltb octet 256) text
 
 -- a word of letters and other plain octets
 pub plain_word : (text : List ℕ) → is_word text ≡ true → AllByRecursion IsPlain text
 plain_word [] e = tt
 plain_word (octet ∷ text) e =
-    let one = and_parts (is_plain octet && ltb octet 256) (is_word text) e in
-    let parts = and_parts (is_plain octet) (ltb octet 256) one.0 in
+    let one = and_parts (is_unescaped octet && ltb octet 256) (is_word text) e in
+    let parts = and_parts (is_unescaped octet) (ltb octet 256) one.0 in
     ((parts.0, ltb-true octet 256 parts.1), plain_word text one.1)
 
 pub h_plain : AllByRecursion IsPlain (codes "h")
-unfolding is_plain
+unfolding is_unescaped
 h_plain = plain_word (codes "h") refl
 
 pub z_plain : AllByRecursion IsPlain (codes "z")
-unfolding is_plain
+unfolding is_unescaped
 z_plain = plain_word (codes "z") refl
 
 pub ns_plain : AllByRecursion IsPlain (codes "ns")
-unfolding is_plain
+unfolding is_unescaped
 ns_plain = plain_word (codes "ns") refl
 
 pub mx_plain : AllByRecursion IsPlain (codes "mx")
-unfolding is_plain
+unfolding is_unescaped
 mx_plain = plain_word (codes "mx") refl
 
 pub t_plain : AllByRecursion IsPlain (codes "t")
-unfolding is_plain
+unfolding is_unescaped
 t_plain = plain_word (codes "t") refl
 
 pub example_plain : AllByRecursion IsPlain (codes "example") × AllByRecursion IsPlain (codes "Example") × AllByRecursion IsPlain (codes "EXAMPLE")
-unfolding is_plain
+unfolding is_unescaped
 example_plain = (plain_word (codes "example") refl, plain_word (codes "Example") refl, plain_word (codes "EXAMPLE") refl)
 
--- a backslash stands for no octet by itself
-pub plain_no_backslash : is_plain 92 ≡ true → ⊥
-unfolding is_plain
+-- a backslash represents no octet by itself
+pub plain_no_backslash : is_unescaped 92 ≡ true → ⊥
+unfolding is_unescaped
 plain_no_backslash e = absurd cc

@@ -8,14 +8,14 @@ use Rattle.std.proofs.lemmas.List.{length-append, drop_all}
 use Rattle.dns_wire.specs.Names.{labels_wire, wire}
 use Rattle.dns_wire.specs.Reading.{AreOctets, Gives, all_of}
 use Rattle.dns_wire.proofs.Walk.{wire_long}
-use Rattle.dns_label.specs.Text.{is_plain}
+use Rattle.dns_label.specs.Text.{is_unescaped}
 use Rattle.dns_record.specs.CharStrs.{charstr_wire}
 use Rattle.dns_record.specs.CharStrTexts.{charstr_of}
 use Rattle.dns_record.specs.Fields.{Field, fields_octets}
 use Rattle.dns_record.specs.Fields.FieldOf.{Raw}
 use Rattle.dns_record.specs.Kinds.{fields_of, no_name}
 use Rattle.dns_record.specs.Formats.{rdata_format}
-use Rattle.dns_record.specs.CharacterStrings.{is_character_strings, is_text_data, character_strings_within}
+use Rattle.dns_record.specs.CharacterStrings.{is_character_strings, is_txt_data, character_strings_within}
 use Rattle.dns_plain.specs.Types.{txt_fields}
 use Rattle.dns_plain.specs.declared.txt.Txt.{Txt}
 use Rattle.dns_message.specs.Canonical.{record_octets}
@@ -77,8 +77,8 @@ mx_short i = host_short (codes "mx") (codes "example") (i % 3) (omega arith) (om
 
 -- ---- the strings in data
 
-pub one_string : (text : List ℕ) → length text ≤ 255 → is_text_data (charstr_wire text) ≡ true
-unfolding is_text_data is_character_strings character_strings_within
+pub one_string : (text : List ℕ) → length text ≤ 255 → is_txt_data (charstr_wire text) ≡ true
+unfolding is_txt_data is_character_strings character_strings_within
 one_string text short =
     let few : ltb 65535 (length (charstr_wire text)) ≡ false = le-ltb _ _ (omega (arith, short)) in
     let fits : ltb (length text) (length text) ≡ false = le-ltb _ _ (omega arith) in
@@ -156,7 +156,7 @@ generated_few i small = (good (i % 4) i small).few
 
 no_backslash : (text : List ℕ) → AllByRecursion IsPlain text → list_any (λ b. b == 92) text ≡ false
 no_backslash [] all = refl
-no_backslash (octet ∷ text) (one, all) = rw (ne_eqb octet 92 (λ e. plain_no_backslash (subst (λ (o : ℕ). is_plain o ≡ true) e one.0)), no_backslash text all) refl
+no_backslash (octet ∷ text) (one, all) = rw (ne_eqb octet 92 (λ e. plain_no_backslash (subst (λ (o : ℕ). is_unescaped o ≡ true) e one.0)), no_backslash text all) refl
 
 pub string_read : (i : ℕ) → i < 65536 → charstr_of (generated_string i) ≡ Ok (generated_string i)
 string_read i small =
@@ -170,6 +170,6 @@ pub strings_read : {E : Type 0} (string octets : List ℕ) (r : Result Txt E) �
     → Gives (λ v. txt_fields v.slice.now) r (all_of (fields_of no_name (rdata_format 16) octets)) → IsOk r
 strings_read string octets (Ok v) is short gives = refl
 strings_read string octets (Err e) is short gives =
-    let good : is_text_data octets ≡ true = ap is_text_data is ∙ one_string string (omega (arith, short, ap length is)) in
+    let good : is_txt_data octets ≡ true = ap is_txt_data is ∙ one_string string (omega (arith, short, ap length is)) in
     let none : all_of (fields_of no_name (rdata_format 16) octets) ≡ Some (Raw octets ∷ []) = rw good refl in
     let never = sym gives ∙ none in absurd cc

@@ -12,7 +12,7 @@ use Rattle.dns_wire.specs.Layout.{list_writes}
 use Rattle.dns_wire.specs.LayoutLemmas.{list_writes-one, list_writes-append}
 use Rattle.dns_record.specs.Fields.{fields_octets}
 use Rattle.dns_message.proofs.Lengths.{canonical_wire_long}
-use Rattle.dns_message.specs.Building.{Draft, drafted, count_in, has_later, pushed, HasRoom, PushAnswers}
+use Rattle.dns_message.specs.Building.{Draft, drafted, count_in, has_later, pushed, HasRoom, PushResults}
 use Rattle.dns_message.specs.Built.{built}
 use Rattle.dns_message.specs.Canonical.{lowercase_names, canonical_wire, is_not_opt, record_octets}
 use Rattle.dns_message.specs.Messages.{RecordValue, Valid, counts_of, records_among}
@@ -87,7 +87,7 @@ has_room n draft fits few made fit =
 
 -- a push that finds room is accepted
 pub accepted : {A : Type 0} (n : ℕ) (draft : Draft) (fits : List ℕ → List ℕ → Type 0) (writes : CompressedWrite) (result : Result A MessageBuildError) → n < 1000 → HasMade n draft → HasRoom fits writes draft
-    → PushAnswers 1 fits writes draft result → IsOk result
+    → PushResults 1 fits writes draft result → IsOk result
 accepted n draft fits writes (Ok done) few made room answers = refl
 accepted n draft fits writes (Err Misplaced) few made room answers = let w = sym made.last ∙ answers in absurd cc
 accepted n draft fits writes (Err TooMany) few made room answers = absurd (omega (arith, few, made.counted, answers.1))
@@ -175,7 +175,7 @@ canonical_wire_short (suc n) first few = by (is_not_opt (generated_record first)
   by true short = omega (arith, short, record_long (generated_record first), generated_short first (omega (arith, few)))
   by false short = omega (arith, short)
 
--- where alike records are dropped there are no more octets
+-- if alike records are dropped there are no more octets
 octets_dropped : (E : RecordValue → RecordValue → Bool) (k : RecordValue) (rs : List RecordValue) → times length (map canonical_wire (dedup_from E k rs)) ≤ length (canonical_wire k) + times length (map canonical_wire rs)
 octets_dropped E k [] = omega arith
 octets_dropped E k (r ∷ rs) = by (E r k) (octets_dropped E k rs) (octets_dropped E r rs) where

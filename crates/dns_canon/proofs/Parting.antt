@@ -5,13 +5,13 @@ use Rattle.std.proofs.lemmas.Bool.{cases_lt}
 use Rattle.std.proofs.lemmas.Bool.Decides.{nat_tests}
 use Rattle.dns_canon.specs.Parts.{before_lf, after_lf, HasNoLF, HasParts}
 
--- ---- where the first LF stands
+-- ---- where the first LF is
 
--- no LF stands before a place
+-- no LF is before a place
 abbrev pub NoneBefore : List ℕ → ℕ → Type 0
 NoneBefore text end = (i : ℕ) → i < end → get_or text i 0 ≢ 10
 
--- the parts at a place where an LF stands, and none before
+-- the parts at a place where there is an LF, and none before
 parts_cut : (text : List ℕ) (end : ℕ) → end < length text → NoneBefore text end → get_or text end 0 ≡ 10
     → (before_lf text ≡ take end text) × (after_lf text ≡ drop (suc end) text)
 unfolding before_lf after_lf
@@ -30,7 +30,7 @@ parts_at text end within none is =
     let next : end + 1 ≡ suc end = omega arith in
     (sym cut.0, take_all (length text - (end + 1)) (drop (end + 1) text) (omega (arith, length-drop (end + 1) text)) ∙ ap (λ (n : ℕ). drop n text) next ∙ sym cut.1)
 
--- where none stands, the first part is the whole
+-- if there is none, the first part is the whole
 parts_whole : (text : List ℕ) (end : ℕ) → length text ≤ end → NoneBefore text end → (before_lf text ≡ text) × (after_lf text ≡ [])
 unfolding before_lf after_lf
 parts_whole [] end past none = (refl, refl)

@@ -9,11 +9,11 @@ use Rattle.dns_wire.specs.LayoutLemmas.{part_matches}
 use Rattle.dns_num.specs.InMessage.{zeros}
 use Rattle.dns_record.specs.Fields.{Field, fields_octets}
 use Rattle.dns_record.specs.Fields.FieldOf.{Compressible, Uncompressed, Raw, Sized, Byte, Number}
-use Rattle.dns_record.specs.InMessage.{fields_write, fields_fit, record_numbers}
+use Rattle.dns_record.specs.InMessage.{fields_write, fields_fit, fixed_header}
 use Rattle.dns_record.specs.declared.record.Record.{Record}
 use Rattle.dns_rdata.specs.Data.{data_fields}
 use Rattle.dns_rdata.specs.declared.record_data.RecordData.{RecordData}
-use Rattle.dns_message.specs.Building.{Draft, pushed, record_fits_in, record_compressed, HasRoom, PushAnswers}
+use Rattle.dns_message.specs.Building.{Draft, pushed, record_fits_in, record_compressed, HasRoom, PushResults}
 use Rattle.dns_message.specs.Built.{field_part, built}
 use Rattle.dns_message.specs.Seen.{data_seen, record_value}
 use Rattle.dns_message.specs.declared.build_error.MessageBuildError.{MessageBuildError}
@@ -75,10 +75,10 @@ module _ (i : ℕ) (r : Found) (few : i < 1000) (is : IsGenerated i r) where
   all_fits : (contents places : List ℕ) → fits contents places
   all_fits contents places =
       let owner = compressed_name_writes r.rname contents places in
-      let at = ((contents ++ owner.0) ++ record_numbers r.rtype.code.value r.rclass.code.value r.ttl.value.value) ++ zeros w16 in
+      let at = ((contents ++ owner.0) ++ fixed_header r.rtype.code.value r.rclass.code.value r.ttl.value.value) ++ zeros w16 in
       (tt, (data_few at owner.1, all_fit (data_fields r.rdata) at owner.1))
 
-  pub push_is_accepted : {A : Type 0} (draft : Draft) (result : Result A MessageBuildError) → HasMade i draft → PushAnswers 1 fits writes draft result → IsOk result
+  pub push_is_accepted : {A : Type 0} (draft : Draft) (result : Result A MessageBuildError) → HasMade i draft → PushResults 1 fits writes draft result → IsOk result
   push_is_accepted draft result made answers =
       let room : HasRoom fits (built (generated_record i)) draft = has_room i draft fits few made (all_fits draft.contents draft.places) in
       accepted i draft fits writes result few made (subst (λ (p : List ℕ → List ℕ → List ℕ × List ℕ). HasRoom fits p draft) (sym writes_is) room) answers

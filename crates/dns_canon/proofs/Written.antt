@@ -8,7 +8,7 @@ use Rattle.dns_wire.specs.Building.{Builds}
 pub is_written : {E : Type 0} (octets old new : List ℕ) (result : Result ℕ E) → length old ≡ length octets
     → Builds ⊤ octets old 0 new result → IsOk result × (new ≡ octets)
 is_written octets old new (Ok end) long built =
-    let stands = built.ok.1 in
-    let none : drop end old ≡ [] = drop_all end old (omega (arith, long, stands.end_is)) in
-    (refl, stands.new_is ∙ ap (λ (rest : List ℕ). octets ++ rest) none ∙ append-nil octets)
+    let occurs = built.ok.1 in
+    let none : drop end old ≡ [] = drop_all end old (omega (arith, long, occurs.end_is)) in
+    (refl, occurs.new_is ∙ ap (λ (rest : List ℕ). octets ++ rest) none ∙ append-nil octets)
 is_written octets old new (Err e) long built = absurd (omega (arith, built.err.2 tt, long))

@@ -1,6 +1,7 @@
 -- What a command calls for, by the text that it reads.
+use Rattle.dns_text.specs.declared.transfer.TheConstants.{MESSAGE_TEXT_LIMIT}
 use Rattle.dns_wire.specs.Octets.{Octets}
-use Rattle.dns_canon.specs.declared.words.TheConstants.{LIMIT, LIMIT_OF_TWO}
+use Rattle.dns_canon.specs.declared.words.TheConstants.{LIMIT_OF_TWO}
 use Rattle.std.specs.Prelude.{ℕ, ◌≤◌, List, [], ◌∷◌, length, map, Option, Some, None, Bool, true, false, nat_lt, if◌then◌else◌}
 use Rattle.dns_wire.specs.Hexadecimal.{Spells}
 use Rattle.dns_text.specs.Endings.{text_if}
@@ -30,7 +31,7 @@ text_read command left = text_if (reads command) left
 
 -- the most octets of the text
 abbrev pub limit_of : Command → ℕ
-limit_of Canon = LIMIT
+limit_of Canon = MESSAGE_TEXT_LIMIT
 limit_of Same = LIMIT_OF_TWO
 limit_of (Make count) = 0
 
@@ -42,7 +43,7 @@ texts_in (Make count) text = []
 
 -- ---- the expected status
 
--- the status of the first message that is not read whole, where there is one
+-- the status of the first message that is not read whole, if there is one
 abbrev pub status_of_first : Option (ℕ × CanonError) → Status
 status_of_first None = Done
 status_of_first (Some (message, error)) = canon_status message error

@@ -10,8 +10,8 @@ use Rattle.dns_message.specs.Messages.{Item, message_reading, records_among}
 use Rattle.dns_message.specs.Messages.Reading.{Whole}
 use Rattle.dns_canon.specs.Generated.{generated}
 
--- The first that many records stand as answers in a buffer of 65,535 octets, and nothing else: their octets are those that are
--- built one after another, and the message is read whole as them, but for ASCII case where it does not count.
+-- The first that many records are the answers in a buffer of 65,535 octets, and nothing else is in it: their octets are those that are
+-- built one after another, and the message is read whole as them, except for ASCII case where it does not count.
 pub record HasMade (count : ℕ) (draft : Draft) : Type 0 where
   pub header : length draft.header ≡ HEADER_SIZE
   pub last : IsFalse (has_later 1 draft.header)

@@ -4,17 +4,17 @@ use Rattle.std.specs.List.{AllByRecursion}
 use Rattle.dns_wire.specs.Octets.{Octets}
 use Rattle.dns_wire.specs.Hexadecimal.{trim}
 
--- what stands before the first LF; where there is none, the whole text
+-- what comes before the first LF; if there is none, the whole text
 unfoldable pub before_lf : Octets → Octets
 before_lf [] = []
 before_lf (b ∷ rest) = if b == 10 then [] else b ∷ before_lf rest
 
--- what stands after the first LF; where there is none, nothing
+-- what comes after the first LF; if there is none, nothing
 unfoldable pub after_lf : Octets → Octets
 after_lf [] = []
 after_lf (b ∷ rest) = if b == 10 then rest else after_lf rest
 
--- the texts of the two messages in a text; blanks at its end do not count
+-- the texts of the two messages in a text; whitespace at its end does not count
 abbrev pub first_text : Octets → Octets
 first_text text = before_lf (trim text)
 
@@ -23,10 +23,10 @@ second_text text = after_lf (trim text)
 
 -- ---- in other words
 
--- no LF stands in the text
+-- there is no LF in the text
 abbrev pub HasNoLF : Octets → Type 0
 HasNoLF text = AllByRecursion (λ b. b ≢ 10) text
 
--- one LF stands between the parts, and none in the first; or none stands in the text, which is the first, and the second is empty
+-- one LF is between the parts, and none in the first; or there is none in the text, which is the first, and the second is empty
 abbrev pub HasParts : Octets → Octets → Octets → Type 0
 HasParts text first second = (HasNoLF first × (text ≡ first ++ 10 ∷ second)) ⊎ (HasNoLF text × (first ≡ text) × (second ≡ []))

@@ -1,5 +1,5 @@
 -- What a run answers, writes and leaves.
-use Rattle.std.specs.Prelude.{◌≡◌, ◌⊎◌, ℕ, List, [], ◌∷◌, ◌++◌, codes, Option, Result, Ok, Err}
+use Rattle.std.specs.Prelude.{◌≡◌, ◌⊎◌, List, [], ◌∷◌, ◌++◌, codes, Option, Result, Ok, Err}
 use Rattle.dns_wire.specs.Octets.{Octets}
 use Rattle.dns_wire.specs.Hexadecimal.{Spells, lines}
 use Rattle.dns_text.specs.Endings.{AllowedAs, EmptiesAs, Rules, WritesAs}
@@ -29,7 +29,7 @@ ended (Err status) = status
 
 -- ---- what is written
 
--- the line on the records of two messages: `same` where they are the same, and else `different`
+-- the line on the records of two messages: `same` if they are the same, and else `different`
 abbrev pub ReportsSameness : List RecordValue → List RecordValue → Octets → Type 0
 ReportsSameness rs ss printed = (AreSame rs ss × (printed ≡ codes "same" ++ 10 ∷ [])) ⊎ (¬ AreSame rs ss × (printed ≡ codes "different" ++ 10 ∷ []))
 
@@ -46,7 +46,7 @@ WritesText command text old new answer = WritesAs (Prints command text) old new 
 
 -- ---- what is left
 
--- where the whole text has been read, nothing of it is left
+-- if the whole text has been read, nothing of it is left
 abbrev pub Empties : Status → Option Octets → Option Octets → Type 0
 Empties answer old new = EmptiesAs (ending_of answer) old new
 

@@ -1,9 +1,9 @@
 -- The words of the command line.
 use Rattle.dns_wire.specs.Octets.{Octets}
 use Rattle.dns_canon.specs.declared.words.TheConstants.{MOST_RECORDS}
-use Rattle.std.specs.Prelude.{ℕ, List, [], ◌∷◌, Option, Some, None, ◌&&◌, codes, decimal, nat_le, bytes_eq, if◌then◌else◌}
+use Rattle.std.specs.Prelude.{ℕ, List, [], ◌∷◌, Option, Some, None, codes, bytes_eq, if◌then◌else◌}
 use Rattle.std.specs.Option.{option_map}
-use Rattle.std.specs.Str.Parse.{digits_value}
+use Rattle.dns_text.specs.Words.{number_within}
 use Rattle.dns_canon.specs.declared.words.Command.{Command}
 use Rattle.dns_canon.specs.declared.words.Command.TheVariants.{Canon, Same, Make}
 
@@ -11,10 +11,9 @@ use Rattle.dns_canon.specs.declared.words.Command.TheVariants.{Canon, Same, Make
 abbrev pub command_named : Octets → Option Command
 command_named word = if bytes_eq word (codes "canon") then Some Canon else if bytes_eq word (codes "same") then Some Same else None
 
--- the number that a word is: at most 1,000, and in its own decimal digits, so that no sign and no zero stands before
+-- the number that a word is: at most 1,000
 abbrev pub number_named : Octets → Option ℕ
-number_named word =
-    if nat_le (digits_value 10 word) MOST_RECORDS && bytes_eq word (decimal (digits_value 10 word)) then Some (digits_value 10 word) else None
+number_named word = number_within MOST_RECORDS word
 
 -- the command of a word and the word after it
 abbrev pub numbered_command : Octets → Octets → Option Command

@@ -1,25 +1,26 @@
 //! The canonical list of a message.
 
-ghost use Rattle.std.specs.Prelude.{◌≡◌, ◌≤◌, ◌⊎◌, ◌↔◌, ℕ, List, map, length, IfOk, IfErr, OnErr, IsNone, IsTrue, slice_get};
+ghost use Rattle.std.specs.Prelude.{◌≡◌, ◌≤◌, ◌⊎◌, ◌↔◌, List, map, length, IfOk, IfErr, OnErr, IsNone, IsTrue, slice_get};
 ghost use Rattle.std.specs.Option.{option_copied};
 ghost use Rattle.dns_message.specs.Refusals.{RefusedAs, RefusedOrMemory};
 ghost use Rattle.dns_message.specs.Canonical.{canonical_wire};
 ghost use Rattle.dns_message.specs.Messages.{RecordValue, Valid};
 ghost use Rattle.dns_message.specs.Order.{canonical_list};
+ghost use Rattle.dns_wire.specs.Octets.{Octets};
 
 use dns_message::{CanonError, CanonicalRecord, collapsed, read_records};
 use dns_wire::BuildBytes;
 use std::alloc::{AllocError, Global};
 use std::marker::Model;
 
-/// The canonical octets of each record of a message other than OPT, in order. Records that are alike stand once, with the least TTL.
+/// The canonical octets of each record of a message other than OPT, in order. Records that are alike occur once, with the least TTL.
 #[derive(Drop)]
 pub struct CanonList {
     lists: Vec<Vec<u8>>,
 }
 
 impl Model for CanonList {
-    ghost Value = { List (List ℕ) };
+    ghost Value = { List Octets };
 
     ghost view = { λ l. map (λ list. list.items) l.lists.items };
 }
@@ -95,8 +96,8 @@ fn all_octets(alloc: Global, records: &[&CanonicalRecord<'_>]) -> Result<Vec<Vec
 }
 
 /// The canonical list of a message (RFC 4034 section 6): the canonical octets of each record other than OPT, in order. Records
-/// that are alike in owner, class, type and data stand once, with the least TTL (RFC 2181 section 5.2). `Short` and `Item`
-/// come exactly where the message calls for them; `Memory` may come in place of any other answer.
+/// that are alike in owner, class, type and data occur once, with the least TTL (RFC 2181 section 5.2). `Short` and `Item`
+/// come exactly if the message calls for them; `Memory` may come in place of any other answer.
 ///
 /// ```
 /// let list = canonicalise(rt.alloc(), &message)?;

@@ -1,19 +1,14 @@
 //! From words and a text to an answer.
 
-ghost use Rattle.std.specs.Prelude.{◌↔◌, true, false, ◌≡◌, ◌≢◌, ◌⊎◌, ◌+◌, ◌≤◌, List, [], ◌∷◌, ◌++◌, ℕ, codes, length, map, Some, None, IfOk, IfErr, IfSome, OnOk, IsOk, IsErr, MatchResult};
+ghost use Rattle.std.specs.Prelude.{◌↔◌, true, false, ◌≡◌, ◌≢◌, ◌⊎◌, ◌+◌, ◌≤◌, [], ◌∷◌, ◌++◌, ℕ, codes, length, map, Some, None, IfOk, IfErr, IfSome, OnOk, IsOk, IsErr, MatchResult};
 ghost use Rattle.dns_wire.specs.Outside.{Rose, HasCause, BecomesFlag, WritesPrefix, Puts};
 ghost use Rattle.std.specs.Io.KnownBytes.{Appends};
-ghost use Rattle.dns_message.specs.Messages.{RecordValue, Valid};
 ghost use Rattle.dns_message.specs.Order.{sort_key};
-ghost use Rattle.std.specs.Prelude.{filter};
-ghost use Rattle.dns_message.specs.Canonical.{is_not_opt};
-ghost use Rattle.dns_message.specs.Refusals.{RefusedOrMemory};
 ghost use Rattle.dns_canon.specs.Run.{AllowedStatus, ended, Prints, WritesText, Empties};
-ghost use Rattle.dns_canon.specs.Statuses.{canon_status, note_of};
+ghost use Rattle.dns_canon.specs.Statuses.{note_of};
 ghost use Rattle.dns_text.specs.Taken.{TakesAtMost};
 ghost use Rattle.dns_canon.specs.ExpectedStatus.{reads, text_read, limit_of, expected_status};
 ghost use Rattle.dns_canon.specs.Words.{command_of};
-ghost use Rattle.dns_message.specs.declared.canon_error.CanonError.{CanonError};
 ghost use Rattle.dns_canon.specs.declared.words.TheConstants.{MOST_RECORDS};
 
 use crate::lines::{LineBuffer, put_records};
@@ -21,9 +16,11 @@ use crate::make::make_text;
 use crate::message::records_of;
 use crate::parts::parted;
 use crate::status::Status;
-use crate::words::{Command, LIMIT, LIMIT_OF_TWO, Words};
+use crate::words::{Command, LIMIT_OF_TWO, Words};
 use dns_message::{CanonicalRecord, collapsed};
-use dns_text::{Notice, READ_CHUNK, octets_of, put_notice, put_text, read_text};
+use dns_text::{
+    MESSAGE_TEXT_LIMIT, Notice, READ_CHUNK, octets_of, put_notice, put_text, read_text,
+};
 use dns_wire::{Failed, Sink, Source};
 use std::alloc::Global;
 
@@ -39,7 +36,7 @@ fn sameness(records: &[&CanonicalRecord<'_>], others: &[&CanonicalRecord<'_>]) -
     }
 }
 
-/// The line for the text of two messages: `same` where they carry the same records, and else `different`.
+/// The line for the text of two messages: `same` if they carry the same records, and else `different`.
 fn same_line(alloc: Global, text: &[u8]) -> Result<&'static [u8], Status>
     requires within { length text.now ≤ LIMIT_OF_TWO }
     ensures ok { IfOk result (λ printed. (expected_status (Some Command.Same) text.now ≡ Status.Done) × Prints Command.Same text.now printed.now) }
@@ -68,7 +65,7 @@ fn written(put: Result<(), Failed>) -> Result<(), Status>
 
 /// Writes the lines for the text of one message.
 fn put_canon<K: Sink>(alloc: Global, text: &[u8], sink: &mut K) -> Result<(), Status>
-    requires within { length text.now ≤ LIMIT }
+    requires within { length text.now ≤ MESSAGE_TEXT_LIMIT }
     ensures ok { OnOk result (expected_status (Some Command.Canon) text.now ≡ Status.Done) }
     ensures err { IfErr result (λ status. AllowedStatus (expected_status (Some Command.Canon) text.now) status) }
     ensures refused { (result ≢ Err Status.Done) × (result ≢ Err Status.ReadFault) × (result ≢ Err Status.Usage) }
@@ -109,7 +106,7 @@ fn carry_out<S: Source, K: Sink>(
     ensures taken { TakesAtMost (S.left source.old) (S.left source.new) (limit_of command + READ_CHUNK) }
 {
     match command {
-        Command::Canon => put_canon(alloc, &read_text(alloc, source, LIMIT)?, sink),
+        Command::Canon => put_canon(alloc, &read_text(alloc, source, MESSAGE_TEXT_LIMIT)?, sink),
         Command::Same => {
             let line = same_line(alloc, &read_text(alloc, source, LIMIT_OF_TWO)?)?;
             written(put_text(sink, line))
@@ -122,7 +119,7 @@ fn carry_out<S: Source, K: Sink>(
 }
 
 /// Answers the words, and writes what their command prints.
-fn answer<S: Source, K: Sink>(alloc: Global, words: &Words, source: &mut S, sink: &mut K) -> Status
+fn execute<S: Source, K: Sink>(alloc: Global, words: &Words, source: &mut S, sink: &mut K) -> Status
     ensures usage { (result ≡ Status.Usage) ↔ (command_of words.now ≡ None) }
     ensures expected_status { IfSome (text_read (command_of words.now) (S.left source.old)) (λ t. AllowedStatus (expected_status (command_of words.now) t) result) }
     ensures read_fault { result ≡ Status.ReadFault → Rose (S.faults source.old) (S.faults source.new) }
@@ -197,7 +194,7 @@ pub fn run<S: Source, K: Sink, N: Sink>(
     // The answer is what the text calls for, or one that may come in its place.
     ensures expected_status { IfSome (text_read (command_of words.now) (S.left source.old)) (λ t. AllowedStatus (expected_status (command_of words.now) t) result) }
 
-    // A fault is answered exactly where its device has counted one, and a fault of the source only where
+    // A fault is answered exactly if its device has counted one, and a fault of the source only if
     // the command reads. A count at its last value stays.
     ensures read_fault { result ≡ Status.ReadFault → Rose (S.faults source.old) (S.faults source.new) }
     ensures read_steady { (result ≢ Status.ReadFault) → S.faults source.new ≡ S.faults source.old }
@@ -205,7 +202,7 @@ pub fn run<S: Source, K: Sink, N: Sink>(
     ensures write_fault { result ≡ Status.WriteFault → Rose (K.faults sink.old) (K.faults sink.new) }
     ensures write_steady { (result ≢ Status.WriteFault) → K.faults sink.new ≡ K.faults sink.old }
 
-    // With no fault of the sink, nor of the source where the command reads, the answer is what the text
+    // With no fault of the sink, nor of the source if the command reads, the answer is what the text
     // calls for, or memory was refused.
     ensures complete { (reads (command_of words.now) ≡ true → Rose (S.faults source.old) (S.faults source.new) → ⊥) → (Rose (K.faults sink.old) (K.faults sink.new) → ⊥)
         → IfSome (text_read (command_of words.now) (S.left source.old)) (λ t. (result ≡ expected_status (command_of words.now) t) ⊎ (result ≡ Status.Memory)) }
@@ -216,7 +213,7 @@ pub fn run<S: Source, K: Sink, N: Sink>(
     ensures unwritten { (result ≢ Status.Done) → (result ≢ Status.WriteFault) → sink.new ≡ sink.old }
     ensures flushed { result ≡ Status.Done → BecomesFlag (K.is_flushed sink.old) (K.is_flushed sink.new) true }
 
-    // What is left. No read comes once the limit is passed.
+    // What is left: at most the limit and one read are taken.
     ensures unread { reads (command_of words.now) ≡ false → source.new ≡ source.old }
     ensures emptied { reads (command_of words.now) ≡ true → Empties result (S.left source.old) (S.left source.new) }
     ensures taken { IfSome (command_of words.now) (λ command. TakesAtMost (S.left source.old) (S.left source.new) (limit_of command + READ_CHUNK)) }
@@ -227,7 +224,7 @@ pub fn run<S: Source, K: Sink, N: Sink>(
     ensures reported_whole { (Rose (N.faults notes.old) (N.faults notes.new) → ⊥)
         → Appends (N.written notes.old) (N.written notes.new) (note_of result) }
 {
-    let status = answer(alloc, words, source, sink);
+    let status = execute(alloc, words, source, sink);
     // A fault of the notes changes no answer.
     let _ = report(notes, status);
     status

@@ -14,10 +14,10 @@ mod words;
 pub use canonical::{CanonList, canonicalise};
 pub use command::run;
 pub use dns_message::CanonError;
-pub use dns_text::READ_CHUNK;
+pub use dns_text::{MESSAGE_TEXT_LIMIT, READ_CHUNK};
 pub use laws::{
-    answers_on_sameness, equal_lines, equal_statuses, expected_statuses_in_words, parted_texts,
-    words_of_commands,
+    equal_lines, equal_statuses, expected_statuses_in_words, limits, parted_texts,
+    sameness_in_words, words_of_commands,
 };
 pub use status::Status;
-pub use words::{Command, LIMIT, LIMIT_OF_TWO, MOST_RECORDS, Words};
+pub use words::{Command, LIMIT_OF_TWO, MOST_RECORDS, Words};

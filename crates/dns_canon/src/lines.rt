@@ -17,7 +17,7 @@ const MOST_OCTETS: usize = CanonicalRecord::MAX_SIZE;
 /// The most octets of a line: two digits for each of those, and LF.
 const MOST_LINE: usize = 2 * MOST_OCTETS + 1;
 
-/// Writes the line of some octets after what stands before a place of the text, where there is room for it.
+/// Writes the line of some octets after what comes before a place of the text, if there is room for it.
 fn write_line(text: &mut [u8], start: usize, octets: &[u8])
     requires { start + 2 * length octets.now < length text.old }
     ensures { take (start + 2 * length octets.now + 1) text.new ≡ take start text.old ++ line octets.now }

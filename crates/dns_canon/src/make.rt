@@ -12,7 +12,7 @@ ghost use Rattle.dns_canon.specs.declared.words.TheConstants.{MOST_RECORDS};
 use crate::message::records_of;
 use crate::status::Status;
 use dns_basic::{Mx, Ns};
-use dns_message::{CanonicalRecord, HeaderFlags, MessageBuilder, collapsed};
+use dns_message::{CanonicalRecord, HeaderFlags, MAX_MESSAGE_SIZE, MessageBuilder, collapsed};
 use dns_name::NameBuf;
 use dns_num::U16;
 use dns_plain::{A, Txt};
@@ -21,9 +21,6 @@ use dns_record::{CharStrBuf, RClass, Record, TTL};
 use dns_wire::{NameCompressor, ParseBytes};
 use std::alloc::{AllocError, Global};
 
-/// The most octets of a message (RFC 1035 section 4.2.2).
-const MESSAGE_LIMIT: usize = 65_535;
-
 /// The line on the message of that many generated records, at most 1,000: how many records its canonical list has, how many octets
 /// these have, and how many the message has, whose names are shared.
 pub(crate) fn make_text(alloc: Global, count: u16) -> Result<Vec<u8>, Status>
@@ -31,7 +28,7 @@ pub(crate) fn make_text(alloc: Global, count: u16) -> Result<Vec<u8>, Status>
     ensures ok { IfOk result (λ printed. printed.items ≡ made_line count) }
     ensures err { IfErr result (λ status. status ≡ Status.Memory) }
 {
-    let mut buffer = vec![in alloc; 0; MESSAGE_LIMIT]?;
+    let mut buffer = vec![in alloc; 0; MAX_MESSAGE_SIZE]?;
     let mut compressor = NameCompressor::new();
     let (id, flags) = (U16::new(0), HeaderFlags::from_bits(0));
     let mut builder = MessageBuilder::new(&mut buffer, &mut compressor, id, flags);

@@ -5,8 +5,8 @@ ghost use Rattle.dns_canon.specs.Parts.{first_text, second_text};
 
 use dns_text::trimmed;
 
-/// The texts of two messages in a text, which stand before and after its first LF; blanks at its end do
-/// not count. Where there is no LF, the second is empty.
+/// The texts of two messages in a text, which come before and after its first LF; whitespace at its end does
+/// not count. If there is no LF, the second is empty.
 pub(crate) fn parted(text: &[u8]) -> (&[u8], &[u8])
     ensures first { result.0.now ≡ first_text text.now }
     ensures second { result.1.now ≡ second_text text.now }

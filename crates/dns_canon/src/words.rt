@@ -1,13 +1,11 @@
 //! The words of the command line.
 
-ghost use Rattle.std.specs.Prelude.{◌≡◌, ℕ, List, map, string_bytes};
-ghost use Rattle.dns_canon.specs.Words.{command_named, command_of, number_named, numbered_command};
+ghost use Rattle.std.specs.Prelude.{◌≡◌, List, map, string_bytes};
+ghost use Rattle.dns_canon.specs.Words.{command_named, command_of, numbered_command};
+ghost use Rattle.dns_wire.specs.Octets.{Octets};
 
-use itoa::Buffer;
+use dns_text::number_within;
 use std::marker::Model;
-
-/// The most octets of the text of one message.
-pub const LIMIT: usize = 131_072;
 
 /// The most octets of the text of two messages.
 pub const LIMIT_OF_TWO: usize = 262_144;
@@ -27,7 +25,7 @@ pub enum Command {
 }
 
 impl Command {
-    /// The command of one word; none where the word is no command.
+    /// The command of one word; `None` if the word is no command.
     fn named(word: &str) -> Option<Command>
         ensures { result ≡ command_named word.now }
     {
@@ -38,30 +36,16 @@ impl Command {
         }
     }
 
-    /// The command of a word and the word after it; none where they are no command.
+    /// The command of a word and the word after it; `None` if they are no command.
     fn numbered(word: &str, number: &str) -> Option<Command>
         ensures { result ≡ numbered_command word.now number.now }
     {
         if word != "make" {
             return None;
         }
-        let count = count_named(number)?;
+        let count = number_within(number, MOST_RECORDS)?;
         Some(Command::Make { count })
     }
-}
-
-/// How many records a word asks for: a number from 0 to 1,000 in decimal digits, without a sign or a zero before.
-fn count_named(word: &str) -> Option<u16>
-    ensures { result ≡ number_named word.now }
-{
-    let Ok(count) = word.parse::<u16>() else {
-        return None;
-    };
-    let mut buffer = Buffer::new();
-    if count > MOST_RECORDS || buffer.format(count) != word {
-        return None;
-    }
-    Some(count)
 }
 
 /// The words of the command line, without the program's own name.
@@ -71,7 +55,7 @@ pub struct Words {
 }
 
 impl Model for Words {
-    ghost Value = { List (List ℕ) };
+    ghost Value = { List Octets };
 
     ghost view = { λ w. map string_bytes w.words.items };
 }
@@ -84,7 +68,7 @@ impl Words {
         Words { words }
     }
 
-    /// The command that the words are; none where they are no command.
+    /// The command that the words are; `None` if they are no command.
     pub fn command(&self) -> Option<Command>
         ensures { result ≡ command_of self.now }
     {

@@ -54,7 +54,7 @@ fn push_items(builder: &mut MessageBuilder<'_>, message: &[u8]) -> bool {
     true
 }
 
-/// The message of the items of another, in hexadecimal; empty where they are refused.
+/// The message of the items of another, in hexadecimal; empty if they are refused.
 fn built_again(alloc: Global, message: &[u8]) -> Result<String, AllocError> {
     let mut buffer = vec![in alloc; 0u8; LARGEST]?;
     let mut names = NameCompressor::new();

@@ -24,7 +24,7 @@ fn append_line(alloc: Global, lines: &mut Vec<u8>, octets: &[u8]) -> Result<(), 
     Ok(())
 }
 
-/// The number, where two octets hold it.
+/// The number, if two octets hold it.
 fn in_two_octets(number: usize) -> u16 {
     u16::try_from(number).unwrap_or(u16::MAX)
 }

@@ -1,5 +1,5 @@
 //! Answers cases: each line of standard input is a case, and what `dns_canon::run` does for it is printed. A case is a
-//! kind, a name and the fields of the kind, with a blank between two. A line that begins with a number sign is a
+//! kind, a name and the fields of the kind, with a space between two. A line that begins with a number sign is a
 //! comment.
 #![tactic(auto)]
 

@@ -29,7 +29,7 @@ impl Devices {
     }
 }
 
-/// The words of a command line, with a blank between two.
+/// The words of a command line, with a space between two.
 pub(crate) fn words_of(alloc: Global, line: &str) -> Result<Words, AllocError> {
     let mut words = Vec::new(alloc);
     for word in line.split(' ') {
@@ -70,7 +70,7 @@ fn holds_text(sink: &TextSink<'_>, wanted: &[u8], flushed: bool) -> bool {
 /// How a run is to end, what is to be written, and the line on the notes.
 pub(crate) type Wanted<'a> = (Status, &'a [u8], &'a [u8]);
 
-/// Whether the words for a text end as wanted over these devices, and the sink is flushed where all is done.
+/// Whether the words for a text end as wanted over these devices, and the sink is flushed if all is done.
 pub(crate) fn answers(
     alloc: Global,
     line: &str,

@@ -51,7 +51,7 @@ fn each_read_of_same_fails_in_turn(rt: HostRuntime) {
     }
 }
 
-/// Whether `canon` for these digits, in pieces of 4,096, ends as wanted where the source fails at a call.
+/// Whether `canon` for these digits, in pieces of 4,096, ends as wanted if the source fails at a call.
 fn ends_for_digits(alloc: Global, digits: &[u8], call: u64, wanted: Wanted<'_>) -> bool {
     let devices = Devices::failing_at([4096, 64, 64], [call, NEVER, NEVER]);
     let text = str::from_utf8(digits).unwrap_or("");
@@ -97,7 +97,7 @@ fn ends_at_write(
     answers(alloc, line, text, devices, wanted)
 }
 
-/// 152 octets in pieces of seven take 22 writes, and another call flushes: where that fails, all lines are written.
+/// 152 octets in pieces of seven take 22 writes, and another call flushes: if that fails, all lines are written.
 #[test]
 fn each_write_of_canon_fails_in_turn(rt: HostRuntime) {
     for call in 0..24 {
@@ -218,10 +218,10 @@ fn notes_that_fail_change_no_answer(rt: HostRuntime) {
     }
 }
 
-/// The worked rows of devices: nothing to write and a fault at the flush, a fault at the second write, a sink that is full
+/// Cases of devices: nothing to write and a fault at the flush, a fault at the second write, a sink that is full
 /// after ten octets, and a fault at the first read.
 #[test]
-fn worked_cases_of_devices(rt: HostRuntime) {
+fn device_cases(rt: HostRuntime) {
     let lines = ORDINARY_REPLY_LINES.as_bytes();
     let cases: [(&str, &str, u64, u64, usize, usize); 4] = [
         ("write-fault-at-flush", HEADER, NEVER, 0, 200, 0),

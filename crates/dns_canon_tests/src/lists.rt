@@ -1,7 +1,7 @@
 //! Canonical lists of messages, as values.
 
 use dns_canon::{
-    CanonError, answers_on_sameness, canonicalise, expected_statuses_in_words, parted_texts,
+    CanonError, canonicalise, expected_statuses_in_words, parted_texts, sameness_in_words,
     words_of_commands,
 };
 use std::alloc::Global;
@@ -125,6 +125,6 @@ fn compares_canonical_lists(rt: HostRuntime) {
 fn states_theorems() {
     expected_statuses_in_words();
     words_of_commands();
-    answers_on_sameness();
+    sameness_in_words();
     parted_texts();
 }

@@ -90,7 +90,7 @@ fn rewrites_record(octets: &[u8], wanted: &[u8]) -> bool {
     }
 }
 
-/// Whether a record with an owner of its own ends at an offset.
+/// Whether a record with its own owner ends at an offset.
 fn ends_record(contents: &[u8], wanted: usize) -> bool {
     match split_at::<Record<NameBuf, UnparsedRecordData<'_>>>(contents, 0) {
         Some((record, end)) => {

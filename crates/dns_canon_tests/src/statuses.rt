@@ -1,7 +1,7 @@
 //! Codes and printed texts of statuses, commands and limits.
 
 use crate::answers::words_of;
-use dns_canon::{Command, LIMIT, LIMIT_OF_TWO, MOST_RECORDS, READ_CHUNK, Status};
+use dns_canon::{Command, LIMIT_OF_TWO, MESSAGE_TEXT_LIMIT, MOST_RECORDS, READ_CHUNK, Status};
 use std::alloc::Global;
 
 #[test]
@@ -53,6 +53,11 @@ fn words_name_commands(rt: HostRuntime) {
 
 #[test]
 fn keeps_limits(rt: HostRuntime) {
-    let limits = (LIMIT, LIMIT_OF_TWO, usize::from(MOST_RECORDS), READ_CHUNK);
+    let limits = (
+        MESSAGE_TEXT_LIMIT,
+        LIMIT_OF_TWO,
+        usize::from(MOST_RECORDS),
+        READ_CHUNK,
+    );
     assert!(rt; limits == (131_072, 262_144, 1000, 4096), "limits");
 }

@@ -73,7 +73,7 @@ pub(crate) fn octets_left<'a, D: SplitBytes<'a> + BuildBytes>(octets: &'a [u8]) 
     }
 }
 
-/// Whether data stand from the place to the end of the contents, and are written as the octets.
+/// Whether data go from the place to the end of the contents, and are written as the octets.
 pub(crate) fn parses_at<'a, D: ParseMessageBytes<'a> + BuildBytes>(
     contents: &'a [u8],
     place: usize,
@@ -85,7 +85,7 @@ pub(crate) fn parses_at<'a, D: ParseMessageBytes<'a> + BuildBytes>(
     }
 }
 
-/// Whether data of the type stand from the place to the end of the contents, and are written as the octets.
+/// Whether data of the type go from the place to the end of the contents, and are written as the octets.
 pub(crate) fn parses_as_at<'a, D: ParseRecordData<'a> + BuildBytes>(
     contents: &'a [u8],
     place: usize,
@@ -122,7 +122,7 @@ pub(crate) fn forms<'a, D: ParseBytes<'a> + ParseRecordDataBytes<'a> + BuildByte
     ]
 }
 
-/// The same of the contents of a message from the place on, where the data are written as the octets.
+/// The same of the contents of a message from the place on, if the data are written as the octets.
 pub(crate) fn forms_at<'a, D: ParseMessageBytes<'a> + ParseRecordData<'a> + BuildBytes>(
     contents: &'a [u8],
     place: usize,

@@ -104,7 +104,7 @@ fn last_place(octets: &[u8]) -> usize {
     64usize.saturating_sub(octets.len())
 }
 
-/// Whether the value is written as these octets where there is just room for them.
+/// Whether the value is written as these octets if there is just room for them.
 pub(crate) fn writes<T: BuildBytes>(value: &T, octets: &[u8]) -> bool {
     let start = last_place(octets);
     let mut buffer = [0; 64];
@@ -114,7 +114,7 @@ pub(crate) fn writes<T: BuildBytes>(value: &T, octets: &[u8]) -> bool {
     }
 }
 
-/// The same in a message, where no place of a name is kept.
+/// The same in a message, if no place of a name is kept.
 pub(crate) fn writes_in_message<T: BuildInMessage>(value: &T, octets: &[u8]) -> bool {
     let start = last_place(octets);
     let mut buffer = [0; 64];
@@ -162,7 +162,7 @@ pub(crate) fn are_same<T: PartialEq + Hash>(one: &T, other: &T) -> bool {
     one == other && hash_of(one) == hash_of(other)
 }
 
-/// Whether values of these octets are equal and feed a hasher alike; no answer where they are refused.
+/// Whether values of these octets are equal and feed a hasher alike; no answer if they are refused.
 pub(crate) fn are_alike<'a, T>(one: &'a [u8], other: &'a [u8]) -> Option<bool>
 where
     T: ParseBytes<'a> + PartialEq + Hash,

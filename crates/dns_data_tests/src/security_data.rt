@@ -61,7 +61,7 @@ fn read_forms(kind: &str, contents: &[u8], start: usize, number: u16) -> [bool; 
     }
 }
 
-/// Whether no call reads the contents after their first octet where they are cut at any place, the first one included.
+/// Whether no call reads the contents after their first octet if they are cut at any place, the first one included.
 fn refuses_all_prefixes(kind: &str, contents: &[u8], number: u16) -> bool {
     for size in 0..contents.len() {
         let is_refused = match contents.get(..size) {
@@ -76,14 +76,14 @@ fn refuses_all_prefixes(kind: &str, contents: &[u8], number: u16) -> bool {
 }
 
 /// Whether the contents after their first octet are read as data of the type of this number and of no other, and
-/// refused where they are cut at any place.
+/// refused if they are cut at any place.
 fn reads_no_less(kind: &str, contents: &[u8], number: u16) -> bool {
     read_forms(kind, contents, 1, number) == [true; 4]
         && read_forms(kind, contents, 1, 2) == [true, true, false, false]
         && refuses_all_prefixes(kind, contents, number)
 }
 
-/// The least data of some types after one octet: the last field is empty where it may be.
+/// The least data of some types after one octet: the last field is empty if it may be.
 #[test]
 fn least_data_are_read(rt: HostRuntime) {
     let signature: &[u8] = b".\0\x01\x05\x03\0\x01\x51\x80\0\0\0\x02\0\0\0\x01\x0a\x52\x01a\0";

@@ -46,7 +46,7 @@ fn changed_owner_flags(octet: &[u8], opt_out: bool) -> Option<u8> {
     }
 }
 
-/// Whether names without security may stand between the owners, by the flags of this octet.
+/// Whether names without security may be between the owners, by the flags of this octet.
 fn opts_out(octet: &[u8]) -> Option<bool> {
     match Nsec3Flags::parse_bytes(octet) {
         Ok(flags) => Some(flags.is_optout()),
@@ -69,7 +69,7 @@ fn is_dnssec_ok(octets: &[u8]) -> Option<bool> {
     }
 }
 
-/// Whether the flags with the bit DO stand as these octets.
+/// Whether the flags with the bit DO are read from, and written as, these octets.
 fn is_do(contents: &[u8], octets: &[u8]) -> bool {
     let flags = EdnsFlags::default().set_dnssec_ok(true);
     reads(contents, &flags) && writes(&flags, octets) && writes_in_message(&flags, octets)

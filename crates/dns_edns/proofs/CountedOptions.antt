@@ -10,7 +10,7 @@ pub record OptionsLeft (bytes rest : List ℕ) : Type 0 where
   pub enough : length rest < steps
   pub same : are_some (options_within steps rest) ≡ is_options bytes
 
--- the others are options where all are
+-- the others are options if all are
 others_are : (o : OptionSeen) (read : Option (List OptionSeen)) → are_some (◌>>=◌ {B = List OptionSeen} read (λ others. Some (o ∷ others))) ≡ are_some read
 others_are o None = refl
 others_are o (Some others) = refl

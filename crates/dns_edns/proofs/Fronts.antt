@@ -11,7 +11,7 @@ module _ {a : ℕ} (k : ℕ) (zeros prefix part : List ℕ) (long : length prefi
       take-put_mid a k (prefix ++ zeros) part n end (omega (arith, length-append prefix zeros))
       ∙ ap (λ (l : List ℕ). l ++ part) (take_at prefix zeros a long)
 
-  -- where nothing is after it
+  -- if nothing is after it
   pub filled : drop k zeros ≡ [] → put_mid a k (prefix ++ zeros) part ≡ prefix ++ part
   filled none =
       ap (λ (l : List ℕ). l ++ (part ++ drop k (drop a (prefix ++ zeros)))) (take_at prefix zeros a long)

@@ -4,7 +4,7 @@ use Rattle.std.specs.Prelude.{nat_lt, ◌||◌}
 use Rattle.std.specs.Int.{w32, to_be_bytes, from_be_bytes}
 use Rattle.std.proofs.lemmas.List.{take_at, drop_at, drop-drop, length-append, append_assoc, append-nil, get_or-append_right}
 use Rattle.std.proofs.lemmas.Nat.{from_be_bytes-to_be_bytes_4}
-use Rattle.dns_wire.specs.Building.{Stands}
+use Rattle.dns_wire.specs.Building.{Occurs}
 use Rattle.dns_wire.specs.Reading.{all_of}
 use Rattle.dns_edns.specs.Cookies.{cookie, IsWithin, IsTaken, unhashed, response, version_in, timestamp_in, hash_in}
 
@@ -38,7 +38,7 @@ taken hash client time address from until long short eight within =
       hashed = ap (λ (l : List ℕ). hash (l ++ address)) (take_at prefix hashed 16 (sixteen client time hashed long)) ∙ sym trailing;
     }
 
--- where a cookie has the octets of one that was given, it is taken exactly within the time
+-- if a cookie has the octets of one that was given, it is taken exactly within the time
 pub taken_within : (hash : List ℕ → List ℕ) (client : List ℕ) (time : ℕ) (address : List ℕ) (from until : ℕ) (octets : List ℕ) → length client ≡ 8 → time < 2 ^ 32 → length (response hash client time address) ≡ 24
     → octets ≡ response hash client time address → (IsTaken hash address from until octets → IsWithin from until time) × (IsWithin from until time → IsTaken hash address from until octets)
 taken_within hash client time address from until octets long short whole same =
@@ -49,9 +49,9 @@ taken_within hash client time address from until octets long short whole same =
     )
 
 -- what fills the whole buffer
-pub fills : (octets old new : List ℕ) (end : ℕ) → Stands octets old 0 new end → length old ≡ length octets → new ≡ octets
-fills octets old new end stands same =
-    stands.new_is ∙ ap (λ (l : List ℕ). octets ++ l) (nothing end old (omega (arith, stands.end_is, same))) ∙ append-nil octets where
+pub fills : (octets old new : List ℕ) (end : ℕ) → Occurs octets old 0 new end → length old ≡ length octets → new ≡ octets
+fills octets old new end occurs same =
+    occurs.new_is ∙ ap (λ (l : List ℕ). octets ++ l) (nothing end old (omega (arith, occurs.end_is, same))) ∙ append-nil octets where
       nothing : (n : ℕ) (l : List ℕ) → length l ≤ n → drop n l ≡ []
       nothing zero [] all = refl
       nothing zero (x ∷ l) all = absurd (omega arith)

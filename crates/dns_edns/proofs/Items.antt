@@ -5,7 +5,7 @@ use Rattle.dns_record.specs.Options.{OptionSeen, option, options_within, options
 use Rattle.dns_record.proofs.Opted.{option_shorter}
 use Rattle.dns_record.proofs.Stepped.{Stepped, stepped}
 use Rattle.std.specs.Prelude.{map}
-use Rattle.dns_edns.specs.Suiting.{Suited, suited, item_of, or_as_it_stands, items_in, then_options, options_up_to, options_in}
+use Rattle.dns_edns.specs.Suiting.{Suited, suited, item_of, or_unchanged, items_in, then_options, options_up_to, options_in}
 
 -- more steps than octets change nothing
 enough_steps : (steps others : ℕ) (bytes : List ℕ) → length bytes ≤ steps → length bytes ≤ others → options_up_to steps bytes ≡ options_up_to others bytes
@@ -36,9 +36,9 @@ unfolding options_in options_up_to
 no_option [] e = refl
 no_option (x ∷ more) e = ap (then_options (λ (l : List ℕ). options_up_to (length more) l)) e
 
-pub first_item : (bytes : List ℕ) (found : OptionSeen) (rest : List ℕ) (what : Option Suited) → option bytes ≡ Some (found, rest) → suited found.code found.content ≡ what → items_in bytes ≡ or_as_it_stands found what ∷ items_in rest
+pub first_item : (bytes : List ℕ) (found : OptionSeen) (rest : List ℕ) (what : Option Suited) → option bytes ≡ Some (found, rest) → suited found.code found.content ≡ what → items_in bytes ≡ or_unchanged found what ∷ items_in rest
 first_item bytes found rest what e is =
-    ap (map item_of) (first_option bytes found rest e) ∙ ap (λ (w : Option Suited). or_as_it_stands found w ∷ items_in rest) is
+    ap (map item_of) (first_option bytes found rest e) ∙ ap (λ (w : Option Suited). or_unchanged found w ∷ items_in rest) is
 
 pub no_item : (bytes : List ℕ) → option bytes ≡ None → items_in bytes ≡ []
 no_item bytes e = ap (map item_of) (no_option bytes e)
@@ -55,7 +55,7 @@ spelled_are (suc steps) (x ∷ bytes) found e =
     let t : Stepped (options_within steps s.value.1) (λ others. Some (s.value.0 ∷ others)) found = stepped _ _ _ s.later in
     first_option (x ∷ bytes) s.value.0 s.value.1 s.first ∙ ap (λ (l : List OptionSeen). s.value.0 ∷ l) (spelled_are steps s.value.1 t.value t.first) ∙ some_is t.later
 
--- where all the octets are options, they are those that are gone over
+-- if all the octets are options, they are those that are gone over
 pub all_gone_over : (bytes : List ℕ) → is_options bytes ≡ true → options_of bytes ≡ Some (options_in bytes)
 unfolding is_options options_of
 all_gone_over bytes are = by (options_of bytes) refl are where

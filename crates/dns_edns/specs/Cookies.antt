@@ -27,7 +27,7 @@ hash_in octets = drop 16 octets
 
 -- ---- what a server gives and takes (RFC 9018 section 4)
 
--- what stands before the hash: the cookie of the client, version 1, three zeros and the time
+-- what comes before the hash: the cookie of the client, version 1, three zeros and the time
 abbrev pub unhashed : Octets → ℕ → Octets
 unhashed client time = client ++ 1 ∷ 0 ∷ 0 ∷ 0 ∷ to_be_bytes w32 time
 

@@ -25,7 +25,7 @@ pub data Suited : Type 0 where
 abbrev pub cookies : Octets → Option Suited
 cookies content = if length content == 8 then Some (OfClient content) else option_map OfServer (all_of (cookie content))
 
--- data that suit their code: 10 is a cookie, 15 an extended error, and data of any other code are kept as they stand
+-- data that suit their code: 10 is a cookie, 15 an extended error, and data of any other code are kept unchanged
 abbrev pub suited : ℕ → Octets → Option Suited
 suited code content =
     if code == 10 then cookies content
@@ -62,13 +62,13 @@ seen_option (Unknown code v) = OfOther code.code.value v.octets.now
 
 -- ---- options one after another
 
-abbrev pub or_as_it_stands : OptionSeen → Option Suited → Result Suited OptionSeen
-or_as_it_stands found None = Err found
-or_as_it_stands found (Some what) = Ok what
+abbrev pub or_unchanged : OptionSeen → Option Suited → Result Suited OptionSeen
+or_unchanged found None = Err found
+or_unchanged found (Some what) = Ok what
 
--- what an option is: its data where they suit its code, and else the option as it stands
+-- what an option is: its data if they suit its code, and else the option unchanged
 abbrev pub item_of : OptionSeen → Result Suited OptionSeen
-item_of found = or_as_it_stands found (suited found.code found.content)
+item_of found = or_unchanged found (suited found.code found.content)
 
 abbrev pub then_options : (Octets → List OptionSeen) → Option (OptionSeen × Octets) → List OptionSeen
 then_options more None = []

@@ -28,7 +28,7 @@ impl ClientCookie {
     /// Writes the cookie that a server gives for this one at a place of the buffer, and gives the place where it ends:
     /// 24 octets, which are this cookie, version 1, three zeros, the moment, the most significant octet first, and the
     /// hash of these 16 octets with those of the address after them (RFC 9018 section 4). `TruncationError` comes exactly
-    /// where fewer than 24 octets are free; those before the place are then as before.
+    /// if fewer than 24 octets are free; those before the place are then as before.
     pub fn respond_at<H: KeyedHash>(
         &self,
         addr: Address,
@@ -47,8 +47,8 @@ impl ClientCookie {
     }
 
     /// Writes the cookie that a server gives for this one to the beginning of the buffer, as `respond_at` does. What
-    /// is after its 24 octets is borrowed back as it was. `TruncationError` comes exactly where the buffer has fewer than 24
-    /// octets; what it holds then is open.
+    /// is after its 24 octets is borrowed back as it was. `TruncationError` comes exactly if the buffer has fewer than 24
+    /// octets; what it holds then is unspecified.
     pub fn respond_into<'b, H: KeyedHash>(
         &self,
         addr: Address,
@@ -100,7 +100,7 @@ impl ClientCookie {
         octets
     }
 
-    /// What stands before the hash of a server cookie.
+    /// What comes before the hash of a server cookie.
     fn unhashed(&self, now: Serial) -> [u8; 16]
         ensures { result ≡ unhashed self.now.octets now.0.value }
     {

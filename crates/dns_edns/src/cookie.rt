@@ -60,7 +60,7 @@ impl<'a> Cookie<'a> {
     }
 
     /// Whether the server made it itself, for this address, in the time from `from` up to before `until`. The error
-    /// comes exactly where the version is not 1, the hash has not eight octets, the time is another by
+    /// comes exactly if the version is not 1, the hash has not eight octets, the time is another by
     /// `Serial::partial_cmp`, or the hash is not that of the other octets and the address (RFC 9018 section 4).
     pub fn verify<H: KeyedHash>(
         &self,

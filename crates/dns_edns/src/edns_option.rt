@@ -43,7 +43,7 @@ impl EdnsOption<'_> {
     }
 }
 
-/// The option with its data. `ParseError` comes exactly where they don't suit the code.
+/// The option with its data. `ParseError` comes exactly if they don't suit the code.
 pub(crate) fn known<'a>(option: &UnparsedEdnsOption<'a>) -> Result<EdnsOption<'a>, ParseError>
     ensures { Gives seen_option result (suited option.now.code.code.value option.now.content.now) }
 {
@@ -78,7 +78,7 @@ pub(crate) fn is_same(
     }
 }
 
-/// `ParseError` comes exactly where the data don't suit the code.
+/// `ParseError` comes exactly if the data don't suit the code.
 impl<'a> TryFrom<UnparsedEdnsOption<'a>> for EdnsOption<'a> {
     type Error = ParseError;
 
@@ -128,7 +128,7 @@ fn build_option<T: BuildBytes>(
     (code, SizePrefixed::<U16, &T>::new(content)).build_at(bytes, start)
 }
 
-/// `TruncationError` also comes where the data are more than 65,535 octets.
+/// `TruncationError` also comes if the data are more than 65,535 octets.
 impl BuildBytes for EdnsOption<'_> {
     ghost octets = { λ v. option_octets (option_code_of (seen_option v)) (option_content_of (seen_option v)) };
 

@@ -27,7 +27,7 @@ impl<'a> ExtError<'a> {
         ExtError { code, text }
     }
 
-    /// The text without the one NUL that may end it (RFC 8914 section 2); none where it is empty.
+    /// The text without the one NUL that may end it (RFC 8914 section 2); `None` if it is empty.
     pub fn text(&self) -> Option<&'a str>
         ensures none { (result ≡ None) ↔ (text_of self.now ≡ []) }
         ensures text { IfSome result (λ text. text.now ≡ without_last_nul (text_of self.now)) }
@@ -42,7 +42,7 @@ impl<'a> ExtError<'a> {
     }
 }
 
-/// `ParseError` comes exactly where there are fewer than two octets, or those after them are not UTF-8.
+/// `ParseError` comes exactly if there are fewer than two octets, or those after them are not UTF-8.
 impl<'a> ParseBytes<'a> for ExtError<'a> {
     ghost Seen = { ℕ × List ℕ };
 

@@ -1,13 +1,16 @@
 //! The definitions of this crate in other words.
 
-ghost use Rattle.std.specs.Prelude.{◌≡◌, ◌↔◌, ◌<◌, ◌^◌, ◌++◌, ◌&&◌, bytes_eq, ℕ, List, Some, true, length, nat_eq, IsTrue, IsOk};
+ghost use Rattle.std.specs.Prelude.{◌≡◌, ◌↔◌, ◌<◌, ◌^◌, ◌++◌, ◌&&◌, [], bytes_eq, ℕ, List, Some, true, length, nat_eq, pos, IsTrue, IsOk};
 ghost use Rattle.std.specs.Cmp.Lexicographic.{pointwise};
+ghost use Rattle.std.specs.Hash.{isize, slice, str, u16, u8};
 ghost use Rattle.std.specs.Ordering.{nat_cmp};
 ghost use Rattle.dns_record.specs.InPlace.{FilledBy};
 ghost use Rattle.dns_record.specs.Options.{OptionSeen, is_option_data, is_options, options_of};
 ghost use Rattle.dns_edns.specs.Cookies.{IsWithin, IsTaken, unhashed, response};
 ghost use Rattle.dns_edns.specs.Flags.{flag_bits};
 ghost use Rattle.dns_edns.specs.Suiting.{options_in, seen_option};
+ghost use Rattle.dns_edns.specs.declared.edns_option.EdnsOption.TheVariants as option;
+ghost use Rattle.dns_wire.specs.Octets.{Octets};
 
 use crate::address::Address;
 use crate::client_cookie::ClientCookie;
@@ -23,6 +26,7 @@ use crate::unknown_option::UnknownOptionData;
 use crate::unparsed_option::UnparsedEdnsOption;
 use dns_record::Serial;
 use dns_wire::ParseBytes;
+use std::hash::Hash;
 
 /// The numbers of the options that have a name here (RFC 7873 section 4, RFC 8914 section 2).
 pub fn code_numbers()
@@ -67,7 +71,7 @@ pub fn default_flags()
     ensures { (flags : _) → ⟦<EdnsFlags as Default>⟧.is_default flags → flag_bits flags ≡ 0 }
 {}
 
-/// Codes are equal, and come in order, by their numbers; flags are equal where their bits are.
+/// Codes are equal, and come in order, by their numbers; flags are equal if their bits are.
 pub fn codes_are_compared_by_number()
     ensures option { (a b : _) → ⟦<OptionCode as PartialEq>⟧.eq a b ≡ nat_eq a.code.value b.code.value }
     ensures option_order { (a b : _) → ⟦<OptionCode as Ord>⟧.cmp a b ≡ nat_cmp a.code.value b.code.value }
@@ -76,22 +80,29 @@ pub fn codes_are_compared_by_number()
     ensures flags { (a b : _) → ⟦<EdnsFlags as PartialEq>⟧.eq a b ≡ nat_eq (flag_bits a) (flag_bits b) }
 {}
 
+/// Codes and flags feed a hasher their numbers.
+pub fn codes_are_hashed_by_number()
+    ensures option { (v : _) → ⟦<OptionCode as Hash>⟧.hash_input v ≡ u16 v.code.value }
+    ensures error { (v : _) → ⟦<ExtErrorCode as Hash>⟧.hash_input v ≡ u16 v.code.value }
+    ensures flags { (v : _) → ⟦<EdnsFlags as Hash>⟧.hash_input v ≡ u16 (flag_bits v) }
+{}
+
 /// The options that are gone over are those that all the octets spell: one after another, they fill the octets, and octets that
 /// options fill are gone over as just these (RFC 6891 section 6.1.2).
 pub fn options_of_octets()
-    ensures spelled { (bytes : List ℕ) → is_options bytes ≡ true → options_of bytes ≡ Some (options_in bytes) }
-    ensures filled { (bytes : List ℕ) → is_option_data bytes ≡ true → FilledBy (options_in bytes) bytes }
-    ensures read { (bytes : List ℕ) (options : List OptionSeen) → length bytes < 2 ^ 16 → FilledBy options bytes →
+    ensures spelled { (bytes : Octets) → is_options bytes ≡ true → options_of bytes ≡ Some (options_in bytes) }
+    ensures filled { (bytes : Octets) → is_option_data bytes ≡ true → FilledBy (options_in bytes) bytes }
+    ensures read { (bytes : Octets) (options : List OptionSeen) → length bytes < 2 ^ 16 → FilledBy options bytes →
         (is_option_data bytes ≡ true) × (options_in bytes ≡ options) }
 {}
 
-/// Options are equal where their codes and data are, octet by octet.
+/// Options are equal if they are seen as the same: of one kind, with the same code and the same data.
 pub fn options_are_equal_by_content()
     ensures { (a b : _) → IsTrue (⟦<EdnsOption<'static> as PartialEq>⟧.eq a b) ↔ (seen_option a ≡ seen_option b) }
 {}
 
-/// Cookies and data of unknown options are equal octet by octet; an extended error where its code and its text are, and an
-/// option that is not read by its code where code and data are.
+/// Cookies and data of unknown options are equal octet by octet; an extended error if its code and its text are, and an
+/// option that is not read by its code if code and data are.
 pub fn option_data_are_equal_by_octets()
     ensures client { (a b : _) → ⟦<ClientCookie as PartialEq>⟧.eq a b ≡ pointwise nat_eq a.octets b.octets }
     ensures cookie { (a b : _) → ⟦<Cookie<'static> as PartialEq>⟧.eq a b ≡ pointwise nat_eq a.slice.now b.slice.now }
@@ -102,17 +113,35 @@ pub fn option_data_are_equal_by_octets()
         ≡ (nat_eq a.code.code.value b.code.code.value && pointwise nat_eq a.content.now b.content.now) }
 {}
 
+/// Cookies and data of unknown options feed a hasher their octets after the number of these, an extended error its code and
+/// its text, and an option that is not read its code and its data.
+pub fn option_data_are_hashed_by_octets()
+    ensures client { (v : _) → ⟦<ClientCookie as Hash>⟧.hash_input v ≡ slice u8 v.octets }
+    ensures cookie { (v : _) → ⟦<Cookie<'static> as Hash>⟧.hash_input v ≡ slice u8 v.slice.now }
+    ensures unknown { (v : _) → ⟦<UnknownOptionData<'static> as Hash>⟧.hash_input v ≡ slice u8 v.octets.now }
+    ensures error { (v : _) → ⟦<ExtError<'static> as Hash>⟧.hash_input v ≡ u16 v.code.code.value ++ str v.text.now }
+    ensures unparsed { (v : _) → ⟦<UnparsedEdnsOption<'static> as Hash>⟧.hash_input v ≡ u16 v.code.code.value ++ slice u8 v.content.now }
+{}
+
+/// An option feeds a hasher the number of its kind, from 0, and then its data; one of an unknown code the code before them.
+pub fn options_are_hashed_by_content()
+    ensures client_cookie { (v : _) → ⟦<EdnsOption<'static> as Hash>⟧.hash_input (option.ClientCookie v) ≡ isize (pos 0) ++ slice u8 v.octets }
+    ensures cookie { (v : _) → ⟦<EdnsOption<'static> as Hash>⟧.hash_input (option.Cookie v) ≡ isize (pos 1) ++ slice u8 v.slice.now }
+    ensures ext_error { (v : _) → ⟦<EdnsOption<'static> as Hash>⟧.hash_input (option.ExtError v) ≡ isize (pos 2) ++ u16 v.code.code.value ++ str v.text.now }
+    ensures unknown { (code : _) (v : _) → ⟦<EdnsOption<'static> as Hash>⟧.hash_input (option.Unknown code v) ≡ isize (pos 3) ++ u16 code.code.value ++ slice u8 v.octets.now }
+{}
+
 /// The cookie that a server gives to an address is one that it takes from there, under the same function and
-/// secret, where the moment lies in the time (RFC 9018 section 4.3).
+/// secret, if the moment lies in the time (RFC 9018 section 4.3).
 pub fn given_cookies()
-    ensures { (hash : List ℕ → List ℕ) (client : List ℕ) (time : ℕ) (address : List ℕ) (from until : ℕ) →
+    ensures { (hash : List ℕ → List ℕ) (client : Octets) (time : ℕ) (address : Octets) (from until : ℕ) →
         length client ≡ 8 → time < 2 ^ 32 → length (hash (unhashed client time ++ address)) ≡ 8 → IsWithin from until time →
         IsTaken hash address from until (response hash client time address) }
 {}
 
 /// What `respond_at` and `respond_into` write for an address, `verify` takes from there under the same function and
-/// secret exactly where the moment lies in the time: this call does both, one after the other (RFC 9018 section 4).
-/// `CookieError` comes exactly where it does not.
+/// secret exactly if the moment lies in the time: this call does both, one after the other (RFC 9018 section 4).
+/// `CookieError` comes exactly if it does not.
 pub fn takes_what_it_gives<H: KeyedHash>(
     client: ClientCookie,
     addr: Address,
@@ -134,7 +163,12 @@ pub fn takes_what_it_gives<H: KeyedHash>(
     cookie.verify(addr, secret, from, until, hash)
 }
 
-/// Errors are equal exactly where they are the same.
+/// Errors are equal exactly if they are the same.
 pub fn equal_errors()
     ensures cookie { (a b : _) → IsTrue (⟦<CookieError as PartialEq>⟧.eq a b) ↔ (a ≡ b) }
+{}
+
+/// An error that has one value only feeds a hasher nothing.
+pub fn hashed_errors()
+    ensures cookie { (v : _) → ⟦<CookieError as Hash>⟧.hash_input v ≡ [] }
 {}

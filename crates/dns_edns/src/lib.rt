@@ -28,8 +28,9 @@ pub use ext_error::ExtError;
 pub use ext_error_code::ExtErrorCode;
 pub use keyed_hash::KeyedHash;
 pub use laws::{
-    code_numbers, codes_are_compared_by_number, default_flags, equal_errors, ext_error_numbers,
-    given_cookies, option_data_are_equal_by_octets, options_are_equal_by_content,
+    code_numbers, codes_are_compared_by_number, codes_are_hashed_by_number, default_flags,
+    equal_errors, ext_error_numbers, given_cookies, hashed_errors, option_data_are_equal_by_octets,
+    option_data_are_hashed_by_octets, options_are_equal_by_content, options_are_hashed_by_content,
     options_of_octets, takes_what_it_gives,
 };
 pub use opt::Opt;

@@ -80,7 +80,7 @@ impl AsBytes for Opt<'_> {
     }
 }
 
-/// `ParseError` comes exactly where the octets are more than 65,535, or options don't fill them.
+/// `ParseError` comes exactly if the octets are more than 65,535, or options don't fill them.
 impl<'a> ParseBytes<'a> for Opt<'a> {
     ghost Seen = { List Field };
 

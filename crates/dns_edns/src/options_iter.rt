@@ -12,7 +12,7 @@ use dns_wire::SplitBytes;
 use std::alloc::AllocError;
 use std::marker::Model;
 
-/// Options in order: each as its code says, or as it stands where its data don't suit its code (RFC 6891
+/// Options in order: each as its code says, or unchanged if its data don't suit its code (RFC 6891
 /// section 6.1.2). It is seen as what is still to come.
 #[derive(Debug, Drop)]
 pub struct EdnsOptionsIter<'a> {
@@ -69,7 +69,7 @@ impl<'a> Iterator for EdnsOptionsIter<'a> {
 
     ghost remaining = { item_count (λ items. items) };
 
-    /// The next option. It is none where none is left, and then always.
+    /// The next option. It is `None` if none is left, and then always.
     fn next(&mut self) -> Option<Result<EdnsOption<'a>, UnparsedEdnsOption<'a>>> {
         match UnparsedEdnsOption::split_bytes(self.octets) {
             Ok((option, rest)) => {

@@ -1,9 +1,10 @@
 //! The type of this crate by the one table: what is read and written for its number is what its RDATA format says.
 
-ghost use Rattle.std.specs.Prelude.{◌≡◌, ℕ, List, nat_eq};
+ghost use Rattle.std.specs.Prelude.{◌≡◌, ℕ, nat_eq};
 ghost use Rattle.std.specs.Cmp.Lexicographic.{pointwise};
 ghost use Rattle.std.specs.Hash.{slice, u8};
 ghost use Rattle.dns_wire.specs.Names.{plain_name};
+ghost use Rattle.dns_wire.specs.Octets.{Octets};
 ghost use Rattle.dns_wire.specs.Pointers.{name_at};
 ghost use Rattle.dns_record.specs.Data.{data_as, data_in, of_type};
 ghost use Rattle.dns_record.specs.Fields.{canonical_octets};
@@ -16,12 +17,12 @@ use std::hash::Hash;
 /// Of all the octets, `Opt` reads the field of its number's RDATA format, and for any other number nothing (RFC 6891 section
 /// 6.1.2).
 pub fn types_are_read_by_number()
-    ensures opt { (rtype : ℕ) (bytes : List ℕ) → ⟦<Opt<'static> as ParseRecordDataBytes<'static>>⟧.reads_as rtype bytes ≡ of_type 41 rtype (data_as plain_name 41 bytes) }
+    ensures opt { (rtype : ℕ) (bytes : Octets) → ⟦<Opt<'static> as ParseRecordDataBytes<'static>>⟧.reads_as rtype bytes ≡ of_type 41 rtype (data_as plain_name 41 bytes) }
 {}
 
 /// The same in a message, from a place to the end of the contents.
 pub fn types_are_read_by_number_in_messages()
-    ensures opt { (rtype : ℕ) (contents : List ℕ) (at : ℕ) → ⟦<Opt<'static> as ParseRecordDataBytes<'static>>⟧.reads_in rtype contents at ≡ of_type 41 rtype (data_in name_at 41 contents at) }
+    ensures opt { (rtype : ℕ) (contents : Octets) (at : ℕ) → ⟦<Opt<'static> as ParseRecordDataBytes<'static>>⟧.reads_in rtype contents at ≡ of_type 41 rtype (data_in name_at 41 contents at) }
 {}
 
 /// The canonical octets are those of the field under the type's number (RFC 4034 section 6.2).

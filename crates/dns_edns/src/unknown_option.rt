@@ -1,4 +1,4 @@
-//! Data of options that are kept as they stand.
+//! Data of options that are kept unchanged.
 
 ghost use Rattle.dns_wire.specs.ReadingLemmas.{plain_ends};
 ghost use Rattle.dns_edns.specs.OptionsLemmas.{everything_leaves};
@@ -8,7 +8,7 @@ ghost use Rattle.dns_edns.specs.Options.{everything};
 
 use dns_wire::{AsBytes, BuildBytes, ParseBytes, ParseError, TruncationError, put};
 
-/// The data of an option of any code, as they stand (RFC 6891 section 6.1.2).
+/// The data of an option of any code, as they are (RFC 6891 section 6.1.2).
 #[derive(Clone, Copy, Debug, PartialEq, Eq, Hash)]
 pub struct UnknownOptionData<'a> {
     /// The octets, without code and size.

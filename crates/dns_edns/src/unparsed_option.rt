@@ -16,7 +16,7 @@ use dns_wire::{BuildBytes, ParseBytes, ParseError, SplitBytes, TruncationError, 
 pub struct UnparsedEdnsOption<'a> {
     /// What the option is.
     pub code: OptionCode,
-    /// The data, at most 65,535 octets where it is written.
+    /// The data, at most 65,535 octets if it is written.
     pub content: SizePrefixed<U16, &'a [u8]>,
 }
 
@@ -47,7 +47,7 @@ impl<'a> SplitBytes<'a> for UnparsedEdnsOption<'a> {
     }
 }
 
-/// `TruncationError` also comes where the data are more than 65,535 octets.
+/// `TruncationError` also comes if the data are more than 65,535 octets.
 impl BuildBytes for UnparsedEdnsOption<'_> {
     ghost octets = { λ v. option_octets v.code.code.value v.content.now };
 

@@ -111,7 +111,7 @@ are_labels octets labels sizes e = let t = labels_in_wire octets labels sizes e 
 
 -- ---- the first of them
 
--- none is read where none is left
+-- none is read if none is left
 pub last_label : (octets : List ℕ) → AreLabels octets → plain_label octets ≡ None → sequence_labels octets ≡ []
 last_label octets is none = by (sequence_labels octets) refl where
   by : (labels : List (List ℕ)) → sequence_labels octets ≡ labels → sequence_labels octets ≡ []
@@ -143,7 +143,7 @@ first_in octets contents rest is read = by (sequence_labels octets) refl where
       let trailing = labels_in_wire rest others sizes.1 same.1 in
       record { left = are_labels rest others sizes.1 same.1; first = rw (same.0, trailing.1) e }
 
--- nothing is left exactly where no octets are
+-- nothing is left exactly if no octets are
 pub none_left : (octets : List ℕ) → AreLabels octets → sequence_labels octets ≡ [] → octets ≡ []
 none_left octets is e = (list_takes octets (sequence_labels octets) is).1 ∙ ap labels_wire e
 
@@ -152,7 +152,7 @@ nothing_in = (labels_in_wire [] [] tt refl).1
 
 -- ---- a test
 
--- labels stand after a label exactly where labels begin with it
+-- labels follow a label exactly if labels begin with it
 pub following_label : (octets contents rest : List ℕ) → plain_label octets ≡ Some (contents, rest) → (AreLabels octets ↔ AreLabels rest) × (length rest < length octets)
 following_label octets contents rest read =
     let t = label_takes octets contents rest read in
@@ -161,7 +161,7 @@ following_label octets contents rest read =
     are_labels octets (contents ∷ sequence_labels rest) (t.0, s.0) (t.1 ∙ ap (λ (l : List ℕ). length contents ∷ (contents ++ l)) s.1) in
     ((λ are. (first_in octets contents rest are read).left, whole), omega (arith, ap length t.1, length-append contents rest))
 
--- where no label stands there are none exactly where no octets are
+-- if there is no label, these are labels exactly if there are no octets
 pub nothing_left : (octets : List ℕ) → plain_label octets ≡ None → AreLabels octets ↔ (octets ≡ [])
 nothing_left octets none = (
   λ are. none_left octets are (last_label octets are none),

@@ -1,7 +1,7 @@
 -- The crate's own lemmas.
 pub mod ComparedLabels
 pub mod FilledLabels
-pub mod PlainOctets
+pub mod UnescapedOctets
 pub mod Preceding
 pub mod Scanned
 pub mod StoredLabels

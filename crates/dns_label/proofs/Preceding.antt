@@ -1,4 +1,4 @@
--- A comparison of lists answers `Less` exactly where the one precedes the other.
+-- A comparison of lists answers `Less` exactly if the one precedes the other.
 use Rattle.std.proofs.Common.{◌≡◌, ℕ, ◌<◌, List, [], ◌∷◌, ◌++◌, refl, sym, ap, ◌∙◌, inl, inr, arith, nat_cmp}
 use Rattle.std.specs.Ordering.{ordering_then}
 use Rattle.std.specs.Cmp.{nat_cmp_is}
@@ -11,15 +11,15 @@ use Rattle.std.proofs.lemmas.List.{append-nil}
 use Rattle.dns_label.specs.Order.{Precedes}
 use Rattle.dns_label.specs.Order.Precedes.{ends, differs}
 
--- a comparison answers `Less` exactly where the relation holds, and `Equal` exactly for the same
-pub record Tells {A : Type 0} (compare : A → A → Ordering) (IsLess : A → A → Type 0) : Type 0 where
+-- a comparison answers `Less` exactly if the relation holds, and `Equal` exactly for the same
+pub record Decides {A : Type 0} (compare : A → A → Ordering) (IsLess : A → A → Type 0) : Type 0 where
   pub less : (x y : A) → compare x y ≡ Less → IsLess x y
   pub is : (x y : A) → IsLess x y → compare x y ≡ Less
   pub same : (x y : A) → compare x y ≡ Equal → x ≡ y
   pub tied : (x : A) → compare x x ≡ Equal
 
-pub numbers_tell : Tells nat_cmp ◌<◌
-numbers_tell =
+pub numbers_decide : Decides nat_cmp ◌<◌
+numbers_decide =
     record {
       less = less;
       is = λ x y h. sym (nat_cmp_is x y Less h);
@@ -36,15 +36,15 @@ numbers_tell =
             ]
           ]
 
-module _ {A : Type 0} (compare : A → A → Ordering) (IsLess : A → A → Type 0) (tells : Tells compare IsLess) where
+module _ {A : Type 0} (compare : A → A → Ordering) (IsLess : A → A → Type 0) (decides : Decides compare IsLess) where
   further : (x y : A) (xs ys : List A) → x ≡ y → Precedes IsLess xs ys → Precedes IsLess (x ∷ xs) (y ∷ ys)
   further x y xs ys e (ends z more is) = ends z more (ap (λ (l : List A). y ∷ l) is ∙ ap (λ (h : A). h ∷ (xs ++ z ∷ more)) (sym e))
   further x y xs ys e (differs prefix u v more others is_less first second) =
       differs (x ∷ prefix) u v more others is_less (ap (λ (l : List A). x ∷ l) first) (ap (λ (l : List A). y ∷ l) second ∙ ap (λ (h : A). h ∷ (prefix ++ v ∷ others)) (sym e))
 
   first_decides : (x y : A) (xs ys : List A) (r : Ordering) → compare x y ≡ r → (slice_cmp compare xs ys ≡ Less → Precedes IsLess xs ys) → ordering_then r (slice_cmp compare xs ys) ≡ Less → Precedes IsLess (x ∷ xs) (y ∷ ys)
-  first_decides x y xs ys Less is later e = differs [] x y xs ys (tells.less x y is) refl refl
-  first_decides x y xs ys Equal is later e = further x y xs ys (tells.same x y is) (later e)
+  first_decides x y xs ys Less is later e = differs [] x y xs ys (decides.less x y is) refl refl
+  first_decides x y xs ys Equal is later e = further x y xs ys (decides.same x y is) (later e)
   first_decides x y xs ys Greater is later e = absurd cc
 
   lists_less : (xs ys : List A) → slice_cmp compare xs ys ≡ Less → Precedes IsLess xs ys
@@ -56,18 +56,18 @@ module _ {A : Type 0} (compare : A → A → Ordering) (IsLess : A → A → Typ
   -- a prefix that the two share does not count
   same_prefix : (prefix xs ys : List A) → slice_cmp compare (prefix ++ xs) (prefix ++ ys) ≡ slice_cmp compare xs ys
   same_prefix [] xs ys = refl
-  same_prefix (x ∷ prefix) xs ys = rw (tells.tied x) (same_prefix prefix xs ys)
+  same_prefix (x ∷ prefix) xs ys = rw (decides.tied x) (same_prefix prefix xs ys)
 
   lists_is : (xs ys : List A) → Precedes IsLess xs ys → slice_cmp compare xs ys ≡ Less
   lists_is xs ys (ends y more is) =
       ap (slice_cmp compare xs) is ∙ ap (λ (l : List A). slice_cmp compare l (xs ++ y ∷ more)) (sym (append-nil xs)) ∙ same_prefix xs [] (y ∷ more)
   lists_is xs ys (differs prefix x y more others is_less first second) =
       ap (slice_cmp compare xs) second ∙ ap (λ (l : List A). slice_cmp compare l (prefix ++ y ∷ others)) first ∙ same_prefix prefix (x ∷ more) (y ∷ others)
-      ∙ ap (λ (r : Ordering). ordering_then r (slice_cmp compare more others)) (tells.is x y is_less)
+      ∙ ap (λ (r : Ordering). ordering_then r (slice_cmp compare more others)) (decides.is x y is_less)
 
   first_tied : (x y : A) (xs ys : List A) (r : Ordering) → compare x y ≡ r → (slice_cmp compare xs ys ≡ Equal → xs ≡ ys) → ordering_then r (slice_cmp compare xs ys) ≡ Equal → x ∷ xs ≡ y ∷ ys
   first_tied x y xs ys Less is later e = absurd cc
-  first_tied x y xs ys Equal is later e = ap (λ (h : A). h ∷ xs) (tells.same x y is) ∙ ap (λ (l : List A). y ∷ l) (later e)
+  first_tied x y xs ys Equal is later e = ap (λ (h : A). h ∷ xs) (decides.same x y is) ∙ ap (λ (l : List A). y ∷ l) (later e)
   first_tied x y xs ys Greater is later e = absurd cc
 
   lists_same : (xs ys : List A) → slice_cmp compare xs ys ≡ Equal → xs ≡ ys
@@ -78,10 +78,10 @@ module _ {A : Type 0} (compare : A → A → Ordering) (IsLess : A → A → Typ
 
   lists_tied : (xs : List A) → slice_cmp compare xs xs ≡ Equal
   lists_tied [] = refl
-  lists_tied (x ∷ xs) = rw (tells.tied x) (lists_tied xs)
+  lists_tied (x ∷ xs) = rw (decides.tied x) (lists_tied xs)
 
-  pub lists_tell : Tells (slice_cmp compare) (Precedes IsLess)
-  lists_tell = record { less = lists_less; is = lists_is; same = lists_same; tied = lists_tied }
+  pub lists_decide : Decides (slice_cmp compare) (Precedes IsLess)
+  lists_decide = record { less = lists_less; is = lists_is; same = lists_same; tied = lists_tied }
 
-pub octets_tell : Tells (slice_cmp nat_cmp) (Precedes ◌<◌)
-octets_tell = lists_tell nat_cmp ◌<◌ numbers_tell
+pub octets_decide : Decides (slice_cmp nat_cmp) (Precedes ◌<◌)
+octets_decide = lists_decide nat_cmp ◌<◌ numbers_decide

@@ -16,7 +16,7 @@ use Rattle.dns_label.specs.declared.text_error.LabelSplitError.TheVariants.{Inva
 use Rattle.dns_label.specs.declared.text_error.LabelSplitError.{LabelSplitError}
 use Rattle.dns_label.specs.declared.text_error.ScanFault.{ScanFault}
 use Rattle.dns_label.specs.declared.text_error.ScanFault.TheVariants.{Overlong, CutEscape, WrongEscape}
-use Rattle.dns_label.specs.Text.{is_plain, shown_octet, shown_label, three_digits, in_digits, escaped, next_octet, with_octet, then_octets, octets_within, label_scan, parse_error, prefix_label, whole_label, parsed_label, label_at_start, split_label, IsForeign, EndsLabel, SpellsLabel, IsPlainText}
+use Rattle.dns_label.specs.Text.{is_unescaped, shown_octet, shown_label, three_digits, in_digits, escaped, next_octet, with_octet, then_octets, octets_within, label_scan, parse_error, prefix_label, whole_label, parsed_label, label_at_start, split_label, IsForeign, EndsLabel, SpellsLabel, IsUnescapedText}
 
 -- ---- the next octet
 
@@ -25,7 +25,7 @@ Found = Result (Option (ℕ × List ℕ)) ScanFault
 
 -- the next octet in words
 pub data Next (text : List ℕ) (octet : ℕ) (rest : List ℕ) : Type 0 where
-  itself : IsTrue (is_plain octet) → text ≡ octet ∷ rest → Next text octet rest
+  itself : IsTrue (is_unescaped octet) → text ≡ octet ∷ rest → Next text octet rest
   backslash : IsTrue (is_ascii_graphic octet) → IsFalse (is_ascii_digit octet) → text ≡ 92 ∷ octet ∷ rest → Next text octet rest
   digits : (a b c : ℕ) → IsTrue (is_ascii_digit a) → IsTrue (is_ascii_digit b) → IsTrue (is_ascii_digit c) → three_digits a b c ≤ 255 → octet ≡ three_digits a b c → text ≡ 92 ∷ a ∷ b ∷ c ∷ rest → Next text octet rest
 
@@ -66,7 +66,7 @@ pub next_is : (text : List ℕ) (octet : ℕ) (rest : List ℕ) → next_octet t
 unfolding next_octet
 next_is [] octet rest e = absurd cc
 next_is (a ∷ more) octet rest e =
-    elim (chosen (is_plain a) _ _ _ e) [
+    elim (chosen (is_unescaped a) _ _ _ e) [
       | inl plain ↦
           let same = found_same a octet more rest plain.1 in
           subst (λ (o : ℕ). Next (a ∷ more) o rest) same.0 (itself plain.0 (ap (λ (l : List ℕ). a ∷ l) same.1))
@@ -79,13 +79,13 @@ next_is (a ∷ more) octet rest e =
           ]
     ]
 
--- a backslash does not stand for itself, and a digit does
-no_plain_backslash : is_plain 92 ≡ false
-unfolding is_plain
+-- a backslash does not represent itself, and a digit does
+no_plain_backslash : is_unescaped 92 ≡ false
+unfolding is_unescaped
 no_plain_backslash = refl
 
-plain_digit : (octet : ℕ) → IsTrue (is_ascii_digit octet) → is_plain octet ≡ true
-unfolding is_plain
+plain_digit : (octet : ℕ) → IsTrue (is_ascii_digit octet) → is_unescaped octet ≡ true
+unfolding is_unescaped
 plain_digit octet is = grind (arith, nat_tests)
 
 pub next_again : (text : List ℕ) (octet : ℕ) (rest : List ℕ) → Next text octet rest → next_octet text ≡ Ok (Some (octet, rest))
@@ -105,7 +105,7 @@ next_shorter text octet rest e =
       | digits a b c is_a is_b is_c small value parts ↦ omega (arith, ap length parts)
     ]
 
--- none stands next exactly at the end of a label's text
+-- none comes next exactly at the end of a label's text
 digits_some : (a : ℕ) (text : List ℕ) → in_digits a text ≡ Ok None → ⊥
 unfolding in_digits
 digits_some a [] e = cc
@@ -133,7 +133,7 @@ pub none_ends : (text : List ℕ) → next_octet text ≡ Ok None → EndsLabel 
 unfolding next_octet
 none_ends [] e = tt
 none_ends (octet ∷ rest) e =
-    elim (chosen (is_plain octet) _ _ _ e) [
+    elim (chosen (is_unescaped octet) _ _ _ e) [
       | inl plain ↦ absurd (let h = plain.1 in cc)
       | inr other ↦
           elim (chosen (octet == 92) _ _ _ other.1) [
@@ -242,7 +242,7 @@ pub within_full : (text : List ℕ) (octet : ℕ) (more : List ℕ) → next_oct
 unfolding octets_within
 within_full text octet more e = rw e refl
 
--- what is spelled is read, where there is room
+-- what is spelled is read, if there is room
 pub within_again : (room : ℕ) (text contents rest : List ℕ) → SpellsLabel text contents → length contents ≤ room → EndsLabel rest → octets_within room (text ++ rest) ≡ Ok (contents, rest)
 within_again room text contents rest SpellsLabel.ended fits ends = within_ends room rest (ends_none rest ends)
 within_again zero text contents rest (SpellsLabel.itself octet more octets plain spells) fits ends = absurd (omega arith)
@@ -276,8 +276,8 @@ spelled_once text a b of_a of_b = (spelled_apart text text a b [] [] refl of_a o
 
 -- the three ways in which an octet is printed
 pub data Shown (octet : ℕ) (text : List ℕ) : Type 0 where
-  itself : IsTrue (is_plain octet) → text ≡ octet ∷ [] → Shown octet text
-  backslash : IsTrue (is_ascii_graphic octet) → IsFalse (is_plain octet) → text ≡ 92 ∷ octet ∷ [] → Shown octet text
+  itself : IsTrue (is_unescaped octet) → text ≡ octet ∷ [] → Shown octet text
+  backslash : IsTrue (is_ascii_graphic octet) → IsFalse (is_unescaped octet) → text ≡ 92 ∷ octet ∷ [] → Shown octet text
   digits : (a b c : ℕ) → IsTrue (is_ascii_digit a) → IsTrue (is_ascii_digit b) → IsTrue (is_ascii_digit c) → three_digits a b c ≡ octet → IsFalse (is_ascii_graphic octet) → text ≡ 92 ∷ a ∷ b ∷ c ∷ [] → Shown octet text
 
 -- the digit of a number below ten
@@ -287,7 +287,7 @@ digit_of n small = grind (arith, nat_tests)
 pub shown_is : (octet : ℕ) → octet < 256 → Shown octet (shown_octet octet)
 unfolding shown_octet
 shown_is octet small =
-    elim (cases_Bool (is_plain octet)) [
+    elim (cases_Bool (is_unescaped octet)) [
       | inl plain ↦ Shown.itself plain (rw plain refl)
       | inr marked ↦
           elim (cases_Bool (is_ascii_graphic octet)) [
@@ -299,19 +299,19 @@ shown_is octet small =
           ]
     ]
 
--- ASCII that is not graphic does not stand for itself
-graphic_plain : (octet : ℕ) → octet < 256 → IsFalse (is_ascii_graphic octet) → is_plain octet ≡ false
-unfolding is_plain
+-- ASCII that is not graphic does not represent itself
+graphic_plain : (octet : ℕ) → octet < 256 → IsFalse (is_ascii_graphic octet) → is_unescaped octet ≡ false
+unfolding is_unescaped
 graphic_plain octet small dark =
-    elim (cases_Bool (is_plain octet)) [
+    elim (cases_Bool (is_unescaped octet)) [
       | inl plain ↦
-          absurd (let t = agree_below_at (λ (o : ℕ). not (is_plain o) || is_ascii_graphic o) (λ (o : ℕ). true) 256 octet refl small in
+          absurd (let t = agree_below_at (λ (o : ℕ). not (is_unescaped o) || is_ascii_graphic o) (λ (o : ℕ). true) 256 octet refl small in
           let h : is_ascii_graphic octet ≡ true = rw plain at t in
           let g = sym dark ∙ h in cc)
       | inr none ↦ none
     ]
 
-marked_digit : (octet : ℕ) → IsFalse (is_plain octet) → is_ascii_digit octet ≡ false
+marked_digit : (octet : ℕ) → IsFalse (is_unescaped octet) → is_ascii_digit octet ≡ false
 marked_digit octet marked =
     elim (cases_Bool (is_ascii_digit octet)) [
       | inl digit ↦ absurd (let h = sym marked ∙ plain_digit octet digit in cc)
@@ -330,15 +330,15 @@ shown_spells (octet ∷ others) octets =
           rw (text, ← value) (SpellsLabel.digits a b c (shown_label others) others is_a is_b is_c (omega (arith, value, octets 0)) more)
     ]
 
-pub shown_plain : (contents : List ℕ) → AreOctets contents → IsPlainText (shown_label contents)
-shown_plain [] octets = IsPlainText.ended
+pub shown_plain : (contents : List ℕ) → AreOctets contents → IsUnescapedText (shown_label contents)
+shown_plain [] octets = IsUnescapedText.ended
 shown_plain (octet ∷ others) octets =
     let more = shown_plain others (λ (i : ℕ). octets (suc i)) in
     elim (shown_is octet (octets 0)) [
-      | Shown.itself plain text ↦ rw text (IsPlainText.itself octet (shown_label others) plain more)
-      | Shown.backslash graphic marked text ↦ rw text (IsPlainText.backslash octet (shown_label others) graphic marked more)
+      | Shown.itself plain text ↦ rw text (IsUnescapedText.itself octet (shown_label others) plain more)
+      | Shown.backslash graphic marked text ↦ rw text (IsUnescapedText.backslash octet (shown_label others) graphic marked more)
       | Shown.digits a b c is_a is_b is_c value dark text ↦
-          rw text (IsPlainText.digits a b c (shown_label others) is_a is_b is_c (omega (arith, value, octets 0)) (rw value dark) more)
+          rw text (IsUnescapedText.digits a b c (shown_label others) is_a is_b is_c (omega (arith, value, octets 0)) (rw value dark) more)
     ]
 
 -- a text in plain spelling is what is printed of what it spells
@@ -361,24 +361,24 @@ same_digits a b c n is_a is_b is_c value =
     let high_c = leb-true c 57 in_c.1 in
     (omega arith, omega arith, omega arith)
 
-pub plain_printed : (text : List ℕ) → IsPlainText text → Printed text
+pub plain_printed : (text : List ℕ) → IsUnescapedText text → Printed text
 unfolding shown_octet
-plain_printed text IsPlainText.ended = record { contents = []; spells = SpellsLabel.ended; text_is = refl }
-plain_printed text (IsPlainText.itself octet more plain is) =
+plain_printed text IsUnescapedText.ended = record { contents = []; spells = SpellsLabel.ended; text_is = refl }
+plain_printed text (IsUnescapedText.itself octet more plain is) =
     let p = plain_printed more is in
     record {
       contents = octet ∷ p.contents;
       spells = SpellsLabel.itself octet more p.contents plain p.spells;
       text_is = rw plain (ap (λ (l : List ℕ). octet ∷ l) p.text_is);
     }
-plain_printed text (IsPlainText.backslash octet more graphic marked is) =
+plain_printed text (IsUnescapedText.backslash octet more graphic marked is) =
     let p = plain_printed more is in
     record {
       contents = octet ∷ p.contents;
       spells = SpellsLabel.backslash octet more p.contents graphic (marked_digit octet marked) p.spells;
       text_is = rw (marked, graphic) (ap (λ (l : List ℕ). 92 ∷ octet ∷ l) p.text_is);
     }
-plain_printed text (IsPlainText.digits a b c more is_a is_b is_c small dark is) =
+plain_printed text (IsUnescapedText.digits a b c more is_a is_b is_c small dark is) =
     let p = plain_printed more is in
     let s = same_digits a b c (three_digits a b c) is_a is_b is_c refl in
     record {
@@ -387,7 +387,7 @@ plain_printed text (IsPlainText.digits a b c more is_a is_b is_c small dark is) 
       text_is = rw (graphic_plain (three_digits a b c) (omega (arith, small)) dark, dark, s.0, s.1, s.2) (ap (λ (l : List ℕ). 92 ∷ a ∷ b ∷ c ∷ l) p.text_is);
     }
 
-pub plain_shown : (text contents : List ℕ) → IsPlainText text → SpellsLabel text contents → text ≡ shown_label contents
+pub plain_shown : (text contents : List ℕ) → IsUnescapedText text → SpellsLabel text contents → text ≡ shown_label contents
 plain_shown text contents is spells =
     let p = plain_printed text is in
     p.text_is ∙ ap shown_label (spelled_once text p.contents contents p.spells spells)

@@ -10,7 +10,7 @@ use Rattle.dns_label.specs.declared.text_error.LabelParseError.TheVariants as pa
 use Rattle.dns_label.specs.declared.text_error.LabelSplitError.TheVariants as split_errors
 use Rattle.dns_label.specs.declared.text_error.ScanFault.{ScanFault}
 use Rattle.dns_label.specs.declared.text_error.ScanFault.TheVariants.{Overlong, CutEscape, WrongEscape}
-use Rattle.dns_label.specs.Text.{is_plain, three_digits, in_digits, escaped, next_octet, with_octet, then_octets, octets_within, label_scan, parse_error, prefix_label, whole_label, parsed_label, label_at_start, split_label, EndsLabel, SpellsLabel, IsCutEscape, IsWrongEscape, AreDigits, BeginsForeign, GoesOn, SpellsMore}
+use Rattle.dns_label.specs.Text.{is_unescaped, three_digits, in_digits, escaped, next_octet, with_octet, then_octets, octets_within, label_scan, parse_error, prefix_label, whole_label, parsed_label, label_at_start, split_label, EndsLabel, SpellsLabel, IsCutEscape, IsWrongEscape, AreDigits, BeginsForeign, GoesOn, SpellsMore}
 use Rattle.dns_label.proofs.Scanned.{Found, Read, Next, next_is, next_again, within_step, within_fails, within_full, within_takes, within_again, further}
 
 -- ---- the next octet
@@ -93,7 +93,7 @@ from_escape : (text : List ℕ) (fault : ScanFault) → next_octet text ≡ Err 
 unfolding next_octet
 from_escape [] fault e = absurd cc
 from_escape (octet ∷ rest) fault e =
-    elim (chosen (is_plain octet) _ _ _ e) [
+    elim (chosen (is_unescaped octet) _ _ _ e) [
       | inl plain ↦ absurd (let h = plain.1 in cc)
       | inr other ↦
           elim (chosen (octet == 92) _ _ _ other.1) [
@@ -111,8 +111,8 @@ next_wrong text e = let f = from_escape text WrongEscape e in subst IsWrongEscap
 next_room : (text : List ℕ) → next_octet text ≡ Err Overlong → ⊥
 next_room text e = let f = from_escape text Overlong e in escaped_room f.0 f.2
 
-no_plain_backslash : is_plain 92 ≡ false
-unfolding is_plain
+no_plain_backslash : is_unescaped 92 ≡ false
+unfolding is_unescaped
 no_plain_backslash = refl
 
 cut_next : (text : List ℕ) → IsCutEscape text → next_octet text ≡ Err CutEscape
@@ -138,7 +138,7 @@ wrong_next text (IsWrongEscape.numbered a b c rest is apart) = rw (no_plain_back
 
 -- ---- the scan
 
--- what is said of a fault where that many octets have room
+-- what is said of a fault if that many octets have room
 abbrev Fails : ℕ → List ℕ → ScanFault → Type 0
 Fails most text Overlong = SpellsMore most text
 Fails most text CutEscape = GoesOn most IsCutEscape text

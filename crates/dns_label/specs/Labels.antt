@@ -1,4 +1,4 @@
--- Labels, and how they stand on the wire (RFC 1035 section 3.1): a length of at most 63, and that many octets. The root's
+-- Labels, and their form on the wire (RFC 1035 section 3.1): a length of at most 63, and that many octets. The root's
 -- label is the empty one.
 use Rattle.std.specs.Prelude.{◌≡◌, ℕ, zero, suc, ◌<◌, [], ◌∷◌, length, take, drop, Option, Some, None, unwrap_or, nat_lt, ◌||◌, if◌then◌else◌}
 use Rattle.dns_wire.specs.Octets.{Octets, Labels}
@@ -32,7 +32,7 @@ abbrev pub then_labels : (Octets → Option Labels) → Option (Octets × Octets
 then_labels more None = None
 then_labels more (Some (contents, rest)) = with_label contents (more rest)
 
--- the labels that stand one after another up to the end, where no more than steps are read
+-- the labels that come one after another up to the end, if no more than steps are read
 unfoldable pub labels_to_end : ℕ → Octets → Option Labels
 labels_to_end steps [] = Some []
 labels_to_end zero (size ∷ rest) = None

@@ -1,4 +1,4 @@
--- What a label that owns its octets ends as, where its contents were borrowed for writing.
+-- What a label that owns its octets ends as, when its contents were borrowed for writing.
 use Rattle.std.specs.Prelude.{length}
 use Rattle.std.specs.List.{refill}
 use Rattle.std.specs.Borrow.{Lends, Fml, MutBor, Array, u8}

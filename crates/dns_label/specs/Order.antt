@@ -10,7 +10,7 @@ use Rattle.dns_wire.specs.Octets.{Octets}
 abbrev pub label_cmp : Octets → Octets → Ordering
 label_cmp a b = slice_cmp nat_cmp (str_to_ascii_lowercase a) (str_to_ascii_lowercase b)
 
--- A list precedes another where the two agree up to some place, and there the first has ended and the other has not, or
+-- A list precedes another if the two agree up to some place, and there the first has ended and the other has not, or
 -- what the first has is less. So no octet sorts before a zero octet.
 pub data Precedes {A : Type 0} (IsLess : A → A → Type 0) (xs ys : List A) : Type 0 where
   ends : (y : A) (more : List A) → ys ≡ xs ++ y ∷ more → Precedes IsLess xs ys

@@ -18,15 +18,15 @@ backslash_octet = 92
 
 -- ---- printing
 
--- an octet that stands for itself: a letter, a digit, or one of these marks
-unfoldable pub is_plain : ℕ → Bool
-is_plain octet = is_ascii_alphanumeric octet || list_any (λ mark. mark == octet) (codes "!#$%&'*+,-^_`{|}~")
+-- an octet that represents itself: a letter, a digit, or one of these marks
+unfoldable pub is_unescaped : ℕ → Bool
+is_unescaped octet = is_ascii_alphanumeric octet || list_any (λ mark. mark == octet) (codes "!#$%&'*+,-^_`{|}~")
 
 -- an octet as text: as it is; other graphic ASCII after a backslash; and any other octet as a backslash and three
 -- decimal digits
 unfoldable pub shown_octet : ℕ → Octets
 shown_octet octet =
-    if is_plain octet then octet ∷ []
+    if is_unescaped octet then octet ∷ []
     else if is_ascii_graphic octet then backslash_octet ∷ octet ∷ []
     else backslash_octet ∷ (48 + octet / 100) ∷ (48 + octet / 10 % 10) ∷ (48 + octet % 10) ∷ []
 
@@ -40,7 +40,7 @@ shown_label contents = flat_map shown_octet contents
 abbrev pub three_digits : ℕ → ℕ → ℕ → ℕ
 three_digits a b c = (a - 48) * 100 + (b - 48) * 10 + (c - 48)
 
--- an escape of three decimal digits, of which the first stands before this text: the octet with that number, and the text
+-- an escape of three decimal digits, of which the first comes before this text: the octet with that number, and the text
 -- after it
 unfoldable pub in_digits : ℕ → Octets → Result (Option (ℕ × Octets)) ScanFault
 in_digits a [] = Err CutEscape
@@ -49,7 +49,7 @@ in_digits a (b ∷ c ∷ rest) =
     if is_ascii_digit b && is_ascii_digit c && nat_le (three_digits a b c) 255 then Ok (Some (three_digits a b c, rest))
     else Err WrongEscape
 
--- what stands after a backslash: a digit begins an escape of three, and other graphic ASCII is that octet
+-- what comes after a backslash: a digit begins an escape of three, and other graphic ASCII is that octet
 unfoldable pub escaped : Octets → Result (Option (ℕ × Octets)) ScanFault
 escaped [] = Err CutEscape
 escaped (octet ∷ rest) =
@@ -62,7 +62,7 @@ escaped (octet ∷ rest) =
 unfoldable pub next_octet : Octets → Result (Option (ℕ × Octets)) ScanFault
 next_octet [] = Ok None
 next_octet (octet ∷ rest) =
-    if is_plain octet then Ok (Some (octet, rest))
+    if is_unescaped octet then Ok (Some (octet, rest))
     else if octet == backslash_octet then escaped rest
     else Ok None
 
@@ -71,13 +71,13 @@ abbrev pub with_octet : ℕ → Result (Octets × Octets) ScanFault → Result (
 with_octet octet (Ok (others, rest)) = Ok (octet ∷ others, rest)
 with_octet octet (Err fault) = Err fault
 
--- what is read from a text, where this is its next octet and more reads what stands after it
+-- what is read from a text, if this is its next octet and more reads what comes after it
 abbrev pub then_octets : (Octets → Result (Octets × Octets) ScanFault) → Octets → Result (Option (ℕ × Octets)) ScanFault → Result (Octets × Octets) ScanFault
 then_octets more text (Ok (Some (octet, rest))) = with_octet octet (more rest)
 then_octets more text (Ok None) = Ok ([], text)
 then_octets more text (Err fault) = Err fault
 
--- the octets at the start of a text, where that many have room, and the text after them
+-- the octets at the start of a text, if that many have room, and the text after them
 unfoldable pub octets_within : ℕ → Octets → Result (Octets × Octets) ScanFault
 octets_within zero text = then_octets (λ _. Err Overlong) text (next_octet text)
 octets_within (suc room) text = then_octets (λ more. octets_within room more) text (next_octet text)
@@ -99,7 +99,7 @@ parse_error WrongEscape = parse_errors.InvalidEscape
 abbrev pub prefix_label : Octets → Result (Octets × Octets) LabelParseError
 prefix_label text = result_map_both (λ prefix. prefix) parse_error (label_scan text)
 
--- the contents, where the text ends after them
+-- the contents, if the text ends after them
 abbrev pub whole_label : Result (Octets × Octets) ScanFault → Result Octets LabelParseError
 whole_label (Ok (contents, [])) = Ok contents
 whole_label (Ok (contents, octet ∷ rest)) = Err parse_errors.InvalidChar
@@ -111,13 +111,13 @@ parsed_label text = whole_label (label_scan text)
 
 -- ---- the start of a text
 
--- a text that more octets might follow: where it cuts an escape it is too short
+-- a text that more octets might follow: if it cuts an escape it is too short
 abbrev pub split_error : ScanFault → LabelSplitError
 split_error Overlong = split_errors.Overlong
 split_error CutEscape = split_errors.ShortInput
 split_error WrongEscape = split_errors.InvalidEscape
 
--- the contents and the text after them, where it does not end there
+-- the contents and the text after them, if it does not end there
 abbrev pub label_at_start : Result (Octets × Octets) ScanFault → Result (Octets × Octets) LabelSplitError
 label_at_start (Ok (contents, [])) = Err split_errors.ShortInput
 label_at_start (Ok (contents, octet ∷ rest)) = Ok (contents, octet ∷ rest)
@@ -138,18 +138,18 @@ GivesResult view (Err e) read = read ≡ Err e
 
 -- an octet that no text of a label has: it ends a label's text
 abbrev pub IsForeign : ℕ → Type 0
-IsForeign octet = IsFalse (is_plain octet) × (octet ≢ backslash_octet)
+IsForeign octet = IsFalse (is_unescaped octet) × (octet ≢ backslash_octet)
 
 -- the text at hand is at its end, or at an octet that no text of a label has
 abbrev pub EndsLabel : Octets → Type 0
 EndsLabel [] = ⊤
 EndsLabel (octet ∷ rest) = IsForeign octet
 
--- The text spells these octets, one after another: one that stands for itself, graphic ASCII other than a digit after a
+-- The text spells these octets, one after another: one that represents itself, graphic ASCII other than a digit after a
 -- backslash, or a backslash and three digits of a number up to 255.
 pub data SpellsLabel : Octets → Octets → Type 0 where
   ended : SpellsLabel [] []
-  itself : (octet : ℕ) (text octets : Octets) → IsTrue (is_plain octet) → SpellsLabel text octets → SpellsLabel (octet ∷ text) (octet ∷ octets)
+  itself : (octet : ℕ) (text octets : Octets) → IsTrue (is_unescaped octet) → SpellsLabel text octets → SpellsLabel (octet ∷ text) (octet ∷ octets)
   backslash : (octet : ℕ) (text octets : Octets) → IsTrue (is_ascii_graphic octet) → IsFalse (is_ascii_digit octet) → SpellsLabel text octets → SpellsLabel (backslash_octet ∷ octet ∷ text) (octet ∷ octets)
   digits : (a b c : ℕ) (text octets : Octets) → IsTrue (is_ascii_digit a) → IsTrue (is_ascii_digit b) → IsTrue (is_ascii_digit c) → three_digits a b c ≤ 255 → SpellsLabel text octets → SpellsLabel (backslash_octet ∷ a ∷ b ∷ c ∷ text) (three_digits a b c ∷ octets)
 
@@ -195,9 +195,9 @@ pub record SpellsMore (most : ℕ) (text : Octets) : Type 0 where
   pub spells : SpellsLabel prefix contents
   pub more : length contents ≡ suc most
 
--- A text in its plain spelling: no octet that stands for itself is escaped, and no graphic ASCII stands in digits.
-pub data IsPlainText : Octets → Type 0 where
-  ended : IsPlainText []
-  itself : (octet : ℕ) (text : Octets) → IsTrue (is_plain octet) → IsPlainText text → IsPlainText (octet ∷ text)
-  backslash : (octet : ℕ) (text : Octets) → IsTrue (is_ascii_graphic octet) → IsFalse (is_plain octet) → IsPlainText text → IsPlainText (backslash_octet ∷ octet ∷ text)
-  digits : (a b c : ℕ) (text : Octets) → IsTrue (is_ascii_digit a) → IsTrue (is_ascii_digit b) → IsTrue (is_ascii_digit c) → three_digits a b c ≤ 255 → IsFalse (is_ascii_graphic (three_digits a b c)) → IsPlainText text → IsPlainText (backslash_octet ∷ a ∷ b ∷ c ∷ text)
+-- A text in its plain spelling: no octet that represents itself is escaped, and no graphic ASCII is in digits.
+pub data IsUnescapedText : Octets → Type 0 where
+  ended : IsUnescapedText []
+  itself : (octet : ℕ) (text : Octets) → IsTrue (is_unescaped octet) → IsUnescapedText text → IsUnescapedText (octet ∷ text)
+  backslash : (octet : ℕ) (text : Octets) → IsTrue (is_ascii_graphic octet) → IsFalse (is_unescaped octet) → IsUnescapedText text → IsUnescapedText (backslash_octet ∷ octet ∷ text)
+  digits : (a b c : ℕ) (text : Octets) → IsTrue (is_ascii_digit a) → IsTrue (is_ascii_digit b) → IsTrue (is_ascii_digit c) → three_digits a b c ≤ 255 → IsFalse (is_ascii_graphic (three_digits a b c)) → IsUnescapedText text → IsUnescapedText (backslash_octet ∷ a ∷ b ∷ c ∷ text)

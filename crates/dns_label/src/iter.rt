@@ -1,4 +1,4 @@
-//! Going over labels that stand one after another.
+//! Going over labels that come one after another.
 
 ghost use Rattle.std.specs.Prelude.{◌≡◌, ◌↔◌, [], IsTrue, ⊤};
 ghost use Rattle.std.specs.Iterator.{YieldsFirstBy, item_count};
@@ -10,17 +10,17 @@ use dns_wire::SplitBytes;
 use std::alloc::AllocError;
 use std::marker::Model;
 
-/// The labels that stand one after another, in order. It is seen as the labels that are still to come.
+/// The labels that come one after another, in order. It is seen as the labels that are still to come.
 #[derive(Debug, Drop)]
 pub struct LabelIter<'a> {
     octets: &'a [u8],
 }
 
 impl<'a> Model for LabelIter<'a> {
-    ghost use Rattle.std.specs.Prelude.{ℕ, List};
     ghost use Rattle.dns_label.specs.Labels.{AreLabels, sequence_labels};
+    ghost use Rattle.dns_wire.specs.Octets.{Labels};
 
-    ghost Value = { List (List ℕ) };
+    ghost Value = { Labels };
 
     ghost view = { λ i. sequence_labels i.octets.now };
 
@@ -70,7 +70,7 @@ impl<'a> Iterator for LabelIter<'a> {
 
     ghost remaining = { item_count (λ labels. labels) };
 
-    /// The next label. It is none where none is left, and then always.
+    /// The next label. It is `None` if none is left, and then always.
     fn next(&mut self) -> Option<Label<'a>> {
         match Label::split_bytes(self.octets) {
             Ok((label, rest)) => {

@@ -59,7 +59,7 @@ impl LabelBuf {
         }
     }
 
-    /// Adds the octets at the end. `TruncationError` comes exactly where there would be more than 63, and
+    /// Adds the octets at the end. `TruncationError` comes exactly if there would be more than 63, and
     /// then nothing changes.
     pub fn append(&mut self, bytes: &[u8]) -> Result<(), TruncationError>
         ensures fits { IsOk result ↔ (length self.old + length bytes.now ≤ 63) }
@@ -76,7 +76,7 @@ impl LabelBuf {
         Ok(())
     }
 
-    /// Adds the octet at the end. `TruncationError` comes exactly where there are 63 already, and then
+    /// Adds the octet at the end. `TruncationError` comes exactly if there are 63 already, and then
     /// nothing changes.
     pub fn push(&mut self, byte: u8) -> Result<(), TruncationError>
         ensures fits { IsOk result ↔ (length self.old < 63) }
@@ -131,7 +131,7 @@ fn append_at(octets: &mut [u8], size: usize, bytes: &[u8])
     octets[1 + size..1 + size + bytes.len()].copy_from_slice(bytes);
 }
 
-/// The label with these contents. `TruncationError` comes exactly where they are more than 63 octets.
+/// The label with these contents. `TruncationError` comes exactly if they are more than 63 octets.
 pub fn label_of(bytes: &[u8]) -> Result<LabelBuf, TruncationError>
     ensures fits { IsOk result ↔ (length bytes.now ≤ 63) }
     ensures contents { IfOk result (λ label. label ≡ bytes.now) }

@@ -3,7 +3,7 @@
 ghost use Rattle.std.specs.Prelude.{◌≡◌, ◌<◌, Some, option_map};
 ghost use Rattle.std.specs.Char.{IsAsciiDigit};
 ghost use Rattle.dns_label.specs.Labels.{contents_of};
-ghost use Rattle.dns_label.specs.Text.{GivesResult, is_plain, three_digits, shown_octet, shown_label, escaped, in_digits, next_octet, label_scan, parsed_label, split_label};
+ghost use Rattle.dns_label.specs.Text.{GivesResult, is_unescaped, three_digits, shown_octet, shown_label, escaped, in_digits, next_octet, label_scan, parsed_label, split_label};
 
 use crate::label::Label;
 use crate::label_buf::LabelBuf;
@@ -11,18 +11,18 @@ use crate::text_error::{LabelParseError, LabelSplitError, ScanFault};
 use std::fmt;
 use std::str::FromStr;
 
-/// The marks that stand for themselves, as letters and digits do.
+/// The marks that represent themselves, as letters and digits do.
 const MARKS: &[u8] = b"!#$%&'*+,-^_`{|}~";
 
-/// Whether the octet is printed as it is, and stands for itself in a text.
-fn is_plain(octet: u8) -> bool
-    ensures { result ≡ is_plain octet }
+/// Whether the octet is printed as it is, and represents itself in a text.
+fn is_unescaped(octet: u8) -> bool
+    ensures { result ≡ is_unescaped octet }
 {
     octet.is_ascii_alphanumeric() || MARKS.contains(&octet)
 }
 
 impl LabelBuf {
-    /// Reads the label that the whole text spells. Each error comes exactly where its fault is the first
+    /// Reads the label that the whole text spells. Each error comes exactly if its fault is the first
     /// one from the left.
     pub fn parse_str(s: &[u8]) -> Result<LabelBuf, LabelParseError>
         ensures { result ≡ parsed_label s.now }
@@ -35,7 +35,7 @@ impl LabelBuf {
     }
 
     /// Reads the label at the start of the text, and gives the text after it, which begins with an octet
-    /// that no text of a label has. Each error comes exactly where its fault is the first one from the left.
+    /// that no text of a label has. Each error comes exactly if its fault is the first one from the left.
     pub fn split_str(s: &[u8]) -> Result<(LabelBuf, &[u8]), LabelSplitError>
         ensures { GivesResult (λ x. (x.0, x.1.now)) result (split_label s.now) }
     {
@@ -82,7 +82,7 @@ fn next_octet(text: &[u8]) -> Result<Option<(u8, &[u8])>, ScanFault>
     let [octet, trailing @ ..] = text else {
         return Ok(None);
     };
-    if is_plain(*octet) {
+    if is_unescaped(*octet) {
         return Ok(Some((*octet, trailing)));
     }
     if *octet == b'\\' {
@@ -91,7 +91,7 @@ fn next_octet(text: &[u8]) -> Result<Option<(u8, &[u8])>, ScanFault>
     Ok(None)
 }
 
-/// The octet that stands after a backslash, and the text after it.
+/// The octet after a backslash, and the text after it.
 #[tactic(auto, unfolding(crate::specs::Text::escaped))]
 fn escaped(text: &[u8]) -> Result<Option<(u8, &[u8])>, ScanFault>
     ensures { GivesResult (λ found. option_map (λ x. (x.0, x.1.now)) found) result (escaped text.now) }
@@ -108,7 +108,7 @@ fn escaped(text: &[u8]) -> Result<Option<(u8, &[u8])>, ScanFault>
     Err(ScanFault::WrongEscape)
 }
 
-/// The octet of an escape in three digits, the first of which stands before the text.
+/// The octet of an escape in three digits, the first of which comes before the text.
 #[tactic(auto, unfolding(crate::specs::Text::in_digits))]
 fn in_digits(first: u8, text: &[u8]) -> Result<Option<(u8, &[u8])>, ScanFault>
     requires { IsAsciiDigit first }
@@ -147,7 +147,7 @@ impl fmt::Display for Shown {
 
     fn fmt<W: fmt::Write>(&self, f: &mut fmt::Formatter<W>) -> fmt::Result {
         let octet = self.0;
-        if is_plain(octet) {
+        if is_unescaped(octet) {
             f.write_char(char::from(octet))
         } else if octet.is_ascii_graphic() {
             f.write_char('\\')?;

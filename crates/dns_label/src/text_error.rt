@@ -8,13 +8,13 @@ pub enum LabelParseError {
     /// The label would have more than 63 octets (RFC 1035 section 2.3.4).
     #[error("the label was too large")]
     Overlong,
-    /// An octet stands in the text that no text of a label has, as a space or a dot.
+    /// The text has an octet that no text of a label has, such as a space or a dot.
     #[error("the label contained an invalid character")]
     InvalidChar,
     /// The text ends within an escape: after a backslash, or before the third of three digits.
     #[error("the label contained an incomplete escape")]
     PartialEscape,
-    /// A backslash stands before what is no escape: a number that is not of three decimal digits or is
+    /// A backslash comes before what is no escape: a number that is not of three decimal digits or is
     /// above 255, or an octet that is no graphic ASCII.
     #[error("the label contained an invalid escape")]
     InvalidEscape,
@@ -29,7 +29,7 @@ pub enum LabelSplitError {
     /// Never comes: the label ends before an octet that no text of a label has.
     #[error("the label contained an invalid character")]
     InvalidChar,
-    /// A backslash stands before what is no escape: a number that is not of three decimal digits or is
+    /// A backslash comes before what is no escape: a number that is not of three decimal digits or is
     /// above 255, or an octet that is no graphic ASCII.
     #[error("the label contained an invalid escape")]
     InvalidEscape,
@@ -45,7 +45,7 @@ pub(crate) enum ScanFault {
     Overlong,
     /// An escape that the end of the text cuts.
     CutEscape,
-    /// An escape that stands for no octet.
+    /// An escape that represents no octet.
     WrongEscape,
 }
 

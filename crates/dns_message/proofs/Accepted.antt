@@ -12,9 +12,9 @@ use Rattle.dns_wire.specs.Layout.{laid}
 use Rattle.dns_wire.specs.Layout.LayoutPart.{NamePart}
 use Rattle.dns_wire.proofs.RunLemmas.{fits_more}
 use Rattle.dns_num.specs.InMessage.{zeros}
-use Rattle.dns_record.specs.InMessage.{record_numbers, question_writes}
+use Rattle.dns_record.specs.InMessage.{fixed_header, question_writes}
 use Rattle.dns_record.specs.Formats.{rdata_format}
-use Rattle.dns_message.specs.Building.{Draft, drafted, count_in, has_later, pushed, PushAnswers}
+use Rattle.dns_message.specs.Building.{Draft, drafted, count_in, has_later, pushed, PushResults}
 use Rattle.dns_message.specs.Built.{field_part, built}
 use Rattle.dns_message.specs.Canonical.{lowercase_names}
 use Rattle.dns_message.specs.Messages.{Item, RecordValue, message_reading, records_among, Valid}
@@ -68,13 +68,13 @@ module _ (section : ℕ) (fits : List ℕ → List ℕ → Type 0) (writes : Com
   abbrev needed : ℕ
   needed = 12 + length draft.contents + length (writes draft.contents draft.places).0
 
-  answer_is : {A : Type 0} (result : Result A MessageBuildError) → PushAnswers section fits writes draft result → accepts later count needed draft.size ≡ is_ok result
+  answer_is : {A : Type 0} (result : Result A MessageBuildError) → PushResults section fits writes draft result → accepts later count needed draft.size ≡ is_ok result
   answer_is (Err Misplaced) answers = later_refused later count needed draft.size answers
   answer_is (Err TooMany) answers = full_refused later count needed draft.size answers.0 answers.1
   answer_is (Err Truncated) answers = short_refused later count needed draft.size answers.0 answers.1 (λ room. answers.2 (fit, room))
   answer_is (Ok done) answers = room_accepted later count needed draft.size answers.0 answers.1 answers.2.1
 
-pub answers_ok : {A : Type 0} (push : Push) (fits : List ℕ → List ℕ → Type 0) (draft : Draft) (result : Result A MessageBuildError) → fits draft.contents draft.places → PushAnswers (push_section push) fits (push_writes push) draft result
+pub answers_ok : {A : Type 0} (push : Push) (fits : List ℕ → List ℕ → Type 0) (draft : Draft) (result : Result A MessageBuildError) → fits draft.contents draft.places → PushResults (push_section push) fits (push_writes push) draft result
     → IsOk result ↔ IsTrue (is_accepted push draft)
 answers_ok push fits draft result fit answers =
     let same = answer_is (push_section push) fits (push_writes push) draft fit result answers in
@@ -94,7 +94,7 @@ module _ (contents places : List ℕ) (fits : FitsIn places contents) where
   record_fits : (r : RecordValue) → WellFormed r → FitsIn (built r contents places).1 (contents ++ (built r contents places).0)
   record_fits r is =
       let p = compress contents places r.owner in
-      let numbers = record_numbers r.rtype r.class r.ttl in
+      let numbers = fixed_header r.rtype r.class r.ttl in
       let known = recorded places (contents ++ p) (length contents) in
       let prefix = (contents ++ p) ++ numbers in
       let layout = map field_part r.content in

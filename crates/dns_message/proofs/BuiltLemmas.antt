@@ -27,7 +27,7 @@ use Rattle.dns_message.proofs.SizedRead.{sized_laid_read}
 use Rattle.dns_record.specs.Data.{data_in}
 use Rattle.dns_record.specs.Fields.{Field, field_octets, fields_octets, lowercased_field, canonical_fields}
 use Rattle.dns_record.specs.Fields.FieldOf.{Compressible, Uncompressed, Raw, Sized, Byte, Number}
-use Rattle.dns_record.specs.InMessage.{record_numbers}
+use Rattle.dns_record.specs.InMessage.{fixed_header}
 use Rattle.dns_record.specs.InPlace.{OctetsAt}
 use Rattle.dns_record.specs.Kinds.{Kind, field_of, field_in, fields_in}
 use Rattle.dns_record.specs.Kinds.Kind.{OneByte, OneNumber, SoMany, CompressibleName, UncompressedName, CharacterString, CharacterStrings, Options, TypeBitMaps, NonEmptyTypeBitMaps, Rest}
@@ -35,7 +35,7 @@ use Rattle.dns_record.specs.Questions.{question_in}
 use Rattle.dns_record.specs.Records.{record_in, end_of}
 use Rattle.dns_record.specs.Formats.{rdata_format, rdata_formats, format_under, format_unknown}
 use Rattle.dns_record.specs.Types.{is_lowercased}
-use Rattle.dns_record.proofs.UncompressedNames.{is_bare, all_uncompressed, field_placed}
+use Rattle.dns_record.proofs.UncompressedNames.{is_uncompressed, all_uncompressed, field_placed}
 use Rattle.dns_record.proofs.Places.{in_prefix, read_placed, read_at}
 use Rattle.dns_message.specs.Built.{field_part, ReadAgain, QuestionAgain}
 use Rattle.dns_message.specs.Messages.{RecordValue}
@@ -45,7 +45,7 @@ use Rattle.dns_message.proofs.Whole.{content_suits}
 
 -- ---- fields
 
--- the fields that are read again: the same, but for ASCII case in names that were compressed
+-- the fields that are read again: the same, except for ASCII case in names that were compressed
 record Again (kinds : List Kind) (c : List ℕ) (at : ℕ) (fs : List Field) : Type 0 where
   fields : List Field
   read : fields_in name_at kinds c at ≡ Some (fields, length c)
@@ -62,7 +62,7 @@ chosen_last true d e h = e
 chosen_last false d e h = absurd cc
 
 -- a field that is no name with pointers
-uncompressed_read : (kind : Kind) (f : Field) (c : List ℕ) (at end : ℕ) → is_bare kind ≡ true → Suits kind f → OctetsAt c at (field_octets f) end → (is_last kind ≡ true → end ≡ length c) → field_in name_at kind c at ≡ Some (f, end)
+uncompressed_read : (kind : Kind) (f : Field) (c : List ℕ) (at end : ℕ) → is_uncompressed kind ≡ true → Suits kind f → OctetsAt c at (field_octets f) end → (is_last kind ≡ true → end ≡ length c) → field_in name_at kind c at ≡ Some (f, end)
 uncompressed_read kind f c at end uncompressed suits o last =
     let i = in_prefix c at (field_octets f) end o in
     let nothing : is_last kind ≡ true → drop end c ≡ [] = λ e. drop_all end c (omega (arith, last e)) in
@@ -74,13 +74,13 @@ uncompressed_read kind f c at end uncompressed suits o last =
       end_is = i.end_is;
     })
 
-uncompressed_again : (kind : Kind) (f : Field) (kinds : List Kind) (fs : List Field) (c : List ℕ) (at : ℕ) → is_bare kind ≡ true → is_format (kind ∷ kinds) ≡ true → Suits kind f → AllSuit kinds fs
+uncompressed_again : (kind : Kind) (f : Field) (kinds : List Kind) (fs : List Field) (c : List ℕ) (at : ℕ) → is_uncompressed kind ≡ true → is_format (kind ∷ kinds) ≡ true → Suits kind f → AllSuit kinds fs
     → (at + length (field_octets f) ≤ length c) × (take (length (field_octets f)) (drop at c) ≡ field_octets f) × LayoutAt c (at + length (field_octets f)) (map field_part fs) (length c)
     → Again kinds c (at + length (field_octets f)) fs → Again (kind ∷ kinds) c at (f ∷ fs)
 uncompressed_again kind f kinds fs c at uncompressed rdata_format suits others p later =
     let end : ℕ = at + length (field_octets f) in
     let parts = format_parts kind kinds rdata_format in
-    let first : field_in name_at kind c at ≡ Some (f, end) = uncompressed_read kind f c at end uncompressed suits (record { end_is = refl; within = p.0; stand = sym p.1 }) (λ h. nothing_after kinds fs c end (chosen_last (is_last kind) (is_none kinds) parts.last h) others p.2) in
+    let first : field_in name_at kind c at ≡ Some (f, end) = uncompressed_read kind f c at end uncompressed suits (record { end_is = refl; within = p.0; occur = sym p.1 }) (λ h. nothing_after kinds fs c end (chosen_last (is_last kind) (is_none kinds) parts.last h) others p.2) in
     record {
       fields = f ∷ later.fields;
       read = rw (first, later.read) refl;
@@ -157,7 +157,7 @@ laid_short (f ∷ fs) contents places =
       field_short (Byte b) = omega arith
       field_short (Number w n) = omega arith
 
--- ---- where names may be compressed, case counts for nothing
+-- ---- if names may be compressed, case counts for nothing
 
 -- a type with such names is one of the nine
 abbrev formats_lowercase : List (ℕ × List Kind) → Bool
@@ -195,7 +195,7 @@ octets_between c prefix octets back at is place =
     record {
       end_is = refl;
       within = omega (arith, ap length is, length-append prefix (octets ++ back), length-append octets back);
-      stand = sym (ap (take (length octets)) later ∙ take_at octets back (length octets) refl);
+      occur = sym (ap (take (length octets)) later ∙ take_at octets back (length octets) refl);
     }
 
 number_between : (w : Width) (c prefix back : List ℕ) (at n : ℕ) → FitsWidth w n → length (to_be_bytes w n) ≡ byte_len w → c ≡ prefix ++ (to_be_bytes w n ++ back) → at ≡ length prefix → plain_at (number w) c at ≡ Some (n, at + byte_len w)
@@ -211,7 +211,7 @@ module _ (r : RecordValue) (c places more : List ℕ) (is : WellFormed r) (fits 
   known = recorded places (c ++ p) (length c)
 
   abbrev numbers : List ℕ
-  numbers = record_numbers r.rtype r.class r.ttl
+  numbers = fixed_header r.rtype r.class r.ttl
 
   abbrev prefix : List ℕ
   prefix = (c ++ p) ++ numbers

@@ -1,4 +1,4 @@
--- Canonical lists are equal where the records are the same.
+-- Canonical lists are equal if the records are the same.
 use Rattle.std.proofs.Common.{◌≡◌, ℕ, true, false, cond, List, [], ◌∷◌, map, filter, Option, Some, None, refl, sym, ap, subst, ◌∙◌}
 use Rattle.std.specs.Prelude.{◌↔◌, Contains, reverse}
 use Rattle.std.specs.List.{All, AllByRecursion, dedup}
@@ -22,7 +22,7 @@ use Rattle.dns_message.proofs.Whole.{lowered_twice, canonical_twice, canonical_w
 
 -- ---- from octets to lowercased records
 
--- the record of some octets, where they are one
+-- the record of some octets, if they are one
 abbrev first_of : RecordValue → Option (RecordValue × List ℕ) → RecordValue
 first_of otherwise None = otherwise
 first_of otherwise (Some (r, rest)) = r
@@ -70,10 +70,10 @@ keys_lowercased (r ∷ rs) = λ i. key_lowercased r i ∷ keys_lowercased rs i
 -- what is compared of the records of one list that have the least times to live is so of the other's
 least_key_of : (rs ss : List RecordValue) → Same rs ss → (k : SortKey) → IsLeastKey rs k → IsLeastKey ss k
 least_key_of rs ss same k h =
-    let other = (same (lowercase_names h.found)).0 (record { found = h.found; stands = h.stands; not_opt = h.not_opt; lowercased = refl; least = h.least }) in
+    let other = (same (lowercase_names h.found)).0 (record { found = h.found; occurs = h.occurs; not_opt = h.not_opt; lowercased = refl; least = h.least }) in
     record {
       found = other.found;
-      stands = other.stands;
+      occurs = other.occurs;
       not_opt = other.not_opt;
       compared = sym (key_lowercased other.found) ∙ ap sort_key other.lowercased ∙ key_lowercased h.found ∙ h.compared;
       least = other.least;
@@ -94,7 +94,7 @@ canonical_list_from_same rs ss same = octets_alike (collapsed (filter is_not_opt
 
 -- ---- from lowercased records, in this order
 
--- a lowercased record has the type that it had, so it is kept where the record is
+-- a lowercased record has the type that it had, so it is kept if the record is
 not_opt_lowercased : (rs : List RecordValue) → filter is_not_opt (map lowercase_names rs) ≡ map lowercase_names (filter is_not_opt rs)
 not_opt_lowercased [] = refl
 not_opt_lowercased (r ∷ rs) =

@@ -4,9 +4,9 @@ use Rattle.std.specs.Prelude.{⊤, IsOk}
 use Rattle.std.proofs.lemmas.List.{take_at}
 use Rattle.dns_wire.specs.Building.{Builds}
 
--- where there is room, octets are written, and the others begin with them
+-- if there is room, octets are written, and the others begin with them
 pub written_prefix : {E : Type 0} (octets old new : List ℕ) (result : Result ℕ E) → length octets ≤ length old → Builds ⊤ octets old 0 new result → IsOk result × (take (length octets) new ≡ octets)
 written_prefix octets old new (Ok end) room built =
-    let stands = built.ok.1 in
-    (refl, ap (take (length octets)) stands.new_is ∙ take_at octets (drop end old) (length octets) refl)
+    let occurs = built.ok.1 in
+    (refl, ap (take (length octets)) occurs.new_is ∙ take_at octets (drop end old) (length octets) refl)
 written_prefix octets old new (Err e) room built = absurd (omega (arith, built.err.2 tt, room))

@@ -71,7 +71,7 @@ read_all : (m : List ℕ) (old new : MessageParser) (not_opt : List RecordValue)
 read_all m old new not_opt so over =
     (records_among so.items, (so.items, next_start old, sym so.read ∙ ap (with_items so.items) (ends ParseError old new over) ∙ all_whole so.items (next_start old), refl), so.not_opt_is)
 
--- where no item is given, all were
+-- if no item is given, all were
 pub read_over : (m : List ℕ) (old new : MessageParser) (not_opt : List RecordValue) (given : Option (ItemPosition × Result Parsed ParseError)) → ReadSoFar m old not_opt → GivesNext old given new → ((x : ItemPosition × Result Parsed ParseError) → ¬ (given ≡ Some x)) → (rs : List RecordValue) × Valid m rs × (not_opt ≡ filter is_not_opt rs)
 read_over m old new not_opt None so over none = read_all m old new not_opt so over
 read_over m old new not_opt (Some x) so over none = absurd (none x refl)

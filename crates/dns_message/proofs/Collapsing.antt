@@ -118,14 +118,14 @@ keys_climb rs = subst (Climbs alike_cmp) (sym (keys_collapsed rs)) (climbs alike
 -- a record of the list that is compared by this, to which no alike record has a smaller time to live
 pub record IsLeastKey (rs : List RecordValue) (k : SortKey) : Type 0 where
   pub found : RecordValue
-  pub stands : Contains rs found
+  pub occurs : Contains rs found
   pub not_opt : is_not_opt found ≡ true
   pub compared : sort_key found ≡ k
   pub least : (other : RecordValue) → Contains rs other → Alike other found → found.ttl ≤ other.ttl
 
 not_opt_key : (rs : List RecordValue) (r : RecordValue) → Contains rs r → is_not_opt r ≡ true → Among (sort_key r) (map sort_key (in_order (filter is_not_opt rs)))
-not_opt_key rs r stands not_opt =
-    among_map sort_key (in_order (filter is_not_opt rs)) r (among (in_order (filter is_not_opt rs)) r (ordered (filter is_not_opt rs) r (contains (filter is_not_opt rs) r (among_not_opt rs r (among rs r stands) not_opt))))
+not_opt_key rs r occurs not_opt =
+    among_map sort_key (in_order (filter is_not_opt rs)) r (among (in_order (filter is_not_opt rs)) r (ordered (filter is_not_opt rs) r (contains (filter is_not_opt rs) r (among_not_opt rs r (among rs r occurs) not_opt))))
 
 from_not_opt_order : (rs : List RecordValue) (r : RecordValue) → Contains (in_order (filter is_not_opt rs)) r → Contains rs r × (is_not_opt r ≡ true)
 from_not_opt_order rs r h =
@@ -148,17 +148,17 @@ least_keys rs k =
           let found = from_not_opt_key rs k held.0 in
           record {
             found = found.0;
-            stands = found.1;
+            occurs = found.1;
             not_opt = found.2;
             compared = found.3;
-            least = λ other stands alike.
+            least = λ other occurs alike.
                 let tied : alike_cmp (sort_key other) k ≡ Equal = ap (alike_cmp (sort_key other)) (sym found.3) ∙ (alike_keys other found.0).0 alike in
-                let later = held.1 (sort_key other) (not_opt_key rs other stands (not_opt_too found.0 other alike found.2)) tied in
+                let later = held.1 (sort_key other) (not_opt_key rs other occurs (not_opt_too found.0 other alike found.2)) tied in
                 let late : is_lt (nat_cmp other.ttl found.0.ttl) ≡ false = ap (λ (l : SortKey). is_lt (nat_cmp other.ttl l.ttl)) found.3 ∙ later in
                 at_most found.0.ttl other.ttl late;
           },
       λ h.
-          let here : Among k all = subst (λ (l : SortKey). Among l all) h.compared (not_opt_key rs h.found h.stands h.not_opt) in
+          let here : Among k all = subst (λ (l : SortKey). Among l all) h.compared (not_opt_key rs h.found h.occurs h.not_opt) in
           let none : (j : SortKey) → Among j all → alike_cmp j k ≡ Equal → is_lt (ttl_cmp j k) ≡ false = λ j there tied.
           (let other = from_not_opt_key rs j there in
           let alike = (alike_keys other.0 h.found).1 (ap (λ (l : SortKey). alike_cmp l (sort_key h.found)) other.3 ∙ ap (alike_cmp j) h.compared ∙ tied) in
@@ -167,14 +167,14 @@ least_keys rs k =
           subst (Among k) (sym same) (law.1 (here, none)),
     )
 
--- the records that are left stand in the list
+-- the records that are left are in the list
 pub all_left : (P : RecordValue → Type 0) (rs : List RecordValue) → All P rs → All P (collapsed (filter is_not_opt rs))
 all_left P rs all = All-dedup are_alike P (in_order (filter is_not_opt rs)) (All-permutation P (filter is_not_opt rs) (in_order (filter is_not_opt rs)) (in_order_moves (filter is_not_opt rs)) (All-filter is_not_opt P rs all))
 
 pub left_stand : (rs : List RecordValue) (r : RecordValue) → Contains (collapsed (filter is_not_opt rs)) r → Contains rs r × (is_not_opt r ≡ true)
 left_stand rs r h = from_not_opt_order rs r (Contains-from_dedup are_alike (in_order (filter is_not_opt rs)) r h)
 
--- where no record is of type OPT, all are kept
+-- if no record is of type OPT, all are kept
 pub all_not_opt : (rs : List RecordValue) → All (λ (r : RecordValue). is_not_opt r ≡ true) rs → filter is_not_opt rs ≡ rs
 all_not_opt rs all = by rs (recursion_from_All (λ (r : RecordValue). is_not_opt r ≡ true) rs all) where
   by : (rs : List RecordValue) → AllByRecursion (λ (r : RecordValue). is_not_opt r ≡ true) rs → filter is_not_opt rs ≡ rs
@@ -197,20 +197,20 @@ least_members rs are x =
           let ttl : key.found.ttl ≡ r.ttl = ap (λ (k : SortKey). k.ttl) key.compared in
           record {
             found = r;
-            stands = there.0;
+            occurs = there.0;
             not_opt = there.1;
             lowercased = found.2;
-            least = λ other stands alike.
+            least = λ other occurs alike.
                 let also = (alike_keys other key.found).1 (ap (alike_cmp (sort_key other)) key.compared ∙ (alike_keys other r).0 alike) in
-                omega (arith, ttl, key.least other stands also);
+                omega (arith, ttl, key.least other occurs also);
           },
       λ h.
-          let key = (least_keys rs (sort_key h.found)).1 (record { found = h.found; stands = h.stands; not_opt = h.not_opt; compared = refl; least = h.least }) in
+          let key = (least_keys rs (sort_key h.found)).1 (record { found = h.found; occurs = h.occurs; not_opt = h.not_opt; compared = refl; least = h.least }) in
           let found = from_map sort_key left (sort_key h.found) key in
           let r = found.0 in
           let there = left_stand rs r (contains left r found.1) in
           let octets : canonical_wire r ≡ canonical_wire h.found = sym (key_canonical_wire r) ∙ ap octets_of_key found.2 ∙ key_canonical_wire h.found in
-          let lowercases : lowercase_names r ≡ lowercase_names h.found = (canonical_wire_same r h.found (of_member WellFormed rs r are there.0) (of_member WellFormed rs h.found are h.stands)).0 octets in
+          let lowercases : lowercase_names r ≡ lowercase_names h.found = (canonical_wire_same r h.found (of_member WellFormed rs r are there.0) (of_member WellFormed rs h.found are h.occurs)).0 octets in
           contains (least rs) x (subst (λ (y : RecordValue). Among y (least rs)) (lowercases ∙ h.lowercased) (among_map lowercase_names left r found.1)),
     )
 

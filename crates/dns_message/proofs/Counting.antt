@@ -5,7 +5,7 @@ use Rattle.std.specs.Int.{w16, from_be_bytes}
 use Rattle.std.specs.List.{Contains}
 use Rattle.std.proofs.lemmas.Bool.{cases_lt}
 use Rattle.std.proofs.lemmas.List.{get_or-take, get_or-drop}
-use Rattle.dns_message.specs.Counted.{IsCounted, IsEarlier, StandsBefore}
+use Rattle.dns_message.specs.Counted.{IsCounted, IsEarlier, ComesBefore}
 use Rattle.dns_message.specs.Messages.{slots, slots_from, counts_of, counted_slots}
 
 -- ---- members of lists
@@ -105,7 +105,7 @@ count_there m (suc (suc (suc (suc section)))) low = absurd (omega arith)
 
 among_counted : (m : List ℕ) (section index : ℕ) → IsCounted m section index → Among (section, index) (counted_slots m)
 among_counted m section index is =
-    let same : is.count ≡ get_or (counts_of m) section 0 = is.stands.is ∙ sym (count_there m section is.four) in
+    let same : is.count ≡ get_or (counts_of m) section 0 = is.occurs.is ∙ sym (count_there m section is.four) in
     let here : 0 + section ≡ section = omega arith in
     subst (λ (s : ℕ). Among (s, index) (counted_slots m)) here (sections_have (counts_of m) 0 section index (omega (arith, is.four)) (omega (arith, is.below, same)))
 
@@ -117,7 +117,7 @@ counted_among m section index header h =
     record {
       four = four;
       count = get_or (counts_of m) section 0;
-      stands = record { end_is = refl; within = omega arith; is = count_there m section four };
+      occurs = record { end_is = refl; within = omega arith; is = count_there m section four };
       below = subst (λ (s : ℕ). index < get_or (counts_of m) s 0) here p.below;
     }
 
@@ -167,30 +167,30 @@ parted y [] h = absurd h
 parted y (z ∷ ys) (inl e) = ([], ys, ap (λ (w : ℕ × ℕ). w ∷ ys) (sym e))
 parted y (z ∷ ys) (inr h) = let p = parted y ys h in (z ∷ p.0, p.1, ap (λ (l : List (ℕ × ℕ)). z ∷ l) p.2)
 
-stands_before : (xs : List (ℕ × ℕ)) (x y : ℕ × ℕ) → Rises xs → Among x xs → Among y xs → IsEarlier x y → StandsBefore x y xs
-stands_before [] x y rises h k earlier = absurd h
-stands_before (z ∷ zs) x y rises (inl e) (inl f) earlier =
+occurs_before : (xs : List (ℕ × ℕ)) (x y : ℕ × ℕ) → Rises xs → Among x xs → Among y xs → IsEarlier x y → ComesBefore x y xs
+occurs_before [] x y rises h k earlier = absurd h
+occurs_before (z ∷ zs) x y rises (inl e) (inl f) earlier =
     let same : x ≡ y = e ∙ sym f in
     absurd (not_both x y earlier (subst (λ (w : ℕ × ℕ). IsEarlier w x) same (subst (IsEarlier x) (sym same) earlier)))
-stands_before (z ∷ zs) x y rises (inl e) (inr k) earlier =
+occurs_before (z ∷ zs) x y rises (inl e) (inr k) earlier =
     let p = parted y zs k in
     ([], p.0, p.1, ap (λ (w : ℕ × ℕ). w ∷ zs) (sym e) ∙ ap (λ (l : List (ℕ × ℕ)). x ∷ l) p.2)
-stands_before (z ∷ zs) x y rises (inr h) (inl f) earlier = absurd (not_both x y earlier (subst (λ (w : ℕ × ℕ). IsEarlier w x) (sym f) (rises.0 x h)))
-stands_before (z ∷ zs) x y rises (inr h) (inr k) earlier =
-    let s = stands_before zs x y rises.1 h k earlier in
+occurs_before (z ∷ zs) x y rises (inr h) (inl f) earlier = absurd (not_both x y earlier (subst (λ (w : ℕ × ℕ). IsEarlier w x) (sym f) (rises.0 x h)))
+occurs_before (z ∷ zs) x y rises (inr h) (inr k) earlier =
+    let s = occurs_before zs x y rises.1 h k earlier in
     (z ∷ s.0, s.1, s.2, ap (λ (l : List (ℕ × ℕ)). z ∷ l) s.3)
 
-pub earlier_before : (m : List ℕ) (x y : ℕ × ℕ) → StandsBefore x y (counted_slots m) → IsEarlier x y
+pub earlier_before : (m : List ℕ) (x y : ℕ × ℕ) → ComesBefore x y (counted_slots m) → IsEarlier x y
 earlier_before m x y (prefix, middle, back, is) = before_is prefix middle back x y (subst Rises is (sections_rise (counts_of m) 0))
 
 pub order_words : (m : List ℕ) (section index other place : ℕ) → IsCounted m section index → IsCounted m other place
-    → StandsBefore (section, index) (other, place) (counted_slots m) ↔ IsEarlier (section, index) (other, place)
+    → ComesBefore (section, index) (other, place) (counted_slots m) ↔ IsEarlier (section, index) (other, place)
 order_words m section index other place is also = (
   earlier_before m (section, index) (other, place),
-  stands_before (counted_slots m) (section, index) (other, place) (sections_rise (counts_of m) 0) (among_counted m section index is) (among_counted m other place also),
+  occurs_before (counted_slots m) (section, index) (other, place) (sections_rise (counts_of m) 0) (among_counted m section index is) (among_counted m other place also),
 )
 
-pub stands_once : (m : List ℕ) (section index : ℕ) → StandsBefore (section, index) (section, index) (counted_slots m) → ⊥
-stands_once m section index before =
+pub occurs_once : (m : List ℕ) (section index : ℕ) → ComesBefore (section, index) (section, index) (counted_slots m) → ⊥
+occurs_once m section index before =
     let earlier = earlier_before m (section, index) (section, index) before in
     not_both (section, index) (section, index) earlier earlier

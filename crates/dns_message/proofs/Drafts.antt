@@ -1,8 +1,8 @@
--- Messages that are built: their counts stand in the header alone, and what a push writes is what it leaves.
+-- Messages that are built: their counts are in the header alone, and what a push writes is what it leaves.
 use Rattle.std.proofs.Common.{◌≡◌, ◌≤◌, ◌+◌, ◌*◌, ℕ, Bool, true, false, List, [], ◌∷◌, ◌++◌, length, take, drop, refl, sym, ap, ap₂, ◌∙◌, arith, append_assoc, length-take-le}
 use Rattle.std.specs.Prelude.{Result, Ok, Err, ◌==◌, if◌then◌else◌}
 use Rattle.std.proofs.lemmas.List.{get_or_append_left, length-append, take_at}
-use Rattle.dns_wire.specs.Building.{Stands}
+use Rattle.dns_wire.specs.Building.{Occurs}
 use Rattle.dns_wire.specs.Compression.{CompressedWrite}
 use Rattle.dns_message.specs.Building.{Draft, count_in, has_later, next_count, with_count, pushed}
 use Rattle.dns_message.specs.Headers.{number_in}
@@ -31,16 +31,16 @@ count_of false false n count e = cc
 next_is : (section : ℕ) (header : List ℕ) (count : ℕ) → next_count section header ≡ Ok count → count_in section header + 1 ≡ count
 next_is section header count e = count_of (has_later section header) (count_in section header == 65535) (count_in section header + 1) count e
 
--- where octets stand, they end what is before
-stands_take : {octets old new : List ℕ} {start end : ℕ} → Stands octets old start new end → take end new ≡ take start old ++ octets
-stands_take {octets} {old} {new} {start} {end} h =
+-- octets that are there end what comes before
+occurs_take : {octets old new : List ℕ} {start end : ℕ} → Occurs octets old start new end → take end new ≡ take start old ++ octets
+occurs_take {octets} {old} {new} {start} {end} h =
     ap (take end) (h.new_is ∙ sym (append_assoc (take start old) octets (drop end old)))
     ∙ take_at (take start old ++ octets) (drop end old) end (length-append (take start old) octets ∙ omega (arith, h.end_is, h.within, length-take-le start old (omega (arith, h.end_is, h.within))))
 
 -- a buffer in which an item was written, and then its count, shows what the push leaves
-pub pushed_is : (section count : ℕ) (writes : CompressedWrite) (before between after : List ℕ) (size end : ℕ) (places recorded : List ℕ) → next_count section (take 12 before) ≡ Ok count → take 12 between ≡ take 12 before → take 12 after ≡ with_count section count (take 12 between) → drop 12 after ≡ drop 12 between → length after ≡ length before → Stands (writes (take size (drop 12 before)) places).0 (drop 12 before) size (drop 12 between) end → recorded ≡ (writes (take size (drop 12 before)) places).1 → ◌≡◌ {A = Draft} (record { header = take 12 after; contents = take end (drop 12 after); size = length after; places = recorded }) (pushed section writes (record { header = take 12 before; contents = take size (drop 12 before); size = length before; places = places }))
-pushed_is section count writes before between after size end places recorded next prefix written trailing long stands after_is =
+pub pushed_is : (section count : ℕ) (writes : CompressedWrite) (before between after : List ℕ) (size end : ℕ) (places recorded : List ℕ) → next_count section (take 12 before) ≡ Ok count → take 12 between ≡ take 12 before → take 12 after ≡ with_count section count (take 12 between) → drop 12 after ≡ drop 12 between → length after ≡ length before → Occurs (writes (take size (drop 12 before)) places).0 (drop 12 before) size (drop 12 between) end → recorded ≡ (writes (take size (drop 12 before)) places).1 → ◌≡◌ {A = Draft} (record { header = take 12 after; contents = take end (drop 12 after); size = length after; places = recorded }) (pushed section writes (record { header = take 12 before; contents = take size (drop 12 before); size = length before; places = places }))
+pushed_is section count writes before between after size end places recorded next prefix written trailing long occurs after_is =
     let header_is : take 12 after ≡ with_count section (count_in section (take 12 before) + 1) (take 12 before) =
     written ∙ ap (with_count section count) prefix ∙ ap (λ n. with_count section n (take 12 before)) (sym (next_is section (take 12 before) count next)) in
-    let contents_is : take end (drop 12 after) ≡ take size (drop 12 before) ++ (writes (take size (drop 12 before)) places).0 = ap (take end) trailing ∙ stands_take stands in
+    let contents_is : take end (drop 12 after) ≡ take size (drop 12 before) ++ (writes (take size (drop 12 before)) places).0 = ap (take end) trailing ∙ occurs_take occurs in
     rw (header_is, contents_is, long, after_is) refl

@@ -13,7 +13,7 @@ use Rattle.dns_wire.proofs.Cutting.{octet_at}
 use Rattle.dns_num.specs.InMessage.{zeros}
 use Rattle.dns_num.specs.Prefixed.{sized}
 use Rattle.dns_record.specs.Fields.{Field, canonical_fields}
-use Rattle.dns_record.specs.InMessage.{record_numbers}
+use Rattle.dns_record.specs.InMessage.{fixed_header}
 use Rattle.dns_record.specs.Options.{is_option_data}
 use Rattle.dns_record.specs.Types.{is_lowercased}
 use Rattle.dns_record.proofs.Opted.{options_are}
@@ -35,7 +35,7 @@ use Rattle.dns_message.proofs.Whole.{data_back, parts_octets}
 
 -- ---- what is written
 
--- each field has octets of its own among the four of a time to live
+-- each field has its own octets among the four of a time to live
 ttl_octets : (a b c : ℕ) → a < 2 ^ 8 → b < 2 ^ 8 → c < 2 ^ 16 → to_be_bytes w32 (edns_ttl a b c) ≡ a ∷ (b ∷ to_be_bytes w16 c)
 ttl_octets a b c a-fits b-fits c-fits =
     let n = edns_ttl a b c in
@@ -71,7 +71,7 @@ edns_built r octets contents places few ext version flags =
     let known = recorded places (contents ++ p) (length contents) in
     let payload = to_be_bytes w16 r.max_udp_payload.value in
     let ttl = edns_ttl r.ext_rcode r.version (flag_bits r.flags) in
-    let numbers = record_numbers 41 r.max_udp_payload.value ttl in
+    let numbers = fixed_header 41 r.max_udp_payload.value ttl in
     let ttl_is = ttl_octets r.ext_rcode r.version (flag_bits r.flags) ext version flags in
     let inner = list_writes-one part_writes (Octets octets) (((contents ++ p) ++ numbers) ++ zeros w16) known in
     sym (ap (λ (x : List ℕ × List ℕ). (p ++ (numbers ++ sized w16 x.0), x.1)) inner
@@ -88,7 +88,7 @@ no_labels (label ∷ labels) e = absurd cc
 fields_stay : (rtype : ℕ) (fields : List Field) → is_lowercased rtype ≡ false → canonical_fields rtype fields ≡ fields
 fields_stay rtype fields unchanged = rw unchanged refl
 
--- a record of the root, whose type is none of the nine, is the same where it is the same when lowercased
+-- a record of the root, whose type is none of the nine, is the same if it is the same when lowercased
 lowercase_exact : (there r : RecordValue) → lowercase_names there ≡ lowercase_names r → r.owner ≡ [] → is_lowercased r.rtype ≡ false → there ≡ r
 lowercase_exact there r alike root unchanged =
     let rtype : there.rtype ≡ r.rtype = ap (λ (s : RecordValue). s.rtype) alike in

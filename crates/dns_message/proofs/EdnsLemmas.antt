@@ -24,7 +24,7 @@ use Rattle.dns_wire.specs.Pointers.{name_at}
 use Rattle.dns_record.specs.Data.{data_in}
 use Rattle.dns_record.specs.Records.{record_in}
 use Rattle.dns_record.proofs.Worded.{record_is}
-use Rattle.dns_message.proofs.ItemLemmas.{record_stands}
+use Rattle.dns_message.proofs.ItemLemmas.{record_occurs}
 
 -- a name that begins with the root is the root
 segment_root : {contents : List ℕ} {start at end : ℕ} {labels : List (List ℕ)} → Segment contents start at labels end → slice_index contents at ≡ 0 → (labels ≡ []) × (end ≡ at + 1)
@@ -34,19 +34,19 @@ segment_root (at_pointer high room is before later end_is) zero = absurd (omega 
 
 -- a record that is read is an item of the last section
 pub last_item : (contents : List ℕ) (at : ℕ) (r : RecordValue) (end : ℕ) → record_in name_at (data_in name_at) contents at ≡ Some (r, end) → item_at 3 contents at ≡ Some (RecordItem r, end)
-last_item contents at r end e = (record_stands 3 contents at r end (omega arith)).1 (record_is contents at r end e)
+last_item contents at r end e = (record_occurs 3 contents at r end (omega arith)).1 (record_is contents at r end e)
 
 -- a record that begins so has the root as its owner, and is of type OPT
 pub headed : (contents : List ℕ) (at : ℕ) (r : RecordValue) (end : ℕ) → item_at 3 contents at ≡ Some (RecordItem r, end) → BeginsEdns (drop at contents) → (r.owner ≡ []) × (r.rtype ≡ 41)
 headed contents at r end e begins =
-    let stands = (record_stands 3 contents at r end (omega arith)).0 e in
+    let occurs = (record_occurs 3 contents at r end (omega arith)).0 e in
     let bytes : drop at contents ≡ 0 ∷ 0 ∷ 41 ∷ drop 3 (drop at contents) =
     sym (take-append-drop 3 (drop at contents)) ∙ ap (λ (l : List ℕ). l ++ drop 3 (drop at contents)) begins in
     let zero : slice_index contents at ≡ 0 = ap (λ (k : ℕ). get_or contents k 0) (omega arith) ∙ sym (get_or-drop at contents 0 0) ∙ ap (λ (l : List ℕ). get_or l 0 0) bytes in
-    let root = segment_root stands.owner.reads zero in
-    let trailing : drop stands.owner_end contents ≡ 0 ∷ 41 ∷ drop 3 (drop at contents) =
+    let root = segment_root occurs.owner.reads zero in
+    let trailing : drop occurs.owner_end contents ≡ 0 ∷ 41 ∷ drop 3 (drop at contents) =
     ap (λ (k : ℕ). drop k contents) root.1 ∙ sym (drop-drop 1 at contents) ∙ ap (drop 1) bytes in
-    (root.0, stands.rtype.is ∙ rw trailing refl)
+    (root.0, occurs.rtype.is ∙ rw trailing refl)
 
 -- no proper octets of an unknown type have the number of OPT
 opt_is_known : (n : ℕ) → 41 ≡ n → has_rdata_format n ≡ false → ⊥

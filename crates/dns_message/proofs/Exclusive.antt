@@ -29,6 +29,6 @@ refused_one m e error.Memory h g = absurd g
 pub memory_alone : (m : List ℕ) (rs : List RecordValue) (e : CanonError) → Valid m rs → RefusedOrMemory m e → e ≡ error.Memory
 memory_alone m rs e valid h = elim (refused_or_memory m e h) [ inl refused ↦ absurd (refused_not_valid m rs e valid refused) | inr memory ↦ memory ]
 
--- a refusal where the message is to be refused
+-- a refusal if the message is to be refused
 pub that_or_memory : (m : List ℕ) (e f : CanonError) → RefusedOrMemory m e → RefusedAs m f → (e ≡ f) ⊎ (e ≡ error.Memory)
 that_or_memory m e f h g = elim (refused_or_memory m e h) [ inl refused ↦ inl (refused_one m e f refused g) | inr memory ↦ inr memory ]

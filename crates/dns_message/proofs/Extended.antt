@@ -44,15 +44,15 @@ record_more contents more at r end is = record {
   content = subst (λ (l : List ℕ). DataAt r.rtype l is.size_end r.content) (sym (take-append-le end contents more is.within)) is.content;
 }
 
-stands_more : (section : ℕ) (contents more : List ℕ) (at : ℕ) (item : Item) (end : ℕ) → ItemAt section contents at item end → ItemAt section (contents ++ more) at item end
-stands_more section contents more at (QuestionItem q) end is = (is.0, question_more contents more at q end is.1)
-stands_more section contents more at (RecordItem r) end is = (is.0, record_more contents more at r end is.1)
+occurs_more : (section : ℕ) (contents more : List ℕ) (at : ℕ) (item : Item) (end : ℕ) → ItemAt section contents at item end → ItemAt section (contents ++ more) at item end
+occurs_more section contents more at (QuestionItem q) end is = (is.0, question_more contents more at q end is.1)
+occurs_more section contents more at (RecordItem r) end is = (is.0, record_more contents more at r end is.1)
 
 pub item_more : (section : ℕ) (contents more : List ℕ) (at : ℕ) (item : Item) (end : ℕ) → item_at section contents at ≡ Some (item, end) → item_at section (contents ++ more) at ≡ Some (item, end)
 item_more section contents more at item end e =
-    item_found section (contents ++ more) at item end (stands_more section contents more at item end (item_is section contents at item end e))
+    item_found section (contents ++ more) at item end (occurs_more section contents more at item end (item_is section contents at item end e))
 
 pub items_more : (contents more : List ℕ) (slots : List (ℕ × ℕ)) (at : ℕ) (items : List Item) (end : ℕ) → ItemsAt contents slots at items end → ItemsAt (contents ++ more) slots at items end
 items_more contents more [] at items end is = is
 items_more contents more (slot ∷ slots) at items end (item, next, others, here, items-is, later) =
-    (item, next, others, stands_more slot.0 contents more at item next here, items-is, items_more contents more slots next others end later)
+    (item, next, others, occurs_more slot.0 contents more at item next here, items-is, items_more contents more slots next others end later)

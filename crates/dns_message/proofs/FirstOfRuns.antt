@@ -15,7 +15,7 @@ use Rattle.std.proofs.lemmas.List.Sorted.{ranks_by}
 
 -- ---- lists by recursion
 
--- x stands in the list
+-- x is in the list
 abbrev pub Among : {X : Type 0} → X → List X → Type 0
 Among x [] = ⊥
 Among x (y ∷ ys) = (x ≡ y) ⊎ Among x ys

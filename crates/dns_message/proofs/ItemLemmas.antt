@@ -1,4 +1,4 @@
--- What is read as an item is a question or a record that stands there.
+-- What is read as an item is a question or a record that is there.
 use Rattle.std.proofs.Common.{◌≡◌, ℕ, ◌<◌, Bool, true, false, cond, List, Option, Some, None, refl, sym, ap, ◌∙◌, arith}
 use Rattle.std.specs.Prelude.{◌↔◌, ◌==◌}
 use Rattle.std.proofs.lemmas.Bool.Decides.{nat_tests}
@@ -40,15 +40,15 @@ question_item_is (Some (s, last)) q end = (
   both : s ≡ q → last ≡ end → ◌≡◌ {A = Option (Question × ℕ)} (Some (s, last)) (Some (q, end))
   both e h = rw (e, h) refl
 
-pub question_stands : (contents : List ℕ) (at : ℕ) (q : Question) (end : ℕ) → (item_at 0 contents at ≡ Some (QuestionItem q, end)) ↔ QuestionAt contents at q end
+pub question_occurs : (contents : List ℕ) (at : ℕ) (q : Question) (end : ℕ) → (item_at 0 contents at ≡ Some (QuestionItem q, end)) ↔ QuestionAt contents at q end
 unfolding item_at
-question_stands contents at q end =
+question_occurs contents at q end =
     let same = question_item_is (question_in name_at contents at) q end in
     (λ e. question_is contents at q end (same.0 e), λ h. same.1 (question_found contents at q end h))
 
-pub record_stands : (section : ℕ) (contents : List ℕ) (at : ℕ) (r : RecordValue) (end : ℕ) → 0 < section → (item_at section contents at ≡ Some (RecordItem r, end)) ↔ RecordAt contents at r end
+pub record_occurs : (section : ℕ) (contents : List ℕ) (at : ℕ) (r : RecordValue) (end : ℕ) → 0 < section → (item_at section contents at ≡ Some (RecordItem r, end)) ↔ RecordAt contents at r end
 unfolding item_at
-record_stands section contents at r end some =
+record_occurs section contents at r end some =
     let later : (section == 0) ≡ false = grind (arith, nat_tests) in
     let same = record_item_is (record_in name_at (data_in name_at) contents at) r end in
     rw later (λ e. record_is contents at r end (same.0 e), λ h. same.1 (record_found contents at r end h))
@@ -81,20 +81,20 @@ record_item_there section contents at r end e = by (section == 0) refl e where
 pub item_is : (section : ℕ) (contents : List ℕ) (at : ℕ) (item : Item) (end : ℕ) → item_at section contents at ≡ Some (item, end) → ItemAt section contents at item end
 item_is section contents at (QuestionItem q) end e =
     let first = question_item_there section contents at q end e in
-    (first, (question_stands contents at q end).0 (ap (λ (s : ℕ). item_at s contents at) (sym first) ∙ e))
+    (first, (question_occurs contents at q end).0 (ap (λ (s : ℕ). item_at s contents at) (sym first) ∙ e))
 item_is section contents at (RecordItem r) end e =
     let later = record_item_there section contents at r end e in
-    (later, (record_stands section contents at r end later).0 e)
+    (later, (record_occurs section contents at r end later).0 e)
 
 pub item_found : (section : ℕ) (contents : List ℕ) (at : ℕ) (item : Item) (end : ℕ) → ItemAt section contents at item end → item_at section contents at ≡ Some (item, end)
-item_found section contents at (QuestionItem q) end is = ap (λ (s : ℕ). item_at s contents at) is.0 ∙ (question_stands contents at q end).1 is.1
-item_found section contents at (RecordItem r) end is = (record_stands section contents at r end is.0).1 is.1
+item_found section contents at (QuestionItem q) end is = ap (λ (s : ℕ). item_at s contents at) is.0 ∙ (question_occurs contents at q end).1 is.1
+item_found section contents at (RecordItem r) end is = (record_occurs section contents at r end is.0).1 is.1
 
 pub items_one : (section : ℕ) (contents : List ℕ) (at : ℕ) (item other : Item) (end last : ℕ) → ItemAt section contents at item end → ItemAt section contents at other last → (item ≡ other) × (end ≡ last)
 items_one section contents at item other end last is also =
     some_pair_parts item other end last (sym (item_found section contents at item end is) ∙ item_found section contents at other last also)
 
--- none stands where none is read
+-- no item is there if none is read
 pub none_is : (section : ℕ) (contents : List ℕ) (at : ℕ) → item_at section contents at ≡ None → NoItemAt section contents at
 none_is section contents at e item end is = let h = sym e ∙ item_found section contents at item end is in cc
 

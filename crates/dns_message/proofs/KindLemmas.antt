@@ -17,7 +17,7 @@ use Rattle.dns_record.specs.Kinds.{Kind, field_of, fields_of}
 use Rattle.dns_record.specs.Kinds.Kind.{OneByte, OneNumber, SoMany, CompressibleName, UncompressedName, CharacterString, CharacterStrings, Options, TypeBitMaps, NonEmptyTypeBitMaps, Rest}
 use Rattle.dns_record.specs.Options.{options, is_option_data}
 use Rattle.dns_record.specs.Formats.{rdata_format}
-use Rattle.dns_record.specs.CharacterStrings.{character_string, character_strings, is_text_data}
+use Rattle.dns_record.specs.CharacterStrings.{character_string, character_strings, is_txt_data}
 use Rattle.dns_record.specs.TypeBitMaps.{bitmap, some_bitmap, is_bitmap}
 use Rattle.dns_record.proofs.EachFormat.{of_each_format}
 use Rattle.dns_record.proofs.Places.{octet_spelled, octets_spelled, octets_read, text_spelled, text_read}
@@ -39,7 +39,7 @@ Suits (SoMany n) (Raw octets) = length octets ≡ n
 Suits CompressibleName (Compressible labels) = IsName labels
 Suits UncompressedName (Uncompressed labels) = IsName labels
 Suits CharacterString (Sized octets) = Unit {0}
-Suits CharacterStrings (Raw octets) = is_text_data octets ≡ true
+Suits CharacterStrings (Raw octets) = is_txt_data octets ≡ true
 Suits Options (Raw octets) = is_option_data octets ≡ true
 Suits TypeBitMaps (Raw octets) = is_bitmap octets ≡ true
 Suits NonEmptyTypeBitMaps (Raw octets) = (0 < length octets) × (is_bitmap octets ≡ true)
@@ -142,7 +142,7 @@ field_back (SoMany n) (Raw o) rest is last = ap (first_to Raw) (octets_read n o 
 field_back CompressibleName (Compressible labels) rest is last = ap (first_to Compressible) (name_back labels rest is)
 field_back UncompressedName (Uncompressed labels) rest is last = ap (first_to Uncompressed) (name_back labels rest is)
 field_back CharacterString (Sized o) rest is last = ap (first_to Sized) (text_read o rest)
-field_back CharacterStrings (Raw o) rest is last = rw (last refl, append-nil) (whole_back (is_text_data o) o is)
+field_back CharacterStrings (Raw o) rest is last = rw (last refl, append-nil) (whole_back (is_txt_data o) o is)
 field_back Options (Raw o) rest is last = rw (last refl, append-nil) (whole_back (is_option_data o) o is)
 field_back TypeBitMaps (Raw o) rest is last = rw (last refl, append-nil) (whole_back (is_bitmap o) o is)
 field_back NonEmptyTypeBitMaps (Raw o) rest is last =
@@ -239,7 +239,7 @@ field_reads (SoMany n) f bytes rest known h e = reads_as (SoMany n) Raw (octets 
 field_reads CompressibleName f bytes rest known h e = reads_as CompressibleName Compressible (plain_name bytes) f bytes rest e (λ x r. plain_name_takes bytes x rest r)
 field_reads UncompressedName f bytes rest known h e = reads_as UncompressedName Uncompressed (plain_name bytes) f bytes rest e (λ x r. plain_name_takes bytes x rest r)
 field_reads CharacterString f bytes rest known h e = reads_as CharacterString Sized (character_string bytes) f bytes rest e (λ x r. (tt, text_spelled bytes x rest r))
-field_reads CharacterStrings f bytes rest known h e = reads_as CharacterStrings Raw (character_strings bytes) f bytes rest e (λ x r. all_reads is_text_data x bytes rest r)
+field_reads CharacterStrings f bytes rest known h e = reads_as CharacterStrings Raw (character_strings bytes) f bytes rest e (λ x r. all_reads is_txt_data x bytes rest r)
 field_reads Options f bytes rest known h e = reads_as Options Raw (options bytes) f bytes rest e (λ x r. all_reads is_option_data x bytes rest r)
 field_reads TypeBitMaps f bytes rest known h e = reads_as TypeBitMaps Raw (bitmap bytes) f bytes rest e (λ x r. all_reads is_bitmap x bytes rest r)
 field_reads NonEmptyTypeBitMaps f bytes rest known h e = reads_as NonEmptyTypeBitMaps Raw (some_bitmap bytes) f bytes rest e (λ x r. let k = some_reads x bytes rest r in ((k.0, k.1), k.2))

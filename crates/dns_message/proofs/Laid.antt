@@ -125,7 +125,7 @@ laid_read layout contents places more fits all =
 -- and so of a value that has a layout
 pub layout_read : (layout_matches : Option (List LayoutPart)) (writes : CompressedWrite) (layout : List LayoutPart) (contents places more : List ℕ) → LayoutMatches layout_matches writes → layout_matches ≡ Some layout → FitsIn places contents → AllByRecursion IsLayoutPart layout
     → LayoutAt ((contents ++ (writes contents places).0) ++ more) (length contents) layout (length contents + length (writes contents places).0)
-layout_read layout_matches writes layout contents places more tells is fits all =
-    let same = (subst (λ (t : Option (List LayoutPart)). LayoutMatches t writes) is tells) contents places in
+layout_read layout_matches writes layout contents places more matches is fits all =
+    let same = (subst (λ (t : Option (List LayoutPart)). LayoutMatches t writes) is matches) contents places in
     subst (λ (r : List ℕ × List ℕ). LayoutAt ((contents ++ r.0) ++ more) (length contents) layout (length contents + length r.0)) (sym same)
     (laid_read layout contents places more fits all)

@@ -1,4 +1,4 @@
--- The text of a list of octets tells the list.
+-- The text of a list of octets determines the list.
 use Rattle.std.proofs.Common.{◌≡◌, ◌≢◌, ℕ, zero, suc, ◌/◌, ◌%◌, ◌<◌, ◌==◌, Bool, true, List, [], ◌∷◌, ◌++◌, length, get_or, slice_index, codes, flat_map, filter, Option, Some, refl, sym, ap, subst, ◌∙◌, append_assoc, length-append, arith}
 use Rattle.std.specs.Prelude.{◌↔◌, not, ◌&&◌}
 use Rattle.std.specs.Cmp.{first_so, second_so}
@@ -44,7 +44,7 @@ shown_no_end (b ∷ octets) are =
     let fits : b < 256 = are 0 in
     subst HasNoEnd (sym (flat_map-cons shown b octets)) (digit_no_end (b / 16) (omega arith), (digit_no_end (b % 16) (omega arith), shown_no_end octets (λ i. are (suc i))))
 
--- what stands before the first LF, and after it
+-- what comes before the first LF, and after it
 parted : (a b x y : List ℕ) → HasNoEnd a → HasNoEnd b → a ++ 10 ∷ x ≡ b ++ 10 ∷ y → (a ≡ b) × (x ≡ y)
 parted [] [] x y p q e = (refl, cc)
 parted [] (c ∷ b) x y p q e = let same : c ≡ 10 = cc in absurd (q.0 same)
@@ -55,7 +55,7 @@ parted (c ∷ a) (d ∷ b) x y p q e =
     let more = parted a b x y p.1 q.1 others in
     (λ i. first i ∷ more.0 i, more.1)
 
--- the digits tell the octets
+-- the digits determine the octets
 shown_one : (a b : List ℕ) → AreOctets a → AreOctets b → flat_map shown a ≡ flat_map shown b → a ≡ b
 shown_one a b are also e =
     let h : ◌≡◌ {A = Option (List ℕ)} (Some a) (Some b) = sym (spelled-shown a are) ∙ ap spelled e ∙ spelled-shown b also in

@@ -1,4 +1,4 @@
--- Where the next item stands among the counted ones.
+-- Where the next item is among the counted ones.
 use Rattle.std.proofs.Common.{◌≡◌, ℕ, zero, suc, ◌+◌, ◌-◌, ◌*◌, ◌<◌, ◌≤◌, List, [], ◌∷◌, ◌++◌, length, get_or, drop, refl, sym, ap, ◌∙◌, subst, arith, slice_index_or}
 use Rattle.std.proofs.lemmas.List.{append_assoc, drop-drop, drop_all}
 use Rattle.std.proofs.Math.Seq.{drop-append_seam, drop-append-add}
@@ -24,7 +24,7 @@ count_at m sections counts (suc (suc zero)) below is seen = rw is (ap (λ (l : L
 count_at m sections counts (suc (suc (suc zero))) below is seen = rw is (ap (λ (l : List ℕ). get_or l 3 0) seen)
 count_at m sections counts (suc (suc (suc (suc section)))) below is seen = absurd (omega arith)
 
--- So many items were given: what is after them begins in this section, at this index, unless the section has fewer.
+-- That many items were given: what is after them begins in this section, at this index, unless the section has fewer.
 pub record PlacedSoFar (m : List ℕ) (given section index : ℕ) : Type 0 where
   pub same : drop given (counted_slots m) ≡ drop index (slots_from section (drop section (counts_of m)))
   pub few : given ≤ index + section * 65535

@@ -88,7 +88,7 @@ none_counted first (count ∷ counts) none = by (nat_lt 0 count) refl none (none
       let zero_is : count ≡ 0 = omega (arith, ltb-false 0 count is) in
       rw zero_is (later e)
 
--- where no section after has an item, one more stands after all others
+-- if no section after has an item, one more comes after all others
 one_more_counted : (first : ℕ) (counts : List ℕ) (section : ℕ) → section < length counts → list_any (λ count. nat_lt 0 count) (drop (suc section) counts) ≡ false
     → slots_from first (set counts section (get_or counts section 0 + 1)) ≡ slots_from first counts ++ (first + section, get_or counts section 0) ∷ []
 unfolding slots_from

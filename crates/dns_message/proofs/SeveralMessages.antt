@@ -40,7 +40,7 @@ valid_records [] (rs ∷ rss) valid = absurd valid
 valid_records (m ∷ messages) [] valid = absurd valid
 valid_records (m ∷ messages) (rs ∷ rss) (valid, later) = λ i. read_one m rs valid i ++ valid_records messages rss later i
 
--- where none is refused, all are valid
+-- if none is refused, all are valid
 pub none_valid : (messages : List (List ℕ)) (number : ℕ) → first_refused number (map message_reading messages) ≡ None → (rss : List (List RecordValue)) × AreValid messages rss
 none_valid [] number e = ([], tt)
 none_valid (m ∷ messages) number e = by (message_reading m) refl e (none_valid messages (number + 1)) where
@@ -86,7 +86,7 @@ record FirstFrom (start : ℕ) (messages : List (List ℕ)) (number : ℕ) (erro
   before : List (List ℕ)
   message : List ℕ
   after : List (List ℕ)
-  stands : messages ≡ before ++ message ∷ after
+  occurs : messages ≡ before ++ message ∷ after
   place : start + length before ≡ number
   records : List (List RecordValue)
   valid : AreValid before records
@@ -109,39 +109,39 @@ first_from (m ∷ messages) start number error e = by (message_reading m) refl e
   by TooShort is e more =
       let n-is : start ≡ number = ap number_in e in
       let error-is : Short ≡ error = ap error_in e in
-      record { before = []; message = m; after = messages; stands = refl; place = omega (arith, n-is); records = []; valid = tt; refused = subst (RefusedAs m) error-is (short_from_reading m is) }
+      record { before = []; message = m; after = messages; occurs = refl; place = omega (arith, n-is); records = []; valid = tt; refused = subst (RefusedAs m) error-is (short_from_reading m is) }
   by (Stopped items section index place) is e more =
       let n-is : start ≡ number = ap number_in e in
       let error-is : Item section index ≡ error = ap error_in e in
-      record { before = []; message = m; after = messages; stands = refl; place = omega (arith, n-is); records = []; valid = tt; refused = subst (RefusedAs m) error-is (place, (items, is)) }
+      record { before = []; message = m; after = messages; occurs = refl; place = omega (arith, n-is); records = []; valid = tt; refused = subst (RefusedAs m) error-is (place, (items, is)) }
   by (Whole items end) is e more =
       let later = more e in
       record {
         before = m ∷ later.before;
         message = later.message;
         after = later.after;
-        stands = ap (λ (l : List (List ℕ)). m ∷ l) later.stands;
+        occurs = ap (λ (l : List (List ℕ)). m ∷ l) later.occurs;
         place = omega (arith, later.place);
         records = records_among items ∷ later.records;
         valid = ((items, end, is, refl), later.valid);
         refused = later.refused;
       }
 
--- a message is the first that is refused exactly where it is refused so and all before it are valid
+-- a message is the first that is refused exactly if it is refused so and all before it are valid
 pub first_words : (messages : List (List ℕ)) (number : ℕ) (error : CanonError) → (first_refused 0 (map message_reading messages) ≡ Some (number, error)) ↔ IsFirstRefused messages number error
 first_words messages number error = (
   λ e. (let first = first_from messages 0 number error e in record {
     before = first.before;
     message = first.message;
     after = first.after;
-    stands = first.stands;
+    occurs = first.occurs;
     place = omega (arith, first.place);
     records = first.records;
     valid = first.valid;
     refused = first.refused;
   }),
   λ first.
-      ap (λ (l : List (List ℕ)). first_refused 0 (map message_reading l)) first.stands
+      ap (λ (l : List (List ℕ)). first_refused 0 (map message_reading l)) first.occurs
       ∙ valid_before first.before (first.message ∷ first.after) first.records 0 first.valid
       ∙ refused_reading first.message (map message_reading first.after) error (0 + length first.before) first.refused
       ∙ ap (λ (n : ℕ). Some (n, error)) (omega (arith, first.place)),

@@ -4,13 +4,13 @@ use Rattle.std.specs.Prelude.{find}
 use Rattle.std.specs.Int.{w16, to_be_bytes}
 use Rattle.std.proofs.lemmas.List.{length-append, length-take}
 use Rattle.std.proofs.lemmas.Option.{some_pair_parts}
-use Rattle.dns_wire.specs.Compression.{or_shorter, longest_recorded, stands_at, cut_at, compress, compressed_name_writes}
+use Rattle.dns_wire.specs.Compression.{or_shorter, longest_recorded, occurs_at, cut_at, compress, compressed_name_writes}
 use Rattle.dns_wire.specs.Names.{labels_wire, wire}
 use Rattle.dns_wire.specs.Layout.{list_writes, part_writes, laid}
 use Rattle.dns_num.specs.InMessage.{zeros}
 use Rattle.dns_record.specs.Fields.{Field, field_octets, fields_octets}
 use Rattle.dns_record.specs.Fields.FieldOf.{Compressible, Uncompressed, Raw, Sized, Byte, Number}
-use Rattle.dns_record.specs.InMessage.{record_numbers}
+use Rattle.dns_record.specs.InMessage.{fixed_header}
 use Rattle.dns_message.specs.Built.{field_part, built}
 use Rattle.dns_message.specs.Canonical.{record_octets}
 use Rattle.dns_message.specs.Messages.{RecordValue}
@@ -23,7 +23,7 @@ recorded_within : (contents places : List ℕ) (before : ℕ) (labels : List (Li
 unfolding longest_recorded
 recorded_within contents places before [] prefix place e = absurd cc
 recorded_within contents places before (label ∷ labels) prefix place e =
-    by (find (stands_at contents (label ∷ labels)) places) (recorded_within contents places (before + 1 + length label) labels prefix place) e where
+    by (find (occurs_at contents (label ∷ labels)) places) (recorded_within contents places (before + 1 + length label) labels prefix place) e where
       by : (found : Option ℕ) → (longest_recorded contents places (before + 1 + length label) labels ≡ Some (prefix, place) → prefix + 1 ≤ before + 1 + length label + length (labels_wire labels))
           → or_shorter before found (longest_recorded contents places (before + 1 + length label) labels) ≡ Some (prefix, place) → prefix + 1 ≤ before + length (labels_wire (label ∷ labels))
       by (Some at) later is = omega (arith, (some_pair_parts before prefix at place is).0)
@@ -58,7 +58,7 @@ fields_no_longer (field ∷ fields) contents places =
 pub record_no_longer : (r : RecordValue) (contents places : List ℕ) → length (built r contents places).0 ≤ length (record_octets r)
 record_no_longer r contents places =
     let owner = compressed_name_writes r.owner contents places in
-    let numbers = record_numbers r.rtype r.class r.ttl in
+    let numbers = fixed_header r.rtype r.class r.ttl in
     let at = ((contents ++ owner.0) ++ numbers) ++ zeros w16 in
     let content = (laid (map field_part r.content) at owner.1).0 in
     let body = fields_octets r.content in

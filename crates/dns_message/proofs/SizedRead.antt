@@ -75,7 +75,7 @@ module _ (w : Width) (layout : List LayoutPart) (contents places more : List ℕ
             (subst (λ (n : ℕ). LayoutAt (contents ++ (size ++ rest)) low layout n) end filled),
       )
 
-  -- and the places lead to names, once the size stands where zeros stood
+  -- and the places lead to names, once the size is where zeros were
   pub sized_laid_fits : FitsIn inner.1 (contents ++ (size ++ rest))
   sized_laid_fits =
       subst (λ (k : List ℕ). FitsIn k (contents ++ (size ++ rest))) (sym grown.after_is)
@@ -84,8 +84,8 @@ module _ (w : Width) (layout : List LayoutPart) (contents places more : List ℕ
 -- and so of data that has a layout
 pub sized_layout_read : (w : Width) (layout_matches : Option (List LayoutPart)) (writes : CompressedWrite) (layout : List LayoutPart) (contents places more : List ℕ) → LayoutMatches layout_matches writes → layout_matches ≡ Some layout → FitsIn places contents → AllByRecursion IsLayoutPart layout
     → LayoutAt ((contents ++ (sized_compressed_writes w writes contents places).0) ++ more) (length contents) (OctetsPart (to_be_bytes w (length (writes (contents ++ zeros w) places).0)) ∷ layout) (length contents + length (sized_compressed_writes w writes contents places).0)
-sized_layout_read w layout_matches writes layout contents places more tells is fits all =
-    let each : (c k : List ℕ) → writes c k ≡ laid layout c k = subst (λ (t : Option (List LayoutPart)). LayoutMatches t writes) is tells in
+sized_layout_read w layout_matches writes layout contents places more matches is fits all =
+    let each : (c k : List ℕ) → writes c k ≡ laid layout c k = subst (λ (t : Option (List LayoutPart)). LayoutMatches t writes) is matches in
     let same : writes ≡ laid layout = λ i c k. each c k i in
     subst (λ (p : CompressedWrite). LayoutAt ((contents ++ (sized_compressed_writes w p contents places).0) ++ more) (length contents) (OctetsPart (to_be_bytes w (length (p (contents ++ zeros w) places).0)) ∷ layout) (length contents + length (sized_compressed_writes w p contents places).0)) (sym same)
     (sized_laid_read w layout contents places more fits all)

@@ -33,7 +33,7 @@ among_append (RecordItem r ∷ items) others = ap (λ (l : List RecordValue). r 
 
 -- ---- the counts
 
--- the count of a section stands in the header
+-- the count of a section is in the header
 pub count_is : (m header : List ℕ) (section count : ℕ) → section < 4 → header ≡ take 12 m
     → count ≡ get_or header (4 + 2 * section) 0 * 256 + get_or header (4 + 2 * section + 1) 0 → count ≡ get_or (counts_of m) section 0
 count_is m header zero count below is e = e ∙ rw is (rw (get_or-take 12 m 4 0 (omega arith), get_or-take 12 m 5 0 (omega arith)) refl)

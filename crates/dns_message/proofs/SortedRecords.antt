@@ -38,7 +38,7 @@ both_tie Less b h = cc
 both_tie Equal b h = (refl, h)
 both_tie Greater b h = cc
 
--- keys that tie but for the time to live have the same other parts
+-- keys that tie except for the time to live have the same other parts
 pub record SameParts (j k : SortKey) : Type 0 where
   pub owner : j.owner ≡ k.owner
   pub class : j.class ≡ k.class

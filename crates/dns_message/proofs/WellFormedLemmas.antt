@@ -29,10 +29,10 @@ use Rattle.dns_message.proofs.ItemLemmas.{item_is}
 use Rattle.dns_message.proofs.KindLemmas.{FitsWidth, Suits, AllSuit, is_known, is_format, format_is_format, format_parts}
 use Rattle.dns_message.proofs.Whole.{data_back, parts_octets}
 
--- ---- octets that stand in a message
+-- ---- octets that are in a message
 
 standing_octets : (contents : List ℕ) (at : ℕ) (found : List ℕ) (end : ℕ) → AreOctets contents → OctetsAt contents at found end → AreOctets found
-standing_octets contents at found end are is = subst AreOctets (sym is.stand) (octets_up_to (length found) (drop at contents) (octets_from at contents are))
+standing_octets contents at found end are is = subst AreOctets (sym is.occur) (octets_up_to (length found) (drop at contents) (octets_from at contents are))
 
 segment_octets : (contents : List ℕ) → AreOctets contents → {start at end : ℕ} {labels : List (List ℕ)} → Segment contents start at labels end → AreOctets (wire labels)
 segment_octets contents are (at_root within zero_is labels_is end_is) = rw labels_is (one_more 0 [] (omega arith) no_octets)
@@ -67,7 +67,7 @@ number_octets w32 n fits = number_octets_4 n
 number_octets w64 n fits = absurd fits
 number_octets w128 n fits = absurd fits
 
--- ---- fields that stand in a message
+-- ---- fields that are in a message
 
 field_suits : (kind : Kind) (contents : List ℕ) (at : ℕ) (f : Field) (end : ℕ) → is_known kind ≡ true → AreOctets contents → FieldAt kind contents at f end → Suits kind f
 field_suits OneByte contents at (Byte b) end known are is = tt
@@ -88,7 +88,7 @@ field_are OneByte contents at (Byte b) end are fits is = standing_octets content
 field_are (OneNumber w) contents at (Number v n) end are fits is = rw fits.0 (number_octets w n fits.1)
 field_are (SoMany n) contents at (Raw octets) end are fits is = standing_octets contents at octets end are is.1
 field_are CompressibleName contents at (Compressible labels) end are fits is = name_octets contents at labels end are is
-field_are UncompressedName contents at (Uncompressed labels) end are fits is = standing_octets contents at (wire labels) end are is.stands
+field_are UncompressedName contents at (Uncompressed labels) end are fits is = standing_octets contents at (wire labels) end are is.occurs
 field_are CharacterString contents at (Sized octets) end are fits is = standing_octets contents at (length octets ∷ octets) end are is
 field_are CharacterStrings contents at (Raw octets) end are fits is = standing_octets contents at octets end are is.1
 field_are Options contents at (Raw octets) end are fits is = standing_octets contents at octets end are is.1

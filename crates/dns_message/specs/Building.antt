@@ -5,7 +5,7 @@ use Rattle.std.specs.Prelude.{◌≡◌, ℕ, ◌+◌, ◌*◌, ◌<◌, ◌≤�
 use Rattle.std.specs.List.{list_any}
 use Rattle.std.specs.Int.{w16, to_be_bytes}
 use Rattle.dns_wire.specs.Compression.{CompressedWrite, written_octets, places_afterwards}
-use Rattle.dns_record.specs.InMessage.{question_writes, record_numbers, record_writes, record_fits}
+use Rattle.dns_record.specs.InMessage.{question_writes, fixed_header, record_writes, record_fits}
 use Rattle.dns_record.specs.declared.question.Question.{Question as QuestionOf}
 use Rattle.dns_record.specs.declared.record.Record.{Record as RecordOf}
 use Rattle.dns_message.specs.Messages.{counts_of}
@@ -56,7 +56,7 @@ count_after section counts =
 abbrev pub next_count : ℕ → Octets → Result ℕ MessageBuildError
 next_count section header = count_after section (counts_of header)
 
--- the header with another count of a section, whose two octets stand after id, flags and the counts of those before it
+-- the header with another count of a section, whose two octets are after id, flags and the counts of those before it
 abbrev pub with_count : ℕ → ℕ → Octets → Octets
 with_count section count header = take (4 + 2 * section) header ++ to_be_bytes w16 count ++ drop (6 + 2 * section) header
 
@@ -69,16 +69,16 @@ question_compressed name q = question_writes (name q.qname) q.qtype.code.value q
 -- a record: its owner, ten octets and its data after their size
 abbrev pub record_compressed : {N D : Type 0} → (N → CompressedWrite) → (D → CompressedWrite) → RecordOf N D → CompressedWrite
 record_compressed owner content r =
-    record_writes (owner r.rname) (record_numbers r.rtype.code.value r.rclass.code.value r.ttl.value.value) (content r.rdata)
+    record_writes (owner r.rname) (fixed_header r.rtype.code.value r.rclass.code.value r.ttl.value.value) (content r.rdata)
 
 -- what is prefixed in it fits, and its data are no more octets than their size can say
 abbrev pub record_fits_in : {N D : Type 0} → (N → Octets → Places → Type 0) → (N → CompressedWrite) → (D → Octets → Places → Type 0) → (D → CompressedWrite) → RecordOf N D → Octets → Places → Type 0
 record_fits_in owner_fits owner content_fits content r =
-    record_fits (owner_fits r.rname) (owner r.rname) (record_numbers r.rtype.code.value r.rclass.code.value r.ttl.value.value) (content_fits r.rdata) (content r.rdata)
+    record_fits (owner_fits r.rname) (owner r.rname) (fixed_header r.rtype.code.value r.rclass.code.value r.ttl.value.value) (content_fits r.rdata) (content r.rdata)
 
 -- ---- what a push answers and leaves
 
--- what an accepted push leaves: one more item is counted, and its octets stand after the contents
+-- what an accepted push leaves: one more item is counted, and its octets are after the contents
 abbrev pub pushed : ℕ → CompressedWrite → Draft → Draft
 pushed section writes draft = record {
   header = with_count section (count_in section draft.header + 1) draft.header;
@@ -94,11 +94,11 @@ HasRoom fits writes draft =
     × (HEADER_SIZE + length draft.contents + length (written_octets (writes draft.contents draft.places)) ≤ draft.size)
 
 -- When a push gives each answer. The causes exclude one another, in the order of the refusals.
-abbrev pub PushAnswers : {A : Type 0} → ℕ → (Octets → Places → Type 0) → CompressedWrite → Draft → Result A MessageBuildError → Type 0
-PushAnswers section fits writes draft (Err Misplaced) = IsTrue (has_later section draft.header)
-PushAnswers section fits writes draft (Err TooMany) =
+abbrev pub PushResults : {A : Type 0} → ℕ → (Octets → Places → Type 0) → CompressedWrite → Draft → Result A MessageBuildError → Type 0
+PushResults section fits writes draft (Err Misplaced) = IsTrue (has_later section draft.header)
+PushResults section fits writes draft (Err TooMany) =
     IsFalse (has_later section draft.header) × (count_in section draft.header ≡ 65535)
-PushAnswers section fits writes draft (Err Truncated) =
+PushResults section fits writes draft (Err Truncated) =
     IsFalse (has_later section draft.header) × (count_in section draft.header < 65535) × ¬ (HasRoom fits writes draft)
-PushAnswers section fits writes draft (Ok done) =
+PushResults section fits writes draft (Ok done) =
     IsFalse (has_later section draft.header) × (count_in section draft.header < 65535) × HasRoom fits writes draft

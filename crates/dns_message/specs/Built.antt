@@ -8,7 +8,7 @@ use Rattle.dns_wire.specs.Layout.LayoutPart.{NamePart, OctetsPart}
 use Rattle.dns_wire.specs.Pointers.{name_at}
 use Rattle.dns_record.specs.Data.{data_in}
 use Rattle.dns_record.specs.Fields.{Field}
-use Rattle.dns_record.specs.InMessage.{of_field, record_numbers, record_writes}
+use Rattle.dns_record.specs.InMessage.{of_field, fixed_header, record_writes}
 use Rattle.dns_record.specs.Questions.{question_in}
 use Rattle.dns_record.specs.Records.{record_in}
 use Rattle.dns_message.specs.Canonical.{lowercase_names}
@@ -18,11 +18,11 @@ use Rattle.dns_message.specs.Messages.{RecordValue}
 abbrev pub field_part : Field → LayoutPart
 field_part = of_field NamePart OctetsPart
 
--- the owner is compressed, and after the numbers and the size stand the fields, part by part
+-- the owner is compressed, and after the numbers and the size come the fields, part by part
 abbrev pub built : RecordValue → CompressedWrite
-built r = record_writes (compressed_name_writes r.owner) (record_numbers r.rtype r.class r.ttl) (laid (map field_part r.content))
+built r = record_writes (compressed_name_writes r.owner) (fixed_header r.rtype r.class r.ttl) (laid (map field_part r.content))
 
--- a record is read from a place up to an end which is this one, but for ASCII case where it does not count
+-- a record is read from a place up to an end which is this one, except for ASCII case where it does not count
 pub record ReadAgain (contents : Octets) (at : ℕ) (r : RecordValue) (end : ℕ) : Type 0 where
   pub there : RecordValue
   pub read : record_in name_at (data_in name_at) contents at ≡ Some (there, end)

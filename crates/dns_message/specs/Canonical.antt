@@ -8,7 +8,7 @@ use Rattle.dns_record.specs.Fields.{fields_octets, canonical_fields}
 use Rattle.dns_record.specs.Records.{record_at, octets_of_parts}
 use Rattle.dns_message.specs.Messages.{RecordValue}
 
--- the record with its owner in lowercase, and its names where its type is one of the nine
+-- the record with its owner in lowercase, and its names if its type is one of the nine
 abbrev pub lowercase_names : RecordValue → RecordValue
 lowercase_names r = record { owner = lowered r.owner; rtype = r.rtype; class = r.class; ttl = r.ttl; content = canonical_fields r.rtype r.content }
 

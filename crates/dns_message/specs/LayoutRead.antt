@@ -1,4 +1,4 @@
--- Pieces in a message, as they are read where they stand: names, ignoring ASCII case, and octets as they are.
+-- Pieces in a message, as they are read where they are: names, ignoring ASCII case, and octets as they are.
 use Rattle.std.specs.Prelude.{◌≡◌, ℕ, ◌+◌, ◌≤◌, List, [], ◌∷◌, length, take, drop, ⊤}
 use Rattle.dns_wire.specs.Octets.{Octets}
 use Rattle.dns_wire.specs.Compression.{ReadsAlike}
@@ -11,7 +11,7 @@ abbrev pub IsLayoutPart : LayoutPart → Type 0
 IsLayoutPart (NamePart labels) = IsName labels
 IsLayoutPart (OctetsPart octets) = ⊤
 
--- they stand one after another, from a place up to an end
+-- they come one after another, from a place up to an end
 abbrev pub LayoutAt : Octets → ℕ → List LayoutPart → ℕ → Type 0
 LayoutAt contents at [] end = at ≡ end
 LayoutAt contents at (NamePart labels ∷ layout) end =

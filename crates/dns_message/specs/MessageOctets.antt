@@ -7,7 +7,7 @@ use Rattle.std.proofs.lemmas.Option.{some_pair_parts}
 use Rattle.dns_wire.specs.ReadingLemmas.{nothing_follows}
 use Rattle.dns_wire.specs.Reading.{Follows, LeavesRest}
 
--- all the octets, where they have a header
+-- all the octets, if they have a header
 abbrev pub whole_message : Octets → Option (Octets × Octets)
 whole_message bytes = if nat_lt (length bytes) HEADER_SIZE then None else Some (bytes, [])
 

@@ -74,7 +74,7 @@ with_item item Short = Short
 with_item item (Stopped items section index place) = Stopped (item ∷ items) section index place
 with_item item (Whole items end) = Whole (item ∷ items) end
 
--- what stands at a place, and what is read after it
+-- what is at a place, and what is read after it
 abbrev pub then_read : Slot → ℕ → (ℕ → Reading) → Option (Item × ℕ) → Reading
 then_read slot at more None = Stopped [] (slot_section slot) (slot_index slot) at
 then_read slot at more (Some (item, end)) = with_item item (more end)

@@ -1,5 +1,5 @@
--- The order of records, and the canonical list (RFC 4034 section 6). That class, type and TTL are
--- compared as numbers, and where they come in the order, RFC 4034 leaves open.
+-- The order of records, and the canonical list (RFC 4034 section 6). RFC 4034 leaves unspecified
+-- that class, type and TTL are compared as numbers, and where they come in the order.
 use Rattle.std.specs.Prelude.{◌≡◌, ℕ, Bool, not, if◌then◌else◌, List, [], ◌∷◌, map, reverse, filter}
 use Rattle.std.specs.declared.cmp.Ordering.{Ordering}
 use Rattle.std.specs.declared.cmp.Ordering.TheVariants.{Less}
@@ -72,7 +72,7 @@ unfoldable pub in_order : List RecordValue → List RecordValue
 in_order [] = []
 in_order (r ∷ rest) = inserted r (in_order rest)
 
--- the records are the same but for the time to live and the case of letters where it does not count
+-- the records are the same except for the time to live and the case of letters where it does not count
 abbrev pub are_alike : RecordValue → RecordValue → Bool
 are_alike r s = eq_by_cmp alike_cmp (sort_key r) (sort_key s)
 

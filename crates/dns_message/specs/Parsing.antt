@@ -35,13 +35,13 @@ slots_ahead p = if has_ended p then [] else drop (given_count p) (counted_slots 
 abbrev pub ahead : MessageParser → Reading
 ahead p = reading_from (drop HEADER_SIZE (parsed_message p)) (slots_ahead p) (next_start p)
 
--- an item with names of its own
+-- an item with its own names
 abbrev pub Parsed : Type 0
 Parsed = MessageItem Labels (RecordData Labels) Opt
 
 -- What a call gives, and what it leaves. An item is that which is read at the next place; then one more was given, and the
 -- next begins where it ends. An item that is not read is refused once, by its position, and then the parser has ended for good. It
--- gives none where none is to come.
+-- gives `None` if none is to come.
 abbrev pub GivesNext : {E : Type 0} → MessageParser → Option (ItemPosition × Result Parsed E) → MessageParser → Type 0
 GivesNext old None new = (slots_ahead old ≡ []) × (slots_ahead new ≡ []) × (next_start new ≡ next_start old) × (given_count new ≡ given_count old)
 GivesNext old (Some (position, Ok item)) new =

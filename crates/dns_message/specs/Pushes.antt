@@ -44,7 +44,7 @@ is_accepted push draft =
     && (nat_lt (count_in (push_section push) draft.header) 65535
     && nat_le (HEADER_SIZE + length draft.contents + length (written_octets (push_writes push draft.contents draft.places))) draft.size)
 
--- what it leaves: the draft as it was, where it is refused
+-- what it leaves: the draft as it was, if it is refused
 abbrev pub after_push : Push → Draft → Draft
 after_push push draft = if is_accepted push draft then pushed (push_section push) (push_writes push) draft else draft
 

@@ -17,7 +17,7 @@ pub record Alike (r s : RecordValue) : Type 0 where
 -- x is a record of the list, lowercased: one of another type than OPT, to which no alike record of the list has a smaller time to live
 pub record IsLeast (rs : List RecordValue) (x : RecordValue) : Type 0 where
   pub found : RecordValue
-  pub stands : Contains rs found
+  pub occurs : Contains rs found
   pub not_opt : is_not_opt found ≡ true
   pub lowercased : lowercase_names found ≡ x
   pub least : (other : RecordValue) → Contains rs other → Alike other found → found.ttl ≤ other.ttl

@@ -24,7 +24,7 @@ data_seen v = map (named_by (λ labels. labels)) (data_fields v)
 abbrev pub record_value : Record Labels (RecordData Labels) → RecordValue
 record_value = record_seen (λ labels. labels) data_seen
 
--- an EDNS record as a record: its owner is the root, and its fields stand as class and as time to live (RFC 6891 section 6.1.2)
+-- an EDNS record as a record: its owner is the root, and its fields are the class and the time to live (RFC 6891 section 6.1.2)
 abbrev pub edns_value : EdnsOf Octets → RecordValue
 edns_value e = record { owner = []; rtype = opt_number; class = e.payload; ttl = edns_ttl e.ext_rcode e.version e.flags; content = Raw e.content ∷ [] }
 
@@ -40,7 +40,7 @@ item_seen (Edns e) = RecordItem (edns_value (edns_seen (λ options. options.slic
 abbrev pub BeginsEdns : Octets → Type 0
 BeginsEdns octets = take 3 octets ≡ edns_fixed_header
 
--- Of which section an item is, where it begins with these octets: an additional item is an EDNS record exactly where it begins
+-- Of which section an item is, if it begins with these octets: an additional item is an EDNS record exactly if it begins
 -- as one.
 abbrev pub IsOfSection : {N D E : Type 0} → ℕ → Octets → MessageItem N D E → Type 0
 IsOfSection section octets (Question q) = section ≡ 0

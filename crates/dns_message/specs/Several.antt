@@ -27,7 +27,7 @@ pub record IsFirstRefused (messages : List Octets) (number : ℕ) (error : Canon
   pub before : List Octets
   pub message : Octets
   pub after : List Octets
-  pub stands : messages ≡ before ++ message ∷ after
+  pub occurs : messages ≡ before ++ message ∷ after
   pub place : length before ≡ number
   pub records : List (List RecordValue)
   pub valid : AreValid before records

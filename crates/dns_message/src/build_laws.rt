@@ -5,6 +5,7 @@ ghost use Rattle.std.specs.Int.{w16, to_be_bytes};
 ghost use Rattle.dns_wire.specs.Compression.{CompressedWrite, FitsIn, compressed_name_writes};
 ghost use Rattle.dns_wire.specs.Names.{IsName, lowered};
 ghost use Rattle.dns_wire.specs.Layout.{octets_writes};
+ghost use Rattle.dns_wire.specs.Octets.{Octets, Labels};
 ghost use Rattle.dns_wire.specs.Reading.{AreOctets};
 ghost use Rattle.dns_record.specs.InMessage.{question_writes};
 ghost use Rattle.dns_record.specs.Options.{is_option_data};
@@ -19,11 +20,12 @@ ghost use Rattle.dns_message.specs.Messages.{Item, Question, RecordValue, counts
 ghost use Rattle.dns_message.specs.Messages.Item.{QuestionItem, RecordItem};
 ghost use Rattle.dns_message.specs.Messages.Reading.{Whole};
 ghost use Rattle.dns_message.specs.Seen.{edns_value};
+ghost use Rattle.dns_wire.specs.declared.sizes.TheConstants.{HEADER_SIZE};
 
 /// Octets after an item change nothing of how it is read: names lead back, and data are read within their size (RFC 1035
 /// sections 4.1.3 and 4.1.4).
 pub fn octets_after_items()
-    ensures { (section : ℕ) (contents more : List ℕ) (at : ℕ) (item : Item) (end : ℕ) →
+    ensures { (section : ℕ) (contents more : Octets) (at : ℕ) (item : Item) (end : ℕ) →
         item_at section contents at ≡ Some (item, end) → item_at section (contents ++ more) at ≡ Some (item, end) }
 {}
 
@@ -37,13 +39,13 @@ pub fn new_messages_are_empty()
 /// A push that is accepted leaves a header of 12 octets, with the id and the flags that it had and with the counts that it had,
 /// but one more item in the section of the push (RFC 1035 section 4.1.1).
 pub fn pushes_count_one_more()
-    ensures size { (section : ℕ) (writes : CompressedWrite) (draft : Draft) → section < 4 → length draft.header ≡ 12 →
-        length (pushed section writes draft).header ≡ 12 }
+    ensures size { (section : ℕ) (writes : CompressedWrite) (draft : Draft) → section < 4 → length draft.header ≡ HEADER_SIZE →
+        length (pushed section writes draft).header ≡ HEADER_SIZE }
     ensures octets { (section : ℕ) (writes : CompressedWrite) (draft : Draft) → AreOctets draft.header →
         AreOctets (pushed section writes draft).header }
-    ensures prefix { (section : ℕ) (writes : CompressedWrite) (draft : Draft) → section < 4 → length draft.header ≡ 12 →
+    ensures prefix { (section : ℕ) (writes : CompressedWrite) (draft : Draft) → section < 4 → length draft.header ≡ HEADER_SIZE →
         take 4 (pushed section writes draft).header ≡ take 4 draft.header }
-    ensures counts { (section : ℕ) (writes : CompressedWrite) (draft : Draft) → section < 4 → length draft.header ≡ 12 →
+    ensures counts { (section : ℕ) (writes : CompressedWrite) (draft : Draft) → section < 4 → length draft.header ≡ HEADER_SIZE →
         count_in section draft.header < 65535 →
         counts_of (pushed section writes draft).header ≡ set (counts_of draft.header) section (count_in section draft.header + 1) }
 {}
@@ -51,10 +53,10 @@ pub fn pushes_count_one_more()
 /// Let a message be read whole, with its items ending where its contents do, and let a push be accepted. If the octets that it
 /// writes are read after the contents as an item of its section, the message is then read whole as the items that it had and
 /// this one, and they end where the new contents do (RFC 1035 section 4.1). Its records are those that it had, and then the
-/// item, where that is a record.
+/// item, if that is a record.
 pub fn pushes_add_an_item()
     ensures item { (section : ℕ) (writes : CompressedWrite) (draft : Draft) (items : List Item) (item : Item) →
-        section < 4 → length draft.header ≡ 12 → IsFalse (has_later section draft.header) → count_in section draft.header < 65535 →
+        section < 4 → length draft.header ≡ HEADER_SIZE → IsFalse (has_later section draft.header) → count_in section draft.header < 65535 →
         message_reading (drafted draft) ≡ Whole items (length draft.contents) →
         item_at section (pushed section writes draft).contents (length draft.contents) ≡ Some (item, length (pushed section writes draft).contents) →
         message_reading (drafted (pushed section writes draft)) ≡ Whole (items ++ item ∷ []) (length (pushed section writes draft).contents) }
@@ -67,19 +69,19 @@ pub fn pushes_add_an_item()
 /// that is this one when both are lowercased, and they end where the new contents do (RFC 1035 section 4.1.4).
 pub fn pushed_records_are_read()
     ensures { (section : ℕ) (draft : Draft) (items : List Item) (r : RecordValue) →
-        0 < section → section < 4 → length draft.header ≡ 12 → IsFalse (has_later section draft.header) → count_in section draft.header < 65535 →
+        0 < section → section < 4 → length draft.header ≡ HEADER_SIZE → IsFalse (has_later section draft.header) → count_in section draft.header < 65535 →
         message_reading (drafted draft) ≡ Whole items (length draft.contents) → FitsIn draft.places draft.contents → WellFormed r →
         (there : RecordValue) × (lowercase_names there ≡ lowercase_names r)
         × (message_reading (drafted (pushed section (built r) draft)) ≡ Whole (items ++ RecordItem there ∷ []) (length (pushed section (built r) draft).contents)) }
 {}
 
-/// The same for a question whose name is compressed: its type and class are the same, and its name is but for ASCII case.
+/// The same for a question whose name is compressed: its type and class are the same, and its name is, except for ASCII case.
 pub fn pushed_questions_are_read()
-    ensures { (draft : Draft) (items : List Item) (labels : List (List ℕ)) (qtype class : ℕ) →
-        length draft.header ≡ 12 → IsFalse (has_later 0 draft.header) → count_in 0 draft.header < 65535 →
+    ensures { (draft : Draft) (items : List Item) (labels : Labels) (qtype class : ℕ) →
+        length draft.header ≡ HEADER_SIZE → IsFalse (has_later 0 draft.header) → count_in 0 draft.header < 65535 →
         message_reading (drafted draft) ≡ Whole items (length draft.contents) → FitsIn draft.places draft.contents →
         IsName labels → qtype < 2 ^ 16 → class < 2 ^ 16 →
-        (there : List (List ℕ)) × (lowered there ≡ lowered labels)
+        (there : Labels) × (lowered there ≡ lowered labels)
         × (message_reading (drafted (pushed 0 (question_writes (compressed_name_writes labels) qtype class) draft))
         ≡ Whole (items ++ QuestionItem (record { name = there; qtype = qtype; class = class }) ∷ []) (length (pushed 0 (question_writes (compressed_name_writes labels) qtype class) draft).contents)) }
 {}
@@ -87,8 +89,8 @@ pub fn pushed_questions_are_read()
 /// The same for an EDNS record whose data are options, among the additional records: the message is then read whole as the items
 /// that it had and exactly this record, since its owner is the root and its data have no names (RFC 6891 section 6.1.2).
 pub fn pushed_edns_are_read<D>()
-    ensures { (draft : Draft) (items : List Item) (r : EdnsRecord D) (octets : List ℕ) →
-        length draft.header ≡ 12 → count_in 3 draft.header < 65535 →
+    ensures { (draft : Draft) (items : List Item) (r : EdnsRecord D) (octets : Octets) →
+        length draft.header ≡ HEADER_SIZE → count_in 3 draft.header < 65535 →
         message_reading (drafted draft) ≡ Whole items (length draft.contents) → FitsIn draft.places draft.contents →
         r.max_udp_payload.value < 2 ^ 16 → r.ext_rcode < 2 ^ 8 → r.version < 2 ^ 8 → flag_bits r.flags < 2 ^ 16 →
         AreOctets octets → IsTrue (is_option_data octets) →

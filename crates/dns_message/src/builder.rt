@@ -8,15 +8,15 @@ ghost use Rattle.dns_wire.specs.Layout.{octets_writes};
 ghost use Rattle.dns_rdata.specs.Edns.{edns_octets};
 ghost use Rattle.dns_message.specs.Headers.{header_bits};
 ghost use Rattle.dns_message.specs.Messages.{counts_of};
-ghost use Rattle.dns_message.specs.Building.{Draft, drafted, section_number, question_compressed, record_compressed, record_fits_in, count_in, has_items, has_later, count_after, next_count, with_count, pushed, PushAnswers};
+ghost use Rattle.dns_message.specs.Building.{Draft, drafted, section_number, question_compressed, record_compressed, record_fits_in, count_in, has_items, has_later, count_after, next_count, with_count, pushed, PushResults};
 
 use crate::build_error::MessageBuildError;
 use crate::header::HeaderFlags;
-use crate::message::{HEADER_SIZE, Message};
+use crate::message::Message;
 use dns_num::U16;
 use dns_rdata::EdnsRecord;
 use dns_record::{Question, Record};
-use dns_wire::{BuildBytes, BuildInMessage, NameCompressor, TruncationError};
+use dns_wire::{BuildBytes, BuildInMessage, HEADER_SIZE, NameCompressor, TruncationError};
 use std::marker::Model;
 
 /// The sections of a message, in order (RFC 1035 section 4.1).
@@ -66,18 +66,19 @@ pub struct MessageBuilder<'b> {
 impl<'b> Model for MessageBuilder<'b> {
     ghost use Rattle.std.specs.Prelude.{ℕ, List, ◌≤◌, ◌+◌, length, take, drop};
     ghost use Rattle.dns_wire.specs.Compression.{FitsIn};
+    ghost use Rattle.dns_wire.specs.declared.sizes.TheConstants.{HEADER_SIZE};
     ghost use Rattle.dns_message.specs.Building.{Draft};
 
     ghost Value = { Draft };
 
     ghost view = { λ b. record {
-      header = take 12 b.buffer.now;
-      contents = take b.size (drop 12 b.buffer.now);
+      header = take HEADER_SIZE b.buffer.now;
+      contents = take b.size (drop HEADER_SIZE b.buffer.now);
       size = length b.buffer.now;
       places = b.compressor.now;
     } };
 
-    ghost invariant = { λ b. (12 + b.size ≤ length b.buffer.now) × FitsIn b.compressor.now (take b.size (drop 12 b.buffer.now)) };
+    ghost invariant = { λ b. (HEADER_SIZE + b.size ≤ length b.buffer.now) × FitsIn b.compressor.now (take b.size (drop HEADER_SIZE b.buffer.now)) };
 }
 
 impl<'b> MessageBuilder<'b> {
@@ -89,7 +90,7 @@ impl<'b> MessageBuilder<'b> {
         id: U16,
         flags: HeaderFlags,
     ) -> MessageBuilder<'b>
-        requires header { 12 ≤ length buffer.now }
+        requires header { HEADER_SIZE ≤ length buffer.now }
         requires fresh { compressor.now ≡ [] }
         ensures { result ≡ record {
           header = to_be_bytes w16 id.value ++ to_be_bytes w16 (header_bits flags) ++ replicate 8 0;
@@ -109,7 +110,7 @@ impl<'b> MessageBuilder<'b> {
     /// The message so far, with its header.
     pub fn message(&self) -> Message<'_>
         ensures octets { result.slice.now ≡ drafted self.now }
-        ensures header { length self.now.header ≡ 12 }
+        ensures header { length self.now.header ≡ HEADER_SIZE }
         ensures known { FitsIn self.now.places self.now.contents }
     {
         Message {
@@ -117,27 +118,27 @@ impl<'b> MessageBuilder<'b> {
         }
     }
 
-    /// Adds a question. `Misplaced` comes exactly where a later section has an item, else `TooMany` exactly where there are
-    /// 65,535 questions, else `Truncated` exactly where the question's octets are more than the free ones.
+    /// Adds a question. `Misplaced` comes exactly if a later section has an item, else `TooMany` exactly if there are
+    /// 65,535 questions, else `Truncated` exactly if the question's octets are more than the free ones.
     pub fn push_question<N: BuildInMessage>(
         &mut self,
         item: &Question<N>,
     ) -> Result<(), MessageBuildError>
-        ensures answered { PushAnswers 0 (N.fits_in item.now.qname) (question_compressed N.writes item.now) self.old result }
+        ensures result_is { PushResults 0 (N.fits_in item.now.qname) (question_compressed N.writes item.now) self.old result }
         ensures pushed { OnOk result (self.new ≡ pushed 0 (question_compressed N.writes item.now) self.old) }
         ensures unchanged { OnErr result (self.new ≡ self.old) }
     {
         self.push(Section::Question, item)
     }
 
-    /// Adds a record to the answers. `Misplaced` comes exactly where a later section has an item, else `TooMany` exactly
-    /// where there are 65,535 answers, else `Truncated` exactly where the record's octets are more than the free ones or
+    /// Adds a record to the answers. `Misplaced` comes exactly if a later section has an item, else `TooMany` exactly
+    /// if there are 65,535 answers, else `Truncated` exactly if the record's octets are more than the free ones or
     /// its data more than 65,535.
     pub fn push_answer<N: BuildInMessage, D: BuildInMessage>(
         &mut self,
         item: &Record<N, D>,
     ) -> Result<(), MessageBuildError>
-        ensures answered { PushAnswers 1 (record_fits_in N.fits_in N.writes D.fits_in D.writes item.now) (record_compressed N.writes D.writes item.now) self.old result }
+        ensures result_is { PushResults 1 (record_fits_in N.fits_in N.writes D.fits_in D.writes item.now) (record_compressed N.writes D.writes item.now) self.old result }
         ensures pushed { OnOk result (self.new ≡ pushed 1 (record_compressed N.writes D.writes item.now) self.old) }
         ensures unchanged { OnErr result (self.new ≡ self.old) }
     {
@@ -149,7 +150,7 @@ impl<'b> MessageBuilder<'b> {
         &mut self,
         item: &Record<N, D>,
     ) -> Result<(), MessageBuildError>
-        ensures answered { PushAnswers 2 (record_fits_in N.fits_in N.writes D.fits_in D.writes item.now) (record_compressed N.writes D.writes item.now) self.old result }
+        ensures result_is { PushResults 2 (record_fits_in N.fits_in N.writes D.fits_in D.writes item.now) (record_compressed N.writes D.writes item.now) self.old result }
         ensures pushed { OnOk result (self.new ≡ pushed 2 (record_compressed N.writes D.writes item.now) self.old) }
         ensures unchanged { OnErr result (self.new ≡ self.old) }
     {
@@ -161,7 +162,7 @@ impl<'b> MessageBuilder<'b> {
         &mut self,
         item: &Record<N, D>,
     ) -> Result<(), MessageBuildError>
-        ensures answered { PushAnswers 3 (record_fits_in N.fits_in N.writes D.fits_in D.writes item.now) (record_compressed N.writes D.writes item.now) self.old result }
+        ensures result_is { PushResults 3 (record_fits_in N.fits_in N.writes D.fits_in D.writes item.now) (record_compressed N.writes D.writes item.now) self.old result }
         ensures pushed { OnOk result (self.new ≡ pushed 3 (record_compressed N.writes D.writes item.now) self.old) }
         ensures unchanged { OnErr result (self.new ≡ self.old) }
     {
@@ -173,7 +174,7 @@ impl<'b> MessageBuilder<'b> {
         &mut self,
         item: &EdnsRecord<D>,
     ) -> Result<(), MessageBuildError>
-        ensures answered { PushAnswers 3 (λ _ _. (length (D.octets item.now.content) < 2 ^ 16) × D.fits item.now.content) (octets_writes (edns_octets item.now (D.octets item.now.content))) self.old result }
+        ensures result_is { PushResults 3 (λ _ _. (length (D.octets item.now.content) < 2 ^ 16) × D.fits item.now.content) (octets_writes (edns_octets item.now (D.octets item.now.content))) self.old result }
         ensures pushed { OnOk result (self.new ≡ pushed 3 (octets_writes (edns_octets item.now (D.octets item.now.content))) self.old) }
         ensures unchanged { OnErr result (self.new ≡ self.old) }
     {
@@ -186,7 +187,7 @@ impl<'b> MessageBuilder<'b> {
         section: Section,
         item: &T,
     ) -> Result<(), MessageBuildError>
-        ensures answered { PushAnswers (section_number section) (T.fits_in item.now) (T.writes item.now) self.old result }
+        ensures result_is { PushResults (section_number section) (T.fits_in item.now) (T.writes item.now) self.old result }
         ensures pushed { OnOk result (self.new ≡ pushed (section_number section) (T.writes item.now) self.old) }
         ensures unchanged { OnErr result (self.new ≡ self.old) }
     {
@@ -251,8 +252,8 @@ fn has_items(counts: &[u16]) -> bool
 
 /// Puts a header without items before.
 fn put_header(buffer: &mut [u8], id: U16, flags: HeaderFlags)
-    requires { 12 ≤ length buffer.old }
-    ensures { buffer.new ≡ to_be_bytes w16 id.value ++ to_be_bytes w16 (header_bits flags) ++ replicate 8 0 ++ drop 12 buffer.old }
+    requires { HEADER_SIZE ≤ length buffer.old }
+    ensures { buffer.new ≡ to_be_bytes w16 id.value ++ to_be_bytes w16 (header_bits flags) ++ replicate 8 0 ++ drop HEADER_SIZE buffer.old }
 {
     buffer[..2].copy_from_slice(&id.get().to_be_bytes());
     buffer[2..4].copy_from_slice(&flags.bits().to_be_bytes());
@@ -266,12 +267,12 @@ fn put_item<T: BuildInMessage>(
     size: usize,
     compressor: &mut NameCompressor,
 ) -> Result<usize, TruncationError>
-    requires room { 12 + size ≤ length buffer.old }
-    requires known { FitsIn compressor.old (take size (drop 12 buffer.old)) }
-    ensures contents { BuildsIn (T.fits_in item.now (take size (drop 12 buffer.old)) compressor.old)
-        (T.writes item.now (take size (drop 12 buffer.old)) compressor.old)
-        (drop 12 buffer.old) size compressor.old (drop 12 buffer.new) compressor.new result }
-    ensures header { take 12 buffer.new ≡ take 12 buffer.old }
+    requires room { HEADER_SIZE + size ≤ length buffer.old }
+    requires known { FitsIn compressor.old (take size (drop HEADER_SIZE buffer.old)) }
+    ensures contents { BuildsIn (T.fits_in item.now (take size (drop HEADER_SIZE buffer.old)) compressor.old)
+        (T.writes item.now (take size (drop HEADER_SIZE buffer.old)) compressor.old)
+        (drop HEADER_SIZE buffer.old) size compressor.old (drop HEADER_SIZE buffer.new) compressor.new result }
+    ensures header { take HEADER_SIZE buffer.new ≡ take HEADER_SIZE buffer.old }
     ensures size { length buffer.new ≡ length buffer.old }
 {
     item.build_in_message(&mut buffer[HEADER_SIZE..], size, compressor)
@@ -280,9 +281,9 @@ fn put_item<T: BuildInMessage>(
 /// Puts the count of a section in its place.
 fn put_count(buffer: &mut [u8], section: usize, count: u16)
     requires section { section < 4 }
-    requires header { 12 ≤ length buffer.old }
-    ensures header { take 12 buffer.new ≡ with_count section count (take 12 buffer.old) }
-    ensures contents { drop 12 buffer.new ≡ drop 12 buffer.old }
+    requires header { HEADER_SIZE ≤ length buffer.old }
+    ensures header { take HEADER_SIZE buffer.new ≡ with_count section count (take HEADER_SIZE buffer.old) }
+    ensures contents { drop HEADER_SIZE buffer.new ≡ drop HEADER_SIZE buffer.old }
     ensures size { length buffer.new ≡ length buffer.old }
 {
     write_count(&mut buffer[..HEADER_SIZE], section, count);
@@ -291,9 +292,9 @@ fn put_count(buffer: &mut [u8], section: usize, count: u16)
 /// Writes the count of a section over a header's.
 fn write_count(header: &mut [u8], section: usize, count: u16)
     requires section { section < 4 }
-    requires header { length header.old ≡ 12 }
+    requires header { length header.old ≡ HEADER_SIZE }
     ensures exact { header.new ≡ with_count section count header.old }
-    ensures size { length header.new ≡ 12 }
+    ensures size { length header.new ≡ HEADER_SIZE }
 {
     let at = 4 + 2 * section;
     header[at..at + 2].copy_from_slice(&count.to_be_bytes());

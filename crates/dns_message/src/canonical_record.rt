@@ -12,7 +12,7 @@ ghost use Rattle.dns_rdata.specs.Data.{type_number};
 ghost use Rattle.dns_record.specs.Types.{opt_number};
 ghost use Rattle.dns_message.specs.Canonical.{canonical_wire, is_not_opt};
 ghost use Rattle.dns_message.specs.Messages.{RecordValue, records_among};
-ghost use Rattle.dns_message.specs.Order.{record_cmp, sort_key, sort_key_cmp, alike_cmp, are_alike};
+ghost use Rattle.dns_message.specs.Order.{sort_key, sort_key_cmp, alike_cmp, are_alike};
 ghost use Rattle.dns_message.specs.Same.{Alike};
 ghost use Rattle.dns_message.specs.Seen.{AreSound, HasSoundDataUnlessOpt, data_seen, item_seen, record_value};
 
@@ -47,7 +47,7 @@ impl<'a> CanonicalRecord<'a> {
     /// sections 2.3.4 and 3.2.1).
     pub const MAX_SIZE: usize = 65_800;
 
-    /// The record that the item is; none exactly for a question and for a record of type OPT, which is a record in form alone
+    /// The record that the item is; `None` exactly for a question and for a record of type OPT, which is a record in form alone
     /// (RFC 6891 section 6.1.1). A record of another type has data of its type, as each has that was read.
     pub fn of(item: ParsedMessageItem<'a>) -> Option<CanonicalRecord<'a>>
         requires { HasSoundDataUnlessOpt item }
@@ -108,7 +108,7 @@ impl<'a> CanonicalRecord<'a> {
     }
 
     /// Writes the canonical octets to the beginning of the buffer. What is after them is borrowed back as it was.
-    /// `TruncationError` comes exactly where they are more than the buffer's; what the buffer holds then is open.
+    /// `TruncationError` comes exactly if they are more than the buffer's; what the buffer holds then is unspecified.
     pub fn write<'b>(&self, bytes: &'b mut [u8]) -> Result<&'b mut [u8], TruncationError>
         ensures* written { sem 𝓛 (LendsRest bytes.entry result (canonical_wire self.now)) }
         ensures rest { IfOk result (λ rest. rest.now ≡ drop (length (canonical_wire self.now)) bytes.old) }

@@ -33,7 +33,7 @@ pub enum MessageItem<N, D, E> {
 /// A record that was read, as the items below have it.
 type ParsedRecord<'a> = Record<RevNameBuf, RecordData<'a, NameBuf>>;
 
-/// An item that was read, with names of its own: its data are borrowed from the message, and its owner is kept from the root on, as
+/// An item that was read, with its own names: its data are borrowed from the message, and its owner is kept from the root on, as
 /// owners are compared.
 pub type ParsedMessageItem<'a> = MessageItem<RevNameBuf, RecordData<'a, NameBuf>, Opt<'a>>;
 
@@ -75,7 +75,7 @@ fn read_additional(
 }
 
 /// Reads the item of a section at a place, and gives the place where it ends. Section 0 has the questions, and the later ones
-/// have records. `ParseError` comes exactly where no such item stands there.
+/// have records. `ParseError` comes exactly if no such item is there.
 #[tactic(auto, unfolding(crate::specs::Messages::item_at))]
 pub(crate) fn read_item(
     contents: &[u8],

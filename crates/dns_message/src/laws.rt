@@ -2,14 +2,16 @@
 
 ghost use Rattle.std.specs.Prelude.{◌≡◌, ◌≤◌, ◌<◌, ◌⊎◌, ◌↔◌, ℕ, List, [], false, Some, None, Ok, Err, length, map, nat_eq, IsTrue, ◌&&◌};
 ghost use Rattle.std.specs.Cmp.{IsTotalOrder};
+ghost use Rattle.std.specs.Hash.{u16};
 ghost use Rattle.std.specs.List.{All, Contains};
 ghost use Rattle.std.specs.List.Sorted.{IsPermutation};
 ghost use Rattle.std.specs.declared.cmp.Ordering.TheVariants.{Equal};
 ghost use Rattle.dns_wire.specs.Hexadecimal.{lines};
+ghost use Rattle.dns_wire.specs.Octets.{Octets};
 ghost use Rattle.dns_wire.specs.Reading.{AreOctets};
 ghost use Rattle.dns_record.specs.InPlace.{QuestionAt, RecordAt};
 ghost use Rattle.dns_message.specs.Canonical.{canonical_wire, lowercase_names, plain_record};
-ghost use Rattle.dns_message.specs.Counted.{IsCounted, IsEarlier, StandsBefore};
+ghost use Rattle.dns_message.specs.Counted.{IsCounted, IsEarlier, ComesBefore};
 ghost use Rattle.dns_message.specs.Headers.{header_bits};
 ghost use Rattle.dns_message.specs.Messages.{Item, Question, RecordValue, item_at, counted_slots, with_item, message_reading, Valid, StopsAt, BadAt};
 ghost use Rattle.dns_message.specs.Messages.Item.{QuestionItem, RecordItem};
@@ -24,71 +26,75 @@ ghost use Rattle.dns_message.specs.Same.{Alike, IsLeast, Same, least};
 ghost use Rattle.dns_message.specs.Sorted.{Climbs};
 ghost use Rattle.dns_message.specs.WellFormed.{WellFormed};
 ghost use Rattle.dns_message.specs.Worded.{ItemAt, FailsAt, ReadsWhole};
+ghost use Rattle.dns_wire.specs.declared.sizes.TheConstants.{HEADER_SIZE};
 
 use crate::build_error::MessageBuildError;
 use crate::canon_error::CanonError;
+use crate::canonical_record::CanonicalRecord;
 use crate::header::HeaderFlags;
+use crate::message::MAX_MESSAGE_SIZE;
 use crate::parser::ItemPosition;
 use dns_name::{Name, NameBuf, RevNameBuf};
 use dns_rdata::RecordData;
 use dns_record::Record;
 use dns_wire::ParseBytes;
+use std::hash::Hash;
 
 /// Each message is one of three things: shorter than its header; valid, with one list of records; or bad at
 /// one item, the first that is not read.
 pub fn three_kinds_of_messages()
-    ensures some { (m : List ℕ) → (length m < 12) ⊎ (((rs : List RecordValue) × Valid m rs) ⊎ ((s i : ℕ) × BadAt m s i)) }
-    ensures one_list { (m : List ℕ) (rs ss : List RecordValue) → Valid m rs → Valid m ss → rs ≡ ss }
-    ensures one_stop { (m : List ℕ) (s i p t j q : ℕ) → StopsAt m s i p → StopsAt m t j q → (s ≡ t) × (i ≡ j) × (p ≡ q) }
-    ensures not_short { (m : List ℕ) (rs : List RecordValue) → Valid m rs → 12 ≤ length m }
-    ensures stops_not_short { (m : List ℕ) (s i p : ℕ) → StopsAt m s i p → 12 ≤ length m }
-    ensures stops_not_valid { (m : List ℕ) (s i p : ℕ) (rs : List RecordValue) → StopsAt m s i p → Valid m rs → ⊥ }
+    ensures some { (m : Octets) → (length m < HEADER_SIZE) ⊎ (((rs : List RecordValue) × Valid m rs) ⊎ ((s i : ℕ) × BadAt m s i)) }
+    ensures one_list { (m : Octets) (rs ss : List RecordValue) → Valid m rs → Valid m ss → rs ≡ ss }
+    ensures one_stop { (m : Octets) (s i p t j q : ℕ) → StopsAt m s i p → StopsAt m t j q → (s ≡ t) × (i ≡ j) × (p ≡ q) }
+    ensures not_short { (m : Octets) (rs : List RecordValue) → Valid m rs → HEADER_SIZE ≤ length m }
+    ensures stops_not_short { (m : Octets) (s i p : ℕ) → StopsAt m s i p → HEADER_SIZE ≤ length m }
+    ensures stops_not_valid { (m : Octets) (s i p : ℕ) (rs : List RecordValue) → StopsAt m s i p → Valid m rs → ⊥ }
 {}
 
-/// The reading of a message in words: it stops at an item exactly where all items that are counted before
-/// stand one after another and none stands at the item's place; it is whole exactly where all counted items
-/// stand one after another. In section 0 a question is read exactly where it stands, and in the others a
-/// record exactly where it stands (RFC 1035 sections 4.1.2 to 4.1.4). At a place one item is read at the
+/// The reading of a message in words: it stops at an item exactly if all items that are counted before
+/// come one after another and none is at the item's place; it is whole exactly if all counted items
+/// come one after another. In section 0 a question is read exactly if it is there, and in the others a
+/// record exactly if it is there (RFC 1035 sections 4.1.2 to 4.1.4). At a place one item is read at the
 /// most.
 pub fn readings_in_words()
-    ensures stops { (m : List ℕ) (s i p : ℕ) → StopsAt m s i p ↔ FailsAt m s i p }
-    ensures whole { (m : List ℕ) (items : List Item) (end : ℕ) → (message_reading m ≡ Whole items end) ↔ ReadsWhole m items end }
-    ensures one { (section : ℕ) (contents : List ℕ) (at : ℕ) (item other : Item) (end last : ℕ) →
+    ensures stops { (m : Octets) (s i p : ℕ) → StopsAt m s i p ↔ FailsAt m s i p }
+    ensures whole { (m : Octets) (items : List Item) (end : ℕ) → (message_reading m ≡ Whole items end) ↔ ReadsWhole m items end }
+    ensures one { (section : ℕ) (contents : Octets) (at : ℕ) (item other : Item) (end last : ℕ) →
         item_at section contents at ≡ Some (item, end) → item_at section contents at ≡ Some (other, last) → (item ≡ other) × (end ≡ last) }
-    ensures question_item { (contents : List ℕ) (at : ℕ) (question : Question) (end : ℕ) →
+    ensures question_item { (contents : Octets) (at : ℕ) (question : Question) (end : ℕ) →
         (item_at 0 contents at ≡ Some (QuestionItem question, end)) ↔ QuestionAt contents at question end }
-    ensures record_item { (section : ℕ) (contents : List ℕ) (at : ℕ) (found : RecordValue) (end : ℕ) → 0 < section →
+    ensures record_item { (section : ℕ) (contents : Octets) (at : ℕ) (found : RecordValue) (end : ℕ) → 0 < section →
         (item_at section contents at ≡ Some (RecordItem found, end)) ↔ RecordAt contents at found end }
 {}
 
-/// An item is read at a place exactly where it stands there: in section 0 a question, and in the others a record (RFC 1035
-/// sections 4.1.2 to 4.1.4). At a place one item stands at the most.
+/// An item is read at a place exactly if it is there: in section 0 a question, and in the others a record (RFC 1035
+/// sections 4.1.2 to 4.1.4). At a place there is at most one item.
 pub fn items_in_words()
-    ensures read { (section : ℕ) (contents : List ℕ) (at : ℕ) (item : Item) (end : ℕ) →
+    ensures read { (section : ℕ) (contents : Octets) (at : ℕ) (item : Item) (end : ℕ) →
         (item_at section contents at ≡ Some (item, end)) ↔ ItemAt section contents at item end }
-    ensures one { (section : ℕ) (contents : List ℕ) (at : ℕ) (item other : Item) (end last : ℕ) →
+    ensures one { (section : ℕ) (contents : Octets) (at : ℕ) (item other : Item) (end last : ℕ) →
         ItemAt section contents at item end → ItemAt section contents at other last → (item ≡ other) × (end ≡ last) }
 {}
 
 /// Which items of a message are counted: those of the four sections whose index is below the section's count in the header
-/// (RFC 1035 section 4.1.1). Of two such items one stands before the other exactly where its section is smaller, or its
-/// section is the same and its index is smaller; and each stands once.
+/// (RFC 1035 section 4.1.1). Of two such items one is before the other exactly if its section is smaller, or its
+/// section is the same and its index is smaller; and each occurs once.
 pub fn counted_items()
-    ensures counted { (m : List ℕ) (section index : ℕ) → 12 ≤ length m →
+    ensures counted { (m : Octets) (section index : ℕ) → HEADER_SIZE ≤ length m →
         Contains (counted_slots m) (section, index) ↔ IsCounted m section index }
-    ensures order { (m : List ℕ) (section index other_section other_index : ℕ) → IsCounted m section index → IsCounted m other_section other_index →
-        StandsBefore (section, index) (other_section, other_index) (counted_slots m) ↔ IsEarlier (section, index) (other_section, other_index) }
-    ensures once { (m : List ℕ) (section index : ℕ) → StandsBefore (section, index) (section, index) (counted_slots m) → ⊥ }
+    ensures order { (m : Octets) (section index other_section other_index : ℕ) → IsCounted m section index → IsCounted m other_section other_index →
+        ComesBefore (section, index) (other_section, other_index) (counted_slots m) ↔ IsEarlier (section, index) (other_section, other_index) }
+    ensures once { (m : Octets) (section index : ℕ) → ComesBefore (section, index) (section, index) (counted_slots m) → ⊥ }
 {}
 
 /// A record that is read in a message is well formed, and so is each record of a valid message (RFC 1035 section 3.2.1).
 pub fn records_that_are_read_are_well_formed()
-    ensures record_item { (section : ℕ) (contents : List ℕ) (at : ℕ) (found : RecordValue) (end : ℕ) → AreOctets contents →
+    ensures record_item { (section : ℕ) (contents : Octets) (at : ℕ) (found : RecordValue) (end : ℕ) → AreOctets contents →
         item_at section contents at ≡ Some (RecordItem found, end) → WellFormed found }
-    ensures valid { (m : List ℕ) (rs : List RecordValue) → AreOctets m → Valid m rs → All WellFormed rs }
+    ensures valid { (m : Octets) (rs : List RecordValue) → AreOctets m → Valid m rs → All WellFormed rs }
 {}
 
-/// Well formed records have equal canonical octets exactly where they are equal when lowercased (RFC 4034 section 6.2).
+/// Well formed records have equal canonical octets exactly if they are equal when lowercased (RFC 4034 section 6.2).
 pub fn equal_canonical_octets()
     ensures { (r s : RecordValue) → WellFormed r → WellFormed s → (canonical_wire r ≡ canonical_wire s) ↔ (lowercase_names r ≡ lowercase_names s) }
 {}
@@ -110,7 +116,7 @@ pub fn canonical_records_are_split_back()
         ⟦<Record<Name<'static>, RecordData<'static, Name<'static>>> as ParseBytes<'static>>⟧.reads (canonical_wire r) ≡ Some (lowercase_names r, []) }
 {}
 
-/// The order of records is total, and neither of two well formed records is before the other exactly where
+/// The order of records is total, and neither of two well formed records is before the other exactly if
 /// their canonical octets are equal.
 pub fn order_of_records()
     ensures total { IsTotalOrder record_cmp }
@@ -118,7 +124,7 @@ pub fn order_of_records()
     ensures before { (r s : RecordValue) → WellFormed r → WellFormed s → (Before r s ⊎ Before s r) ⊎ (canonical_wire r ≡ canonical_wire s) }
 {}
 
-/// Records are tested as alike exactly where they are: the same owner in lowercase, class, type and canonical data (RFC 2181 section
+/// Records are tested as alike exactly if they are: the same owner in lowercase, class, type and canonical data (RFC 2181 section
 /// 5.2). Of well formed records those with equal canonical octets are alike.
 pub fn alike_records()
     ensures tested { (r s : RecordValue) → IsTrue (are_alike r s) ↔ Alike r s }
@@ -135,31 +141,31 @@ pub fn canonical_lists()
     ensures one { (rs ss : List RecordValue) → IsPermutation rs ss → canonical_list rs ≡ canonical_list ss }
 {}
 
-/// Lists of records are the same exactly where the records with the least TTLs, in order, are one list.
+/// Lists of records are the same exactly if the records with the least TTLs, in order, are one list.
 pub fn same_records()
     ensures { (rs ss : List RecordValue) → All WellFormed rs → All WellFormed ss → Same rs ss ↔ (least rs ≡ least ss) }
 {}
 
-/// Canonical lists are equal exactly where the records are the same (RFC 4034 section 6); so are those of two valid messages.
+/// Canonical lists are equal exactly if the records are the same (RFC 4034 section 6); so are those of two valid messages.
 pub fn equal_outputs()
     ensures records { (rs ss : List RecordValue) → All WellFormed rs → All WellFormed ss → (canonical_list rs ≡ canonical_list ss) ↔ Same rs ss }
-    ensures messages { (m n : List ℕ) (rs ss : List RecordValue) → AreOctets m → AreOctets n → Valid m rs → Valid n ss →
+    ensures messages { (m n : Octets) (rs ss : List RecordValue) → AreOctets m → AreOctets n → Valid m rs → Valid n ss →
         (canonical_list rs ≡ canonical_list ss) ↔ Same rs ss }
 {}
 
-/// Canonical lists have one text only where they are one (RFC 4648 section 8). So the texts of two valid messages are equal
-/// exactly where their records are the same.
+/// Canonical lists have one text only if they are one (RFC 4648 section 8). So the texts of two valid messages are equal
+/// exactly if their records are the same.
 pub fn canonical_texts()
     ensures one { (rs ss : List RecordValue) → All WellFormed rs → All WellFormed ss → (lines (canonical_list rs) ≡ lines (canonical_list ss)) ↔ (canonical_list rs ≡ canonical_list ss) }
-    ensures messages { (m n : List ℕ) (rs ss : List RecordValue) → AreOctets m → AreOctets n → Valid m rs → Valid n ss →
+    ensures messages { (m n : Octets) (rs ss : List RecordValue) → AreOctets m → AreOctets n → Valid m rs → Valid n ss →
         (lines (canonical_list rs) ≡ lines (canonical_list ss)) ↔ Same rs ss }
 {}
 
 /// The items that a parser gives are those of its message, in order: one that was just made has the whole message ahead; an item
-/// that it gives was the next of those ahead; where it refuses one, it is at this one that the message stops; and where it gives
+/// that it gives was the next of those ahead; if it refuses one, it is at this one that the message stops; and if it gives
 /// none, nothing was ahead (RFC 1035 section 4.1).
 pub fn parsers_read_messages()
-    ensures start { (p : MessageParser) → 12 ≤ length (parsed_message p) → given_count p ≡ 0 → next_start p ≡ 0 → has_ended p ≡ false →
+    ensures start { (p : MessageParser) → HEADER_SIZE ≤ length (parsed_message p) → given_count p ≡ 0 → next_start p ≡ 0 → has_ended p ≡ false →
         ahead p ≡ message_reading (parsed_message p) }
     ensures more { (old new : MessageParser) (position : ItemPosition) (item : Parsed) → parsed_message new ≡ parsed_message old →
         GivesNext {E = ParseError} old (Some (position, Ok item)) new → ahead old ≡ with_item (item_seen item) (ahead new) }
@@ -170,24 +176,32 @@ pub fn parsers_read_messages()
 
 /// A record is read as the same whichever way its owner is kept, from its first label on or from the root on.
 pub fn owners_in_either_layout()
-    ensures { (contents : List ℕ) (at : ℕ) →
+    ensures { (contents : Octets) (at : ℕ) →
         ⟦<Record<NameBuf, RecordData<'static, NameBuf>> as ParseBytes<'static>>⟧.reads_at contents at
         ≡ ⟦<Record<RevNameBuf, RecordData<'static, NameBuf>> as ParseBytes<'static>>⟧.reads_at contents at }
 {}
 
-/// The flags of a header are equal where their bits are, and have none by default (RFC 1035 section 4.1.1).
+/// The flags of a header are equal if their bits are, feed a hasher these as a number, and have none by default (RFC 1035
+/// section 4.1.1).
 pub fn header_flags()
     ensures equal { (a b : _) → ⟦<HeaderFlags as PartialEq>⟧.eq a b ≡ nat_eq (header_bits a) (header_bits b) }
+    ensures fed { (v : _) → ⟦<HeaderFlags as Hash>⟧.hash_input v ≡ u16 (header_bits v) }
     ensures none { (v : _) → ⟦<HeaderFlags as Default>⟧.is_default v → header_bits v ≡ 0 }
 {}
 
-/// Errors are equal exactly where they are the same.
+/// Errors are equal exactly if they are the same.
 pub fn equal_errors()
     ensures build { (a b : _) → IsTrue (⟦<MessageBuildError as PartialEq>⟧.eq a b) ↔ (a ≡ b) }
     ensures canon { (a b : _) → IsTrue (⟦<CanonError as PartialEq>⟧.eq a b) ↔ (a ≡ b) }
 {}
 
-/// Positions of items are equal where section and index are.
+/// Positions of items are equal if section and index are.
 pub fn equal_positions()
     ensures { (a b : _) → ⟦<ItemPosition as PartialEq>⟧.eq a b ≡ (nat_eq a.section b.section && nat_eq a.index b.index) }
+{}
+
+/// A message has at most 65,535 octets (RFC 1035 section 4.2.2), and the canonical octets of a record are at most 65,800.
+pub fn limits()
+    ensures message { MAX_MESSAGE_SIZE ≡ 65535 }
+    ensures canonical { CanonicalRecord.MAX_SIZE ≡ 65800 }
 {}

@@ -2,22 +2,23 @@
 
 ghost use Rattle.std.specs.Prelude.{◌≡◌, ◌+◌, ◌*◌, ◌≤◌, ℕ, List, length, drop, slice_index};
 ghost use Rattle.dns_wire.specs.ReadingLemmas.{plain_ends};
+ghost use Rattle.dns_wire.specs.declared.sizes.TheConstants.{HEADER_SIZE};
 ghost use Rattle.dns_wire.specs.Reading.{plain_at};
 ghost use Rattle.dns_message.specs.MessageOctets.{whole_message, whole_message_leaves};
 
 use crate::header::{Header, HeaderFlags, SectionCounts};
 use dns_num::U16;
-use dns_wire::{ParseBytes, ParseError};
+use dns_wire::{HEADER_SIZE, ParseBytes, ParseError};
 
-/// How many octets a header has (RFC 1035 section 4.1.1).
-pub(crate) const HEADER_SIZE: usize = 12;
+/// The most octets of a message: over TCP its size is sent as a number of 16 bits (RFC 1035 section 4.2.2).
+pub const MAX_MESSAGE_SIZE: usize = 65_535;
 
 /// A message: its header, and the contents after it (RFC 1035 section 4.1). Whether its items can be read is not yet known.
 #[derive(Clone, Copy, Debug)]
 pub struct Message<'a> {
     /// The octets, at least twelve.
     pub slice: &'a [u8],
-    ghost has_header: { 12 ≤ length slice.now },
+    ghost has_header: { HEADER_SIZE ≤ length slice.now },
 }
 
 impl<'a> Message<'a> {
@@ -41,7 +42,7 @@ impl<'a> Message<'a> {
 
     /// The octets after the header. Places in a message are counted from here, but in pointers.
     pub fn contents(&self) -> &'a [u8]
-        ensures { result.now ≡ drop 12 self.now.slice.now }
+        ensures { result.now ≡ drop HEADER_SIZE self.now.slice.now }
     {
         &self.slice[HEADER_SIZE..]
     }

@@ -2,6 +2,7 @@
 
 ghost use Rattle.std.specs.Prelude.{◌≡◌, ◌≤◌, length, drop, ⊤};
 ghost use Rattle.dns_message.specs.Messages.{counted_slots};
+ghost use Rattle.dns_wire.specs.declared.sizes.TheConstants.{HEADER_SIZE};
 
 use crate::header::Header;
 use crate::item::{ParsedMessageItem, read_item};
@@ -9,7 +10,7 @@ use crate::message::Message;
 use dns_wire::{ParseBytes, ParseError};
 use std::alloc::AllocError;
 
-/// Where an item stands among the counted ones.
+/// Where an item is among the counted ones.
 #[derive(Clone, Copy, Debug, PartialEq, Eq)]
 pub struct ItemPosition {
     /// Its section: 0 questions, 1 answers, 2 authorities, 3 additional records.
@@ -44,9 +45,9 @@ impl<'a> MessageParser<'a> {
 
     /// Goes over the items of the message that these octets are. `ParseError` comes exactly below twelve octets.
     pub fn new(bytes: &'a [u8]) -> Result<MessageParser<'a>, ParseError>
-        ensures message { IfOk result (λ p. (12 ≤ length bytes.entry.now) × (parsed_message p ≡ bytes.entry.now)) }
+        ensures message { IfOk result (λ p. (HEADER_SIZE ≤ length bytes.entry.now) × (parsed_message p ≡ bytes.entry.now)) }
         ensures start { IfOk result (λ p. (given_count p ≡ 0) × (next_start p ≡ 0) × (has_ended p ≡ false)) }
-        ensures refused { IfErr result (λ _. length bytes.entry.now < 12) }
+        ensures refused { IfErr result (λ _. length bytes.entry.now < HEADER_SIZE) }
     {
         let message = Message::parse_bytes(bytes)?;
         Ok(MessageParser::for_message(message))
@@ -86,7 +87,7 @@ impl<'a> MessageParser<'a> {
         self.offset
     }
 
-    /// Where the item stands that comes after that many.
+    /// Where the item is that comes after that many.
     fn next_position(&self) -> Option<ItemPosition>
         ensures none { MatchOption result (drop self.now.given (counted_slots self.now.message.slice.now) ≡ [])
             (λ p. drop self.now.given (counted_slots self.now.message.slice.now) ≡ (p.section, p.index) ∷ drop (self.now.given + 1) (counted_slots self.now.message.slice.now)) }
@@ -106,13 +107,13 @@ impl<'a> MessageParser<'a> {
         None
     }
 
-    /// The next item, with its position; an error where it is not read. After an error, and where no item is left, there is none for
+    /// The next item, with its position; an error if it is not read. After an error, and if no item is left, there is none for
     /// good, and `offset` stays.
     pub fn next_item(&mut self) -> Option<(ItemPosition, Result<ParsedMessageItem<'a>, ParseError>)>
         ensures gives { GivesNext self.old result self.new }
         ensures unchanged { parsed_message self.new ≡ parsed_message self.old }
         ensures sound { IfSome result (λ r. IfOk r.1 HasSoundData) }
-        ensures kind { IfSome result (λ r. IfOk r.1 (IsOfSection r.0.section (drop (next_start self.old) (drop 12 (parsed_message self.old))))) }
+        ensures kind { IfSome result (λ r. IfOk r.1 (IsOfSection r.0.section (drop (next_start self.old) (drop HEADER_SIZE (parsed_message self.old))))) }
     {
         if self.ended {
             return None;

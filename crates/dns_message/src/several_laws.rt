@@ -5,12 +5,13 @@ ghost use Rattle.dns_message.specs.Messages.{RecordValue, message_reading};
 ghost use Rattle.dns_message.specs.Refusals.{first_refused};
 ghost use Rattle.dns_message.specs.Several.{AreValid, IsFirstRefused};
 ghost use Rattle.dns_message.specs.declared.canon_error.CanonError.{CanonError};
+ghost use Rattle.dns_wire.specs.Octets.{Octets};
 
-/// Of several messages the first that is refused is the one that is refused while all before it are valid, and none is exactly where
+/// Of several messages the first that is refused is the one that is refused while all before it are valid, and none is refused exactly if
 /// all are valid.
 pub fn first_refusals_in_words()
-    ensures refused { (messages : List (List ℕ)) (number : ℕ) (error : CanonError) →
+    ensures refused { (messages : List Octets) (number : ℕ) (error : CanonError) →
         (first_refused 0 (map message_reading messages) ≡ Some (number, error)) ↔ IsFirstRefused messages number error }
-    ensures none { (messages : List (List ℕ)) →
+    ensures none { (messages : List Octets) →
         (first_refused 0 (map message_reading messages) ≡ None) ↔ ((records : List (List RecordValue)) × AreValid messages records) }
 {}

@@ -57,7 +57,7 @@ fn is_copied(alloc: Global, number: u16, octets: &[u8]) -> bool {
     }
 }
 
-/// Whether the octets in two boxes are equal; none where they are and have two hashes.
+/// Whether the octets in two boxes are equal; `None` if they are and have two hashes.
 fn are_equal(alloc: Global, number: u16, octets: &[u8], other: u16, others: &[u8]) -> Option<bool> {
     match (boxed(alloc, number, octets), boxed(alloc, other, others)) {
         (Some(first), Some(second)) => {

@@ -2,7 +2,7 @@
 
 use crate::assertions::holds;
 use crate::message_parser::{ANSWER, parser_after};
-use dns_message::{CanonicalRecord, MessageParser, collapse};
+use dns_message::{CanonicalRecord, MessageParser, collapse, read_records};
 use std::alloc::{AllocError, Global};
 use std::cmp::Ordering;
 
@@ -41,7 +41,7 @@ fn record_after(count: usize) -> Option<CanonicalRecord<'static>> {
     record_in(ANSWER, count)
 }
 
-/// The number of canonical octets that the item of the answer says it has, where it is a record.
+/// The number of canonical octets that the item of the answer says it has, if it is a record.
 fn size_after(count: usize) -> Option<usize> {
     match record_after(count) {
         Some(found) => Some(found.size()),
@@ -158,4 +158,36 @@ fn alike_records_collapse_to_the_least_ttl(rt: HostRuntime) {
             "{count}"
         );
     }
+}
+
+/// The message of the most records: 5,956 of 11 octets, one of each class from 0 on.
+fn most_records() -> [u8; 65_528] {
+    let mut message = [0; 65_528];
+    message[6] = 0x17;
+    message[7] = 0x44;
+    for index in 0..5_956 {
+        message[13 + 11 * index] = 0xff;
+        message[15 + 11 * index] = (index / 256) as u8;
+        message[16 + 11 * index] = (index % 256) as u8;
+    }
+    message
+}
+
+/// How many records of a message are left, if alike ones count once.
+fn count_left(alloc: Global, message: &[u8]) -> Option<usize> {
+    let Ok(records) = read_records(alloc, message) else {
+        return None;
+    };
+    match collapse(alloc, records) {
+        Ok(unchanged) => Some(unchanged.len()),
+        Err(_) => None,
+    }
+}
+
+#[test]
+fn the_most_records_collapse(rt: HostRuntime) {
+    assert!(rt;
+        count_left(rt.alloc(), &most_records()) == Some(5_956),
+        "all classes differ"
+    );
 }

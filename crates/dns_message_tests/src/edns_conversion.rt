@@ -17,7 +17,7 @@ type Form<'a> = Record<NameBuf, Data<'a>>;
 /// A record whose owner is kept from the root on.
 type RevForm<'a> = Record<RevNameBuf, Data<'a>>;
 
-/// The type, the class and the time to live of the record that an EDNS record is, where its owner is the root.
+/// The type, the class and the time to live of the record that an EDNS record is, if its owner is the root.
 fn form_fields(octets: &[u8]) -> Option<(u16, u16, u32)> {
     match read_edns(octets) {
         Some(edns) => {

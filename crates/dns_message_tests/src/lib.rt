@@ -5,6 +5,7 @@
 mod assertions;
 #[cfg(test)]
 mod boxed_record_data;
+mod built_records;
 #[cfg(test)]
 mod canonical_record;
 #[cfg(test)]
@@ -27,3 +28,5 @@ mod records_in_message;
 mod unknown_data;
 #[cfg(test)]
 mod written;
+
+pub use built_records::records_of_borrowed_names;

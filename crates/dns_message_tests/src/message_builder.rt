@@ -78,7 +78,7 @@ fn record_of<'a>(owner: &[u8], number: u16, ttl: u32, octets: &'a [u8]) -> Optio
 /// The section, the owner, the type, the time to live and the data of a record.
 pub(crate) type Parts<'a> = (char, &'a [u8], u16, u32, &'a [u8]);
 
-/// Why a record of these parts is refused; none where there is no such record.
+/// Why a record of these parts is refused; `None` if there is no such record.
 fn push_record(builder: &mut MessageBuilder<'_>, parts: Parts<'_>) -> Option<Refusal> {
     let (section, owner, number, ttl, octets) = parts;
     match (section, record_of(owner, number, ttl, octets)) {

@@ -8,7 +8,7 @@ use dns_record::{CanonicalRecordData, RClass, RType, Record, TTL};
 use dns_wire::ParseBytes;
 use std::cmp::Ordering;
 
-/// A type without data of its own here (RFC 6895 section 3.1, for private use).
+/// A type that has no data format here (RFC 6895 section 3.1, for private use).
 const PRIVATE: u16 = 65_280;
 
 /// The octets of an address.

@@ -8,7 +8,7 @@ use Rattle.dns_wire.specs.Pointers.{Segment, NameAt, offset_at, name_at}
 use Rattle.dns_wire.specs.Pointers.Segment.{at_root, at_label, at_pointer}
 use Rattle.dns_wire.proofs.Following.{name_at_is, name_at_finds, segment_ends}
 use Rattle.dns_wire.proofs.Walk.{labels_wire-append, wire_long, next_label_type}
-use Rattle.dns_name.specs.Unparsed.{Unparsed, IsUnparsed, LeadsBack, GoesOn, Continued, pointed_offset, end_offset, last_octets, unparsed_at, unparsed_wire}
+use Rattle.dns_name.specs.Unparsed.{Unparsed, IsUnparsed, LeadsBack, LeadsTo, Continued, offset_of_pointer, end_offset, last_octets, unparsed_at, unparsed_wire}
 use Rattle.dns_name.proofs.UnparsedNamesAt.{UnparsedParts, unparsed_parts, unparsed_found}
 
 -- ---- from a name to an unparsed one
@@ -19,7 +19,7 @@ record Prefix (contents : List ℕ) (start at : ℕ) (labels : List (List ℕ)) 
   pointer : IfSome prefix.1 (λ octets. 192 ≤ octets.0)
   back : LeadsBack start (end_offset prefix)
   others : List (List ℕ)
-  goes_on : GoesOn contents (end_offset prefix) others
+  goes_on : LeadsTo contents (end_offset prefix) others
   labels_are : labels ≡ prefix.0 ++ others
   octets : drop at contents ≡ unparsed_wire prefix ++ drop end contents
   end_is : at + length (unparsed_wire prefix) ≡ end
@@ -103,7 +103,7 @@ continued contents start labels end e =
     let back : LeadsBack (length prefix) (end_offset f.prefix) = subst (λ (n : ℕ). LeadsBack n (end_offset f.prefix)) (sym count) f.back in
     record {
       prefix = f.prefix;
-      stands = ap (λ (l : List ℕ). unparsed_at l start) parts
+      occurs = ap (λ (l : List ℕ). unparsed_at l start) parts
           ∙ ap (unparsed_at (prefix ++ (unparsed_wire f.prefix ++ drop end contents))) (sym count)
           ∙ unparsed_found prefix (drop end contents) f.prefix is back
           ∙ ap (λ (n : ℕ). Some (f.prefix, n)) (ap (λ (n : ℕ). n + length (unparsed_wire f.prefix)) count ∙ f.end_is);
@@ -115,7 +115,7 @@ continued contents start labels end e =
 
 -- ---- from an unparsed name to a name
 
--- what stands at a place
+-- what is at a place
 record Stood (contents : List ℕ) (at x : ℕ) (rest : List ℕ) : Type 0 where
   within : at < length contents
   here : slice_index contents at ≡ x
@@ -127,16 +127,16 @@ stood contents at x rest e =
     let both : slice_index contents at ∷ drop (at + 1) contents ≡ x ∷ rest = sym (next_label_type contents at (slice_index contents at) within refl) ∙ e in
     record { within = within; here = cc; trailing = cc }
 
-segment_on : (contents : List ℕ) (start : ℕ) (others labels : List (List ℕ)) (last : Option (ℕ × ℕ)) (at end : ℕ) → AllByRecursion IsLabel labels → IfSome last (λ octets. 192 ≤ octets.0) → LeadsBack start (option_map pointed_offset last) → GoesOn contents (option_map pointed_offset last) others → drop at contents ≡ (labels_wire labels ++ last_octets last) ++ drop end contents → at + length (labels_wire labels ++ last_octets last) ≡ end → Segment contents start at (labels ++ others) end
+segment_on : (contents : List ℕ) (start : ℕ) (others labels : List (List ℕ)) (last : Option (ℕ × ℕ)) (at end : ℕ) → AllByRecursion IsLabel labels → IfSome last (λ octets. 192 ≤ octets.0) → LeadsBack start (option_map offset_of_pointer last) → LeadsTo contents (option_map offset_of_pointer last) others → drop at contents ≡ (labels_wire labels ++ last_octets last) ++ drop end contents → at + length (labels_wire labels ++ last_octets last) ≡ end → Segment contents start at (labels ++ others) end
 segment_on contents start others [] None at end sizes high back on octets ends =
     let s = stood contents at 0 (drop end contents) octets in
     at_root s.within s.here on (sym ends)
 segment_on contents start others [] (Some (first, second)) at end sizes high back on octets ends =
     let s = stood contents at first (second ∷ drop end contents) octets in
     let t = stood contents (at + 1) second (drop end contents) s.trailing in
-    let offset : offset_at contents at ≡ pointed_offset (first, second) = rw (s.here, t.here) refl in
-    let name : NameAt contents (pointed_offset (first, second) - 12) others on.0 = name_at_is contents (pointed_offset (first, second) - 12) others on.0 on.1 in
-    at_pointer {target = pointed_offset (first, second) - 12} (rw s.here high) (omega (arith, t.within)) (omega (arith, offset, back.0)) (omega (arith, back.0, back.1)) name.reads (omega (arith, ends))
+    let offset : offset_at contents at ≡ offset_of_pointer (first, second) = rw (s.here, t.here) refl in
+    let name : NameAt contents (offset_of_pointer (first, second) - 12) others on.0 = name_at_is contents (offset_of_pointer (first, second) - 12) others on.0 on.1 in
+    at_pointer {target = offset_of_pointer (first, second) - 12} (rw s.here high) (omega (arith, t.within)) (omega (arith, offset, back.0)) (omega (arith, back.0, back.1)) name.reads (omega (arith, ends))
 segment_on contents start others (label ∷ labels) last at end sizes high back on octets ends =
     let tail : List ℕ = (labels_wire labels ++ last_octets last) ++ drop end contents in
     let s = stood contents at (length label) (((label ++ labels_wire labels) ++ last_octets last) ++ drop end contents) octets in
@@ -151,6 +151,6 @@ segment_on contents start others (label ∷ labels) last at end sizes high back 
 
 pub read_on : (contents : List ℕ) (start : ℕ) (labels : List (List ℕ)) (end : ℕ) → Continued contents start labels end → name_at contents start ≡ Some (labels, end)
 read_on contents start labels end c =
-    let p : UnparsedParts contents start c.prefix end = unparsed_parts contents start c.prefix end c.stands in
+    let p : UnparsedParts contents start c.prefix end = unparsed_parts contents start c.prefix end c.occurs in
     let reads : Segment contents start start (c.prefix.0 ++ c.others) end = segment_on contents start c.others c.prefix.0 c.prefix.1 start end p.is.sizes p.is.pointer p.back c.goes_on p.octets p.end_is in
     name_at_finds contents start labels end (record { reads = subst (λ (l : List (List ℕ)). Segment contents start start l end) (sym c.labels_are) reads; short = c.short })

@@ -27,8 +27,8 @@ left_root contents segment at taken total (labels, end, at_root within is none e
 left_root contents segment at taken total (labels, end, at_label some small room first later, count) label_type = absurd (omega (arith, some, label_type_is contents segment at Root label_type))
 left_root contents segment at taken total (labels, end, at_pointer high room is before later ends, count) label_type = absurd (omega (arith, high, label_type_is contents segment at Root label_type))
 
--- So many label types have been read between two counts, with that many octets of labels. Each label is two octets or more, and
--- each pointer leads to a place before the segment that it stands in.
+-- That many label types have been read between two counts, with that many octets of labels. Each label is two octets or more, and
+-- each pointer leads to a place before the segment that it is in.
 pub record Counted (contents : List ℕ) (start segment at old new size : ℕ) : Type 0 where
   pub taken : ℕ
   pub taken_is : new ≡ old + taken

@@ -36,7 +36,7 @@ holds_reversed buffer offset labels is array end_is =
 
 -- ---- following a name
 
--- the labels so far stand at the end of the buffer, the first of them last
+-- the labels so far are at the end of the buffer, the first of them last
 pub record Gathered (contents : List ℕ) (start segment at : ℕ) (end : Option ℕ) (offset : ℕ) (buffer : List ℕ) : Type 0 where
   pub labels : List (List ℕ)
   pub sizes : AllByRecursion IsLabel labels
@@ -52,7 +52,7 @@ gathered_none contents start buffer array =
 pub gathered_bad : (contents : List ℕ) (start segment at : ℕ) (end : Option ℕ) (offset : ℕ) (buffer : List ℕ) → Gathered contents start segment at end offset buffer → label_type_at contents segment at ≡ None → name_at contents start ≡ None
 gathered_bad contents start segment at end offset buffer gathered is = followed_bad _ _ _ _ _ _ gathered.followed is
 
--- what is read at the root, and where it stands
+-- what is read at the root, and where it is
 pub record GatheredName (contents : List ℕ) (start offset : ℕ) (end : ℕ) (buffer : List ℕ) : Type 0 where
   pub labels : List (List ℕ)
   pub reads : name_at contents start ≡ Some (labels, end)

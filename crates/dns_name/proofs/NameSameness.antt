@@ -1,4 +1,4 @@
--- Names are the same, ignoring ASCII case, exactly where their lowered octets are.
+-- Names are the same, ignoring ASCII case, exactly if their lowered octets are.
 use Rattle.std.proofs.Common.{◌≡◌, ℕ, List, Bool, true, false, Some, refl, sym, ap, ◌∙◌}
 use Rattle.std.specs.Prelude.{◌↔◌, IsTrue, reverse}
 use Rattle.std.specs.Ordering.{is_eq}

@@ -38,7 +38,7 @@ abbrev pub Past : Option (List ℕ) → List (List ℕ) → List (List ℕ) → 
 Past None rest others agreed = Unit
 Past (Some label) rest others agreed = relative_long label rest < agreed → length (labels_wire others) < relative_long label rest
 
--- the labels that were passed last did not stand at the same place within the octets that agree
+-- the labels that were passed last were not at the same place within the octets that agree
 abbrev pub Apart : Option (List ℕ) → Option (List ℕ) → List (List ℕ) → List (List ℕ) → ℕ → Type 0
 Apart None other rest others agreed = Unit
 Apart (Some label) None rest others agreed = Unit
@@ -104,7 +104,7 @@ walked_right all both rest others next before other label agreed walked is least
       parted None past long = tt
       parted (Some label') past long = λ within same. omega (arith, past within, long, same)
 
--- ---- where both stand at the most labels that both end in
+-- ---- where both are at the most labels that both end in
 
 name_after : (prefix rest : List (List ℕ)) → IsName (prefix ++ rest) → IsName rest
 name_after [] rest is = is

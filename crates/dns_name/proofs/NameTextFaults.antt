@@ -17,18 +17,18 @@ use Rattle.dns_name.specs.declared.text_error.NameParseError.{NameParseError}
 use Rattle.dns_name.specs.declared.text_error.NameParseError.TheVariants as errors
 use Rattle.dns_name.specs.declared.text_error.NameSplitError.{NameSplitError}
 use Rattle.dns_name.specs.declared.text_error.NameSplitError.TheVariants as split_errors
-use Rattle.dns_name.specs.Text.{of_label, fits, label_prefix, after_dot, after_label, parts_within, name_scan, at_end, whole_name_text, parsed_name, of_prefix, at_octet, name_at_start, split_name, NoDot, EndsName, SpellsLabels, AfterLabels, NextLabel, EmptyNext, HasRoom, LongNext, RelativeNext, InvalidNext}
+use Rattle.dns_name.specs.Text.{of_label, fits, label_prefix, after_dot, after_label, parts_within, name_scan, at_end, whole_name_text, parsed_name, of_prefix, at_octet, name_at_start, split_name, NoDot, EndsName, SpellsLabels, AfterLabels, NextLabel, EmptyNext, NameHasRoom, LongNext, RelativeNext, InvalidNext}
 use Rattle.dns_name.proofs.NameTexts.{Label, Read, label_takes, label_again, label_shorter, dot_foreign, Underway, stepped, failed_scan, overlong_scan, empty_scan, ended_scan}
 
 -- ---- one label
 
--- why the scan of a name stops after these labels, where this text is left
+-- why the scan of a name stops after these labels, if this text is left
 abbrev Stop : NameParseError → List (List ℕ) → List ℕ → Type 0
 Stop errors.OverlongLabel labels rest = SpellsMore 63 rest
 Stop errors.PartialEscape labels rest = GoesOn 63 IsCutEscape rest
 Stop errors.InvalidEscape labels rest = GoesOn 63 IsWrongEscape rest
 Stop errors.EmptyLabel labels rest = EmptyNext labels rest
-Stop errors.Overlong labels rest = NextLabel (λ label left. (next : List ℕ) × (left ≡ 46 ∷ next) × ¬ HasRoom labels label) rest
+Stop errors.Overlong labels rest = NextLabel (λ label left. (next : List ℕ) × (left ≡ 46 ∷ next) × ¬ NameHasRoom labels label) rest
 Stop errors.InvalidChar labels rest = ⊥
 Stop errors.Relative labels rest = ⊥
 
@@ -124,19 +124,19 @@ one_longer before found fine =
     let room : length (labels_wire before) + suc (length found) ≤ 255 = leb-true (length (labels_wire before) + suc (length found)) 255 fine in
     omega (arith, room, ap length (labels_wire-append before (found ∷ [])), length-append (labels_wire before) (labels_wire (found ∷ [])), length-append found (labels_wire []))
 
-no_room : (before : List (List ℕ)) (found : List ℕ) → fits before found ≡ false → ¬ HasRoom before found
+no_room : (before : List (List ℕ)) (found : List ℕ) → fits before found ≡ false → ¬ NameHasRoom before found
 no_room before found over room = let h : fits before found ≡ true = le-leb (length (labels_wire before) + suc (length found)) 255 room in let g = sym h ∙ over in cc
 
-has_room : (before : List (List ℕ)) (found : List ℕ) → fits before found ≡ true → HasRoom before found
+has_room : (before : List (List ℕ)) (found : List ℕ) → fits before found ≡ true → NameHasRoom before found
 has_room before found fine = leb-true (length (labels_wire before) + suc (length found)) 255 fine
 
-full : (labels : List (List ℕ)) (label : List ℕ) → ¬ HasRoom labels label → fits labels label ≡ false
+full : (labels : List (List ℕ)) (label : List ℕ) → ¬ NameHasRoom labels label → fits labels label ≡ false
 full labels label none = by (fits labels label) refl where
   by : (b : Bool) → fits labels label ≡ b → fits labels label ≡ false
   by false e = e
   by true e = absurd (none (has_room labels label e))
 
-roomy : (labels : List (List ℕ)) (label : List ℕ) → HasRoom labels label → fits labels label ≡ true
+roomy : (labels : List (List ℕ)) (label : List ℕ) → NameHasRoom labels label → fits labels label ≡ true
 roomy labels label room = le-leb (length (labels_wire labels) + suc (length label)) 255 room
 
 some_octets : (n : ℕ) → n ≢ 0 → 0 < n
@@ -174,7 +174,7 @@ label_out more before text (Ok (found, octet ∷ next)) few ahead is = dot (octe
   fitted false over same =
       let read : label_prefix text ≡ Ok (found, 46 ∷ next) = is ∙ ap (λ (o : ℕ). Ok (found, o ∷ next)) same in
       at_once before (Stop errors.Overlong) text few
-      (taken (λ label left. (next : List ℕ) × (left ≡ 46 ∷ next) × ¬ HasRoom before label) text found (46 ∷ next) read (next, refl, no_room before found over))
+      (taken (λ label left. (next : List ℕ) × (left ≡ 46 ∷ next) × ¬ NameHasRoom before label) text found (46 ∷ next) read (next, refl, no_room before found over))
 
   dot : (b : Bool) → (octet == 46) ≡ b → Out before text (cond b (after_dot (λ longer. more longer next) before found) (Ok (before, (found, octet ∷ next))))
   dot true same = fitted (fits before found) refl (eqb-true octet 46 same)
@@ -359,7 +359,7 @@ parsed_empty text = (from_scan errors.EmptyLabel tt text, λ a. ap whole_name_te
 long_at_dot : (P : List ℕ → Type 0) → ((next : List ℕ) → P (46 ∷ next)) → (text : List ℕ) → AfterLabels (Stop errors.Overlong) text → AfterLabels (LongNext P) text
 long_at_dot P dot text a =
     with_next (Stop errors.Overlong) (LongNext P)
-    (λ labels rest n. with_label (λ label left. (next : List ℕ) × (left ≡ 46 ∷ next) × ¬ HasRoom labels label) (λ label left. P left × EndsLabel left × ¬ HasRoom labels label)
+    (λ labels rest n. with_label (λ label left. (next : List ℕ) × (left ≡ 46 ∷ next) × ¬ NameHasRoom labels label) (λ label left. P left × EndsLabel left × ¬ NameHasRoom labels label)
     (λ label left is. (subst P (sym is.1) (dot is.0), subst EndsLabel (sym is.1) dot_foreign, is.2)) rest n)
     text a
 
@@ -367,7 +367,7 @@ pub parsed_overlong : (text : List ℕ) → (parsed_name text ≡ Err errors.Ove
 parsed_overlong text = (λ e. from (whole_why (name_scan text) errors.Overlong e), to) where
   from : Why (name_scan text) errors.Overlong → AfterLabels (LongNext (λ _. ⊤)) text
   from (Why.stopped is) = long_at_dot (λ _. ⊤) (λ next. tt) text (stops_at errors.Overlong text is)
-  from (Why.long labels label rest is over same) = with_last (λ these found left. ⊤ × EndsLabel left × ¬ HasRoom these found) text labels label rest is (λ ends none. (tt, ends, no_room labels label over))
+  from (Why.long labels label rest is over same) = with_last (λ these found left. ⊤ × EndsLabel left × ¬ NameHasRoom these found) text labels label rest is (λ ends none. (tt, ends, no_room labels label over))
   from (Why.ended labels label is fine some same) = absurd cc
   from (Why.other labels label octet rest is fine same) = absurd cc
 
@@ -388,13 +388,13 @@ parsed_relative text = (λ e. from (whole_why (name_scan text) errors.Relative e
   from : Why (name_scan text) errors.Relative → AfterLabels (RelativeNext (λ rest. rest ≡ [])) text
   from (Why.stopped is) = absurd ((stops_at errors.Relative text is).next)
   from (Why.long labels label rest is over same) = absurd cc
-  from (Why.ended labels label is fine some same) = with_last (λ these found left. (left ≡ []) × EndsName left × (found ≢ []) × HasRoom these found) text labels label [] is (λ ends none. (refl, tt, some, has_room labels label fine))
+  from (Why.ended labels label is fine some same) = with_last (λ these found left. (left ≡ []) × EndsName left × (found ≢ []) × NameHasRoom these found) text labels label [] is (λ ends none. (refl, tt, some, has_room labels label fine))
   from (Why.other labels label octet rest is fine same) = absurd cc
 
   to : AfterLabels (RelativeNext (λ rest. rest ≡ [])) text → parsed_name text ≡ Err errors.Relative
   to a =
       let n = a.next.next in
-      ap whole_name_text (scan_ends (λ these found left. (left ≡ []) × EndsName left × (found ≢ []) × HasRoom these found) text a n.1)
+      ap whole_name_text (scan_ends (λ these found left. (left ≡ []) × EndsName left × (found ≢ []) × NameHasRoom these found) text a n.1)
       ∙ rw (roomy a.labels a.next.label n.3) (relative_end a.labels a.next.label a.next.rest n.0 n.2)
 
 invalid_end : (labels : List (List ℕ)) (label rest : List ℕ) → rest ≢ [] → at_end labels label rest ≡ Err errors.InvalidChar
@@ -407,12 +407,12 @@ parsed_character text = (λ e. from (whole_why (name_scan text) errors.InvalidCh
   from (Why.stopped is) = absurd ((stops_at errors.InvalidChar text is).next)
   from (Why.long labels label rest is over same) = absurd cc
   from (Why.ended labels label is fine some same) = absurd cc
-  from (Why.other labels label octet rest is fine same) = with_last (λ these found left. (left ≢ []) × EndsName left × HasRoom these found) text labels label (octet ∷ rest) is (λ ends none. (λ e. cc, ends_name (octet ∷ rest) ends none, has_room labels label fine))
+  from (Why.other labels label octet rest is fine same) = with_last (λ these found left. (left ≢ []) × EndsName left × NameHasRoom these found) text labels label (octet ∷ rest) is (λ ends none. (λ e. cc, ends_name (octet ∷ rest) ends none, has_room labels label fine))
 
   to : AfterLabels InvalidNext text → parsed_name text ≡ Err errors.InvalidChar
   to a =
       let n = a.next.next in
-      ap whole_name_text (scan_ends (λ these found left. (left ≢ []) × EndsName left × HasRoom these found) text a n.1)
+      ap whole_name_text (scan_ends (λ these found left. (left ≢ []) × EndsName left × NameHasRoom these found) text a n.1)
       ∙ rw (roomy a.labels a.next.label n.2) (invalid_end a.labels a.next.label a.next.rest n.0)
 
 -- ---- why the start of a text is refused
@@ -519,7 +519,7 @@ split_overlong text = (λ e. from (split_why (name_scan text) split_errors.Overl
   from : WhyNot (name_scan text) split_errors.Overlong → AfterLabels (LongNext (λ rest. rest ≢ [])) text
   from (WhyNot.stopped x is same) = long_at_dot (λ rest. rest ≢ []) (λ next e. cc) text (stops_at errors.Overlong text (is ∙ ap Err (overlong_back x same)))
   from (WhyNot.short labels label is same) = absurd cc
-  from (WhyNot.long labels label octet rest is over same) = with_last (λ these found left. (left ≢ []) × EndsLabel left × ¬ HasRoom these found) text labels label (octet ∷ rest) is (λ ends none. (λ e. cc, ends, no_room labels label over))
+  from (WhyNot.long labels label octet rest is over same) = with_last (λ these found left. (left ≢ []) × EndsLabel left × ¬ NameHasRoom these found) text labels label (octet ∷ rest) is (λ ends none. (λ e. cc, ends, no_room labels label over))
   from (WhyNot.relative labels label octet rest is fine some same) = absurd cc
 
 relative_start : (labels : List (List ℕ)) (label rest : List ℕ) → rest ≢ [] → label ≢ [] → fits labels label ≡ true → name_at_start (Ok (labels, (label, rest))) ≡ Err split_errors.Relative
@@ -533,12 +533,12 @@ split_relative text = (λ e. from (split_why (name_scan text) split_errors.Relat
   from (WhyNot.stopped x is same) = absurd ((stops_at errors.Relative text (is ∙ ap Err (relative_back x same))).next)
   from (WhyNot.short labels label is same) = absurd cc
   from (WhyNot.long labels label octet rest is over same) = absurd cc
-  from (WhyNot.relative labels label octet rest is fine some same) = with_last (λ these found left. (left ≢ []) × EndsName left × (found ≢ []) × HasRoom these found) text labels label (octet ∷ rest) is (λ ends none. (λ e. cc, ends_name (octet ∷ rest) ends none, some, has_room labels label fine))
+  from (WhyNot.relative labels label octet rest is fine some same) = with_last (λ these found left. (left ≢ []) × EndsName left × (found ≢ []) × NameHasRoom these found) text labels label (octet ∷ rest) is (λ ends none. (λ e. cc, ends_name (octet ∷ rest) ends none, some, has_room labels label fine))
 
   to : AfterLabels (RelativeNext (λ rest. rest ≢ [])) text → split_name text ≡ Err split_errors.Relative
   to a =
       let n = a.next.next in
-      ap name_at_start (scan_ends (λ these found left. (left ≢ []) × EndsName left × (found ≢ []) × HasRoom these found) text a n.1)
+      ap name_at_start (scan_ends (λ these found left. (left ≢ []) × EndsName left × (found ≢ []) × NameHasRoom these found) text a n.1)
       ∙ relative_start a.labels a.next.label a.next.rest n.0 n.2 (roomy a.labels a.next.label n.3)
 
 short_start : (labels : List (List ℕ)) (label rest : List ℕ) → rest ≡ [] → name_at_start (Ok (labels, (label, rest))) ≡ Err split_errors.ShortInput

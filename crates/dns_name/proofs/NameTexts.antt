@@ -9,7 +9,7 @@ use Rattle.dns_wire.specs.Names.{labels_wire, wire, IsLabel, IsName}
 use Rattle.dns_wire.specs.Reading.{AreOctets}
 use Rattle.dns_wire.proofs.Spelled.{chosen}
 use Rattle.dns_wire.proofs.Walk.{labels_wire-append, wire_long}
-use Rattle.dns_label.specs.Text.{is_plain, shown_label, prefix_label, IsForeign, EndsLabel, SpellsLabel}
+use Rattle.dns_label.specs.Text.{is_unescaped, shown_label, prefix_label, IsForeign, EndsLabel, SpellsLabel}
 use Rattle.dns_label.specs.declared.text_error.LabelParseError.{LabelParseError}
 use Rattle.dns_label.specs.declared.text_error.LabelParseError.TheVariants as label_errors
 use Rattle.dns_label.proofs.Scanned.{Takes, prefix_takes, prefix_again, prefix_never, spelled_apart, shown_spells, shown_plain, plain_printed}
@@ -17,7 +17,7 @@ use Rattle.dns_name.specs.declared.text_error.NameParseError.{NameParseError}
 use Rattle.dns_name.specs.declared.text_error.NameParseError.TheVariants as errors
 use Rattle.dns_name.specs.declared.text_error.NameSplitError.{NameSplitError}
 use Rattle.dns_name.specs.declared.text_error.NameSplitError.TheVariants as split_errors
-use Rattle.dns_name.specs.Text.{shown_name, of_label, of_prefix, fits, Parts, label_prefix, after_label, parts_within, name_scan, at_end, whole_name_text, parsed_name, at_octet, name_at_start, split_name, NoDot, EndsName, SpellsLabels, ArePlainTexts}
+use Rattle.dns_name.specs.Text.{shown_name, of_label, of_prefix, fits, Parts, label_prefix, after_label, parts_within, name_scan, at_end, whole_name_text, parsed_name, at_octet, name_at_start, split_name, NoDot, EndsName, SpellsLabels, AreUnescapedTexts}
 
 abbrev pub Label : Type 0
 Label = Result (List ℕ × List ℕ) NameParseError
@@ -39,7 +39,7 @@ label_again text label rest spells short ends = ap (result_map_both (λ prefix. 
 
 -- a dot ends a label's text
 pub dot_foreign : IsForeign 46
-unfolding is_plain
+unfolding is_unescaped
 dot_foreign = (refl, λ e. cc)
 
 -- the text after a label is no longer than all of it
@@ -347,11 +347,11 @@ names_spell (label ∷ labels) octets =
     subst (λ (l : List ℕ). SpellsLabels l (label ∷ labels)) (sym (shown_more label labels))
     (SpellsLabels.dotted (shown_label label) label (shown_name labels) labels (shown_spells label octets.0) (names_spell labels octets.1))
 
-pub names_plain : (labels : List (List ℕ)) → AllByRecursion AreOctets labels → ArePlainTexts (shown_name labels)
-names_plain [] octets = ArePlainTexts.ended
+pub names_plain : (labels : List (List ℕ)) → AllByRecursion AreOctets labels → AreUnescapedTexts (shown_name labels)
+names_plain [] octets = AreUnescapedTexts.ended
 names_plain (label ∷ labels) octets =
-    subst ArePlainTexts (sym (shown_more label labels))
-    (ArePlainTexts.dotted (shown_label label) (shown_name labels) (shown_plain label octets.0) (names_plain labels octets.1))
+    subst AreUnescapedTexts (sym (shown_more label labels))
+    (AreUnescapedTexts.dotted (shown_label label) (shown_name labels) (shown_plain label octets.0) (names_plain labels octets.1))
 
 -- the first label of a text
 record First (text : List ℕ) (labels : List (List ℕ)) : Type 0 where
@@ -369,13 +369,13 @@ first_of text labels SpellsLabels.ended = inl (refl, refl)
 first_of text labels (SpellsLabels.dotted spelled octets more others spells trailing) =
     inr (record { spelled = spelled; octets = octets; more = more; others = others; text_is = refl; labels_are = refl; spells = spells; trailing = trailing })
 
-pub names_shown : (text : List ℕ) (labels : List (List ℕ)) → ArePlainTexts text → SpellsLabels text labels → text ≡ shown_name labels
-names_shown text labels ArePlainTexts.ended spells =
+pub names_shown : (text : List ℕ) (labels : List (List ℕ)) → AreUnescapedTexts text → SpellsLabels text labels → text ≡ shown_name labels
+names_shown text labels AreUnescapedTexts.ended spells =
     elim (first_of [] labels spells) [
       | inl none ↦ ap shown_name (sym none.1)
       | inr first ↦ absurd (omega (arith, ap length first.text_is, length-append first.spelled (46 ∷ first.more)))
     ]
-names_shown text labels (ArePlainTexts.dotted spelled more plain trailing) spells =
+names_shown text labels (AreUnescapedTexts.dotted spelled more plain trailing) spells =
     elim (first_of (spelled ++ 46 ∷ more) labels spells) [
       | inl none ↦ absurd (omega (arith, ap length none.0, length-append spelled (46 ∷ more)))
       | inr first ↦

@@ -3,7 +3,7 @@ use Rattle.std.proofs.Common.{◌≡◌, ℕ, suc, ◌+◌, ◌-◌, ◌<◌, �
 use Rattle.std.specs.Prelude.{reverse, slice_range}
 use Rattle.std.proofs.lemmas.List.{take_at, drop_at, take-take, drop_all, take-append-drop, take-append-le, drop-drop, length-append, length-take, length-drop, append-nil, reverse-append}
 use Rattle.std.proofs.Math.Seq.{drop-cons}
-use Rattle.dns_wire.specs.Building.{Stands}
+use Rattle.dns_wire.specs.Building.{Occurs}
 use Rattle.dns_wire.specs.Names.{labels_wire, wire, IsName, plain_name, name_labels}
 use Rattle.dns_wire.specs.Reading.{all_of}
 use Rattle.dns_wire.specs.Reversed.{relative_name, relative_labels}
@@ -11,7 +11,7 @@ use Rattle.dns_wire.proofs.Backward.{relative_is, no_labels, reversed_long}
 use Rattle.dns_wire.proofs.Spelled.{labels_of_wire}
 use Rattle.dns_wire.proofs.Walk.{labels_wire-append, wire_long}
 
--- the labels before place at stand in the buffer, the first of them last
+-- the labels before place at are in the buffer, the first of them last
 pub record Turned (octets old : List ℕ) (end at : ℕ) (new : List ℕ) : Type 0 where
   pub done : List (List ℕ)
   pub todo : List (List ℕ)
@@ -99,10 +99,10 @@ module _ (octets old : List ℕ) (end : ℕ) (is : relative_name octets ≡ Some
 
 -- ---- the other layout in a buffer
 
--- the labels of a reversed name stand before the root
-pub forward_stands : (old with_root new : List ℕ) (labels : List (List ℕ)) (start end : ℕ) → end ≡ start + length (wire labels) → end ≤ length old
-    → with_root ≡ take (end - 1) old ++ (0 ∷ [] ++ drop end old) → new ≡ take (end - 1 - length (labels_wire labels)) with_root ++ (labels_wire labels ++ drop (end - 1) with_root) → Stands (wire labels) old start new end
-forward_stands old with_root new labels start end end_is within root_is new_is =
+-- the labels of a reversed name are before the root
+pub forward_occurs : (old with_root new : List ℕ) (labels : List (List ℕ)) (start end : ℕ) → end ≡ start + length (wire labels) → end ≤ length old
+    → with_root ≡ take (end - 1) old ++ (0 ∷ [] ++ drop end old) → new ≡ take (end - 1 - length (labels_wire labels)) with_root ++ (labels_wire labels ++ drop (end - 1) with_root) → Occurs (wire labels) old start new end
+forward_occurs old with_root new labels start end end_is within root_is new_is =
     let prefix : List ℕ = take (end - 1) old in let back : List ℕ = 0 ∷ drop end old in
     let long : length prefix ≡ end - 1 = omega (arith, within, length-take (end - 1) old) in
     let room : start ≤ end - 1 = omega (arith, end_is, wire_long labels) in
@@ -123,10 +123,10 @@ pub record HoldsName (buffer : List ℕ) (size : ℕ) (labels : List (List ℕ))
   pub whole : all_of (plain_name (take size buffer)) ≡ Some (name_labels (take size buffer))
   pub labels_are : name_labels (take size buffer) ≡ labels
 
-pub holds_name : (old new : List ℕ) (size : ℕ) (labels : List (List ℕ)) → IsName labels → Stands (wire labels) old 0 new size → HoldsName new size labels
-holds_name old new size labels is stands =
-    let long : length (wire labels) ≡ size = omega (arith, stands.end_is) in
-    let prefix : take size new ≡ wire labels = ap (take size) stands.new_is ∙ take_at (wire labels) (drop size old) size long in
+pub holds_name : (old new : List ℕ) (size : ℕ) (labels : List (List ℕ)) → IsName labels → Occurs (wire labels) old 0 new size → HoldsName new size labels
+holds_name old new size labels is occurs =
+    let long : length (wire labels) ≡ size = omega (arith, occurs.end_is) in
+    let prefix : take size new ≡ wire labels = ap (take size) occurs.new_is ∙ take_at (wire labels) (drop size old) size long in
     let again = labels_of_wire labels is in
     record {
       short = omega (arith, long, is.size);

@@ -1,4 +1,4 @@
--- What an unparsed name is, in words: labels, and the root or a pointer, whose octets stand at the start.
+-- What an unparsed name is, in words: labels, and the root or a pointer, whose octets are at the start.
 use Rattle.std.proofs.Common.{◌≡◌, ℕ, zero, suc, ◌+◌, ◌-◌, ◌<◌, ◌≤◌, ◌⊎◌, inl, inr, Bool, true, false, ltb, leb, List, [], ◌∷◌, ◌++◌, length, get_or, take, drop, Option, Some, None, refl, sym, ap, subst, ◌∙◌, append_assoc, arith}
 use Rattle.std.specs.Prelude.{unwrap_or, IfSome, ◌==◌, ◌||◌}
 use Rattle.std.specs.List.{AllByRecursion}
@@ -14,7 +14,7 @@ use Rattle.dns_wire.proofs.Walk.{Walked, next_label_type, labels_wire-append, la
 use Rattle.dns_label.specs.Labels.{contents_of, label_wire, plain_label}
 use Rattle.dns_label.proofs.FilledLabels.{label_alone}
 use Rattle.dns_name.proofs.Labelled.{prefix_octets}
-use Rattle.dns_name.specs.Unparsed.{Unparsed, last_octets, unparsed_wire, IsUnparsed, pointed_offset, end_offset, alone_offset, following_labels, pointer_from, unparsed_within, up_to_254, unparsed_name, unparsed_of}
+use Rattle.dns_name.specs.Unparsed.{Unparsed, last_octets, unparsed_wire, IsUnparsed, offset_of_pointer, end_offset, alone_offset, following_labels, pointer_from, unparsed_within, up_to_254, unparsed_name, unparsed_of}
 
 abbrev pub ReadName : Type 0
 ReadName = Option (Unparsed × List ℕ)
@@ -207,7 +207,7 @@ root_alone_unparsed (label ∷ labels, end) e = absurd (omega (arith, e, length-
 pub record FirstLabelType (bytes : List ℕ) (name : Unparsed) : Type 0 where
   pub root : get_or bytes 0 0 ≡ 0 → name ≡ ([], None)
   pub no_pointer : get_or bytes 0 0 < 192 → alone_offset name ≡ None
-  pub pointer : 192 ≤ get_or bytes 0 0 → (1 < length bytes) × (name.0 ≡ []) × (alone_offset name ≡ Some (pointed_offset (get_or bytes 0 0, get_or bytes 1 0)))
+  pub pointer : 192 ≤ get_or bytes 0 0 → (1 < length bytes) × (name.0 ≡ []) × (alone_offset name ≡ Some (offset_of_pointer (get_or bytes 0 0, get_or bytes 1 0)))
 
 first_label_type_of : (name : Unparsed) → IsUnparsed name → FirstLabelType (unparsed_wire name) name
 first_label_type_of ([], None) is = record { root = λ e. refl; no_pointer = λ low. refl; pointer = λ high. absurd (omega (arith, high)) }
@@ -261,13 +261,13 @@ first_of_unparsed bytes size e at_prefix some low =
     subst (λ (b : List ℕ). get_or b 0 0 ≡ size → FirstOfUnparsed b size) (sym t.1) (λ h. first_of (unparsed_of bytes) size t.0 h some low) at_prefix
 
 -- the same label with its length octet, and the name after it
-pub record FirstStanding (bytes : List ℕ) (size : ℕ) : Type 0 where
+pub record FirstFound (bytes : List ℕ) (size : ℕ) : Type 0 where
   pub room : 1 + size ≤ length bytes
   pub is_label : all_of (plain_label (take (1 + size) bytes)) ≡ Some (contents_of (take (1 + size) bytes))
   pub whole : all_of (unparsed_name (drop (1 + size) bytes)) ≡ Some (unparsed_of (drop (1 + size) bytes))
   pub name : unparsed_of bytes ≡ (contents_of (take (1 + size) bytes) ∷ (unparsed_of (drop (1 + size) bytes)).0, (unparsed_of (drop (1 + size) bytes)).1)
 
-pub first_standing : (bytes : List ℕ) (size : ℕ) → all_of (unparsed_name bytes) ≡ Some (unparsed_of bytes) → get_or bytes 0 0 ≡ size → 0 < size → size < 192 → FirstStanding bytes size
+pub first_standing : (bytes : List ℕ) (size : ℕ) → all_of (unparsed_name bytes) ≡ Some (unparsed_of bytes) → get_or bytes 0 0 ≡ size → 0 < size → size < 192 → FirstFound bytes size
 first_standing bytes size e at_prefix some low =
     let first = first_of_unparsed bytes size e at_prefix some low in
     let contents : List ℕ = take size (drop 1 bytes) in
@@ -305,7 +305,7 @@ ends_with bytes name end is parts long =
       within = omega (arith, ap length parts, long, length-append (unparsed_wire name) (drop end bytes));
     }
 
--- labels stand before the place
+-- labels are before the place
 module _ (bytes : List ℕ) (at : ℕ) (walked : Walked bytes at) where
   pub walked_to_root : at < length bytes → at < 255 → get_or bytes at 0 ≡ 0 → UnparsedEnds bytes (at + 1) None
   walked_to_root within short is =
@@ -313,7 +313,7 @@ module _ (bytes : List ℕ) (at : ℕ) (walked : Walked bytes at) where
       walked.parts ∙ ap (λ (rest : List ℕ). labels_wire walked.labels ++ rest) (next_label_type bytes at 0 within is) ∙ sym (append_assoc (labels_wire walked.labels) (0 ∷ []) (drop (at + 1) bytes)) in
       ends_with bytes (walked.labels, None) (at + 1) (record { sizes = walked.sizes; size = omega (arith, walked.at_is); pointer = tt }) parts (length-append (labels_wire walked.labels) (0 ∷ []) ∙ omega (arith, walked.at_is))
 
-  pub walked_to_pointer : (high : ℕ) → at < length bytes → at < 255 → get_or bytes at 0 ≡ high → 192 ≤ high → 2 ≤ length bytes - at → UnparsedEnds bytes (at + 2) (Some (pointed_offset (high, get_or bytes (at + 1) 0)))
+  pub walked_to_pointer : (high : ℕ) → at < length bytes → at < 255 → get_or bytes at 0 ≡ high → 192 ≤ high → 2 ≤ length bytes - at → UnparsedEnds bytes (at + 2) (Some (offset_of_pointer (high, get_or bytes (at + 1) 0)))
   walked_to_pointer high within short is above room =
       let pointer : ℕ × ℕ = (high, get_or bytes (at + 1) 0) in
       let trailing : drop (at + 1) bytes ≡ get_or bytes (at + 1) 0 ∷ drop (at + 2) bytes = next_label_type bytes (at + 1) (get_or bytes (at + 1) 0) (omega arith) refl ∙ ap (λ (n : ℕ). get_or bytes (at + 1) 0 ∷ drop n bytes) (omega arith) in
@@ -351,6 +351,6 @@ module _ (bytes : List ℕ) (at : ℕ) (walked : Walked bytes at) where
       let nothing : drop (at + 1) bytes ≡ [] = drop_all (at + 1) bytes (omega arith) in
       rest_none (λ steps. rw (next_label_type bytes at label_type within is ∙ ap (λ (rest : List ℕ). label_type ∷ rest) nothing) (half_step steps label_type high))
 
--- at most 127 labels stand before the root or the pointer
+-- at most 127 labels are before the root or the pointer
 pub few_unparsed : (name : Unparsed) → IsUnparsed name → length name.0 ≤ 127
 few_unparsed name is = few_labels name.0 (record { sizes = is.sizes; size = omega (arith, is.size, length-append (labels_wire name.0) (0 ∷ [])) })

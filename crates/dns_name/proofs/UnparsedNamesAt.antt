@@ -39,7 +39,7 @@ ended contents (Some (found, rest)) name end e =
     let same = some_pair_parts found name (length contents - length rest) end e in
     (rest, ap (λ (n : Unparsed). Some (n, rest)) same.0, same.1)
 
--- the name stands at the place, up to where it ends
+-- the name is at the place, up to where it ends
 pub record UnparsedParts (contents : List ℕ) (start : ℕ) (name : Unparsed) (end : ℕ) : Type 0 where
   pub is : IsUnparsed name
   pub back : LeadsBack start (end_offset name)
@@ -64,8 +64,8 @@ unparsed_parts contents start name end e =
           record { is = read.0; back = t.1; within = inside; octets = read.1 ∙ ap (λ (l : List ℕ). unparsed_wire name ++ l) (sym trailing); end_is = ends }
     ]
 
-pub unparsed_stands : (contents : List ℕ) (start : ℕ) (name : Unparsed) (end : ℕ) → unparsed_at contents start ≡ Some (name, end) → IsUnparsed name × (start ≤ end) × (take end contents ≡ take start contents ++ unparsed_wire name) × LeadsBack start (end_offset name)
-unparsed_stands contents start name end e =
+pub unparsed_occurs : (contents : List ℕ) (start : ℕ) (name : Unparsed) (end : ℕ) → unparsed_at contents start ≡ Some (name, end) → IsUnparsed name × (start ≤ end) × (take end contents ≡ take start contents ++ unparsed_wire name) × LeadsBack start (end_offset name)
+unparsed_occurs contents start name end e =
     let p = unparsed_parts contents start name end e in
     let octets : List ℕ = take start contents ++ unparsed_wire name in
     let prefix : length octets ≡ end = length-append (take start contents) (unparsed_wire name) ∙ omega (arith, p.end_is, p.within, length-take start contents) in

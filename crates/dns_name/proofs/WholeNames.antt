@@ -27,12 +27,12 @@ pub whole_follows : {E : Type 0} (contents : List ℕ) (start : ℕ) (result : R
 whole_follows contents start (Ok v) e = name_at_is contents start v (length contents) (all_at_is contents (name_at contents start) v e)
 whole_follows contents start (Err x) e = tt
 
--- and where nothing was, no name does
+-- and if nothing was, no name does
 pub none_follows : {E : Type 0} (contents : List ℕ) (start : ℕ) (result : Result (List (List ℕ)) E) → Gives (λ v. v) result (all_at contents (name_at contents start)) → OnErr result ((labels : List (List ℕ)) → ¬ NameAt contents start labels (length contents))
 none_follows contents start (Ok v) e = tt
 none_follows contents start (Err x) e = λ labels found. let some = all_at_finds contents (name_at contents start) labels (name_at_finds contents start labels (length contents) found) in absurd cc
 
--- what was read, where it ends with the contents
+-- what was read, if it ends with the contents
 pub gives_whole : (contents : List ℕ) (read : Result (List (List ℕ) × ℕ) ParseError) (grammar : Option (List (List ℕ) × ℕ)) → Gives (λ x. (x.0, x.1)) read grammar → Gives (λ v. v) (whole_in contents read) (all_at contents grammar)
 gives_whole contents (Err x) grammar e = ap (all_at contents) e
 gives_whole contents (Ok (labels, end)) grammar e = rw e (by (end == length contents)) where

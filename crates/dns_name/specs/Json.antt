@@ -15,7 +15,7 @@ abbrev pub named : Result Labels NameParseError → Result Labels JsonNameError
 named (Ok labels) = Ok labels
 named (Err error) = Err (name_errors.Name error)
 
--- the name that a string spells, where there is one
+-- the name that a string spells, if there is one
 abbrev pub name_of_string : Option Octets → Result Labels JsonNameError
 name_of_string (Some text) = named (parsed_name text)
 name_of_string None = Err name_errors.NotText
@@ -25,7 +25,7 @@ abbrev pub labelled : Result Octets LabelParseError → Result Octets JsonLabelE
 labelled (Ok contents) = Ok contents
 labelled (Err error) = Err (label_errors.Label error)
 
--- the label that a string spells, where there is one
+-- the label that a string spells, if there is one
 abbrev pub label_of_string : Option Octets → Result Octets JsonLabelError
 label_of_string (Some text) = labelled (parsed_label text)
 label_of_string None = Err label_errors.NotText

@@ -6,7 +6,7 @@ use Rattle.std.specs.Result.{result_map_both}
 use Rattle.dns_wire.specs.Octets.{Octets, Labels}
 use Rattle.dns_wire.specs.Names.{IsLabel, labels_wire}
 use Rattle.dns_label.specs.Labels.{label_wire}
-use Rattle.dns_label.specs.Text.{shown_label, prefix_label, EndsLabel, IsForeign, IsPlainText, SpellsLabel}
+use Rattle.dns_label.specs.Text.{shown_label, prefix_label, EndsLabel, IsForeign, IsUnescapedText, SpellsLabel}
 use Rattle.dns_label.specs.declared.text_error.LabelParseError.{LabelParseError}
 use Rattle.dns_label.specs.declared.text_error.LabelParseError.TheVariants as label_errors
 use Rattle.dns_label.specs.declared.text_error.LabelSplitError.{LabelSplitError}
@@ -41,7 +41,7 @@ of_label_split label_split_errors.InvalidChar = split_errors.InvalidChar
 of_label_split label_split_errors.InvalidEscape = split_errors.InvalidEscape
 of_label_split label_split_errors.ShortInput = split_errors.ShortInput
 
--- a whole text's error where more text might follow: what its end cuts is too short
+-- a whole text's error if more text might follow: what its end cuts is too short
 abbrev pub of_prefix : NameParseError → NameSplitError
 of_prefix errors.Overlong = split_errors.Overlong
 of_prefix errors.Relative = split_errors.Relative
@@ -79,7 +79,7 @@ after_label more labels (Ok (label, [])) = Ok (labels, (label, []))
 after_label more labels (Ok (label, octet ∷ rest)) =
     if octet == dot_octet then after_dot (λ longer. more longer rest) labels label else Ok (labels, (label, octet ∷ rest))
 
--- the labels after others, where no more than steps labels are read
+-- the labels after others, if no more than steps labels are read
 unfoldable pub parts_within : ℕ → Labels → Octets → Result Parts NameParseError
 parts_within zero labels text = Ok (labels, ([], text))
 parts_within (suc steps) labels text = after_label (λ longer rest. parts_within steps longer rest) labels (label_prefix text)
@@ -124,7 +124,7 @@ split_name text = name_at_start (name_scan text)
 
 -- ---- in other words
 
--- no dot stands before the text
+-- no dot comes before the text
 abbrev pub NoDot : Octets → Type 0
 NoDot [] = ⊤
 NoDot (octet ∷ rest) = octet ≢ dot_octet
@@ -134,15 +134,15 @@ abbrev pub EndsName : Octets → Type 0
 EndsName [] = ⊤
 EndsName (octet ∷ rest) = IsForeign octet × (octet ≢ dot_octet)
 
--- the text spells these labels, one after another, and a dot stands after each
+-- the text spells these labels, one after another, with a dot after each
 pub data SpellsLabels : Octets → Labels → Type 0 where
   ended : SpellsLabels [] []
   dotted : (text octets rest : Octets) (labels : Labels) → SpellsLabel text octets → SpellsLabels rest labels → SpellsLabels (text ++ dot_octet ∷ rest) (octets ∷ labels)
 
--- a text in its plain spelling: that of each label is, and a dot stands after each
-pub data ArePlainTexts : Octets → Type 0 where
-  ended : ArePlainTexts []
-  dotted : (text rest : Octets) → IsPlainText text → ArePlainTexts rest → ArePlainTexts (text ++ dot_octet ∷ rest)
+-- a text in its plain spelling: that of each label is, and a dot comes after each
+pub data AreUnescapedTexts : Octets → Type 0 where
+  ended : AreUnescapedTexts []
+  dotted : (text rest : Octets) → IsUnescapedText text → AreUnescapedTexts rest → AreUnescapedTexts (text ++ dot_octet ∷ rest)
 
 -- ---- why a text is refused, in words
 
@@ -168,22 +168,22 @@ pub record NextLabel (P : Octets → Octets → Type 0) (text : Octets) : Type 0
   pub short : length label ≤ 63
   pub next : P label rest
 
--- a dot stands where a label should begin, and an empty label would have room
+-- a dot is where a label should begin, and an empty label would have room
 abbrev pub EmptyNext : Labels → Octets → Type 0
 EmptyNext labels text = (rest : Octets) × (text ≡ dot_octet ∷ rest) × (length (labels_wire labels) + 1 ≤ 255)
 
 -- the labels and the next one have at most 255 octets, each with its length octet
-abbrev pub HasRoom : Labels → Octets → Type 0
-HasRoom labels label = length (labels_wire labels) + length (label_wire label) ≤ 255
+abbrev pub NameHasRoom : Labels → Octets → Type 0
+NameHasRoom labels label = length (labels_wire labels) + length (label_wire label) ≤ 255
 
 -- a label ends here, at which the name has too many octets
 abbrev pub LongNext : (Octets → Type 0) → Labels → Octets → Type 0
-LongNext P labels text = NextLabel (λ label rest. P rest × EndsLabel rest × ¬ HasRoom labels label) text
+LongNext P labels text = NextLabel (λ label rest. P rest × EndsLabel rest × ¬ NameHasRoom labels label) text
 
 -- a label that is not the root ends here, and no dot follows it
 abbrev pub RelativeNext : (Octets → Type 0) → Labels → Octets → Type 0
-RelativeNext P labels text = NextLabel (λ label rest. P rest × EndsName rest × (label ≢ []) × HasRoom labels label) text
+RelativeNext P labels text = NextLabel (λ label rest. P rest × EndsName rest × (label ≢ []) × NameHasRoom labels label) text
 
 -- a label ends before an octet that no text of a name has
 abbrev pub InvalidNext : Labels → Octets → Type 0
-InvalidNext labels text = NextLabel (λ label rest. (rest ≢ []) × EndsName rest × HasRoom labels label) text
+InvalidNext labels text = NextLabel (λ label rest. (rest ≢ []) × EndsName rest × NameHasRoom labels label) text

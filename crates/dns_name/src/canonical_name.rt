@@ -1,12 +1,13 @@
 //! Names as DNSSEC sees them (RFC 4034 section 6): in lowercase, and in the orders of their octets.
 
-ghost use Rattle.std.specs.Prelude.{◌≡◌, ◌≤◌, ◌<◌, ℕ, List, length, drop, IfOk, OnOk, OnErr, ⊤};
+ghost use Rattle.std.specs.Prelude.{◌≡◌, ◌≤◌, ◌<◌, length, drop, IfOk, OnOk, OnErr, ⊤};
 ghost use Rattle.std.specs.Borrow.{sem};
 ghost use Rattle.std.proofs.Common.{refl};
 ghost use Rattle.dns_wire.specs.Building.{Builds, LendsRest};
 ghost use Rattle.dns_wire.specs.Names.{wire, lowered, name_labels, IsName};
 ghost use Rattle.dns_name.specs.Composed.{composed_cmp, lowercase_composed_cmp};
 ghost use Rattle.dns_name.specs.Order.{key, key_cmp};
+ghost use Rattle.dns_wire.specs.Octets.{Labels};
 
 use crate::name::Name;
 use crate::name_buf::NameBuf;
@@ -17,7 +18,7 @@ use std::rc::Rc;
 /// A name in whatever layout: it is written as its octets, the root last, and `Ord` is label order.
 pub trait CanonicalName: BuildBytes + Ord {
     /// The labels, without the root.
-    ghost name: { Self → List (List ℕ) };
+    ghost name: { Self → Labels };
 
     /// The number of octets, from 1 to 255. That the labels are a name is shown by it, with no other name to
     /// compare with.
@@ -26,13 +27,13 @@ pub trait CanonicalName: BuildBytes + Ord {
         ensures name { IsName (name self.now) };
 
     /// Writes the octets in lowercase at a place of the buffer, and gives the place where they end.
-    /// It is accepted exactly where they are at most the octets from `start` on. After `TruncationError`
+    /// It is accepted exactly if they are at most the octets from `start` on. After `TruncationError`
     /// the octets before `start` are as before.
     fn build_lowercased_at(&self, bytes: &mut [u8], start: usize) -> Result<usize, TruncationError>
         requires { start ≤ length bytes.old }
         ensures { Builds ⊤ (wire (lowered (name self.now))) bytes.old start bytes.new result };
 
-    /// The order of the octets, as they stand (RFC 4034 section 6.3).
+    /// The order of the octets, as they are (RFC 4034 section 6.3).
     fn cmp_composed(&self, other: &Self) -> Ordering
         ensures order { result ≡ composed_cmp (name self.now) (name other.now) }
         ensures names { IsName (name self.now) × IsName (name other.now) };
@@ -43,8 +44,8 @@ pub trait CanonicalName: BuildBytes + Ord {
         ensures names { IsName (name self.now) × IsName (name other.now) };
 
     /// Writes the octets in lowercase to the beginning of the buffer. What is after them is borrowed back
-    /// as it was. `TruncationError` comes exactly where they are more than the buffer's; what the buffer
-    /// holds then is open.
+    /// as it was. `TruncationError` comes exactly if they are more than the buffer's; what the buffer
+    /// holds then is unspecified.
     final fn build_lowercased_bytes<'b>(
         &self,
         bytes: &'b mut [u8],

@@ -1,11 +1,11 @@
-//! Errors are equal where they are the same.
+//! Errors are equal if they are the same.
 
 ghost use Rattle.std.specs.Prelude.{◌≡◌, ◌↔◌, IsTrue};
 
 use crate::json::{JsonLabelError, JsonNameError};
 use crate::text_error::{NameParseError, NameSplitError};
 
-/// Errors are equal exactly where they are the same.
+/// Errors are equal exactly if they are the same.
 pub fn equal_errors()
     ensures parse { (a b : _) → IsTrue (⟦<NameParseError as PartialEq>⟧.eq a b) ↔ (a ≡ b) }
     ensures split { (a b : _) → IsTrue (⟦<NameSplitError as PartialEq>⟧.eq a b) ↔ (a ≡ b) }

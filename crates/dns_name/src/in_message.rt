@@ -1,4 +1,4 @@
-//! Names in a message: the longest suffix that stands there already is a pointer.
+//! Names in a message: the longest suffix that is there already is a pointer.
 
 ghost use Rattle.std.specs.Prelude.{[], ◌∷◌, Some, ⊤};
 ghost use Rattle.dns_wire.specs.Compression.{compressed_name_writes};

@@ -34,15 +34,15 @@ pub enum JsonLabelError {
 }
 
 impl NameBuf {
-    /// The JSON string of what is printed of the name. `AllocError` comes where memory is wanting.
+    /// The JSON string of what is printed of the name. `AllocError` comes if memory runs out.
     pub fn to_json(&self, alloc: Global) -> Result<Value, AllocError>
         ensures { IfOk result (λ value. view value ≡ string (shown_name self.now)) }
     {
         Ok(Value::String(self.to_string(alloc)?))
     }
 
-    /// The name that a JSON string spells. `NotText` comes exactly where the value is no string, and `Name`
-    /// exactly where `parse_str` refuses the string, with its error.
+    /// The name that a JSON string spells. `NotText` comes exactly if the value is no string, and `Name`
+    /// exactly if `parse_str` refuses the string, with its error.
     pub fn from_json(value: &Value) -> Result<NameBuf, JsonNameError>
         ensures { result ≡ name_of_string (as_str (view value.now)) }
     {
@@ -57,16 +57,16 @@ impl NameBuf {
 }
 
 impl RevNameBuf {
-    /// The JSON string of what is printed of the name, its first label first. `AllocError` comes where
-    /// memory is wanting.
+    /// The JSON string of what is printed of the name, its first label first. `AllocError` comes if
+    /// memory runs out.
     pub fn to_json(&self, alloc: Global) -> Result<Value, AllocError>
         ensures { IfOk result (λ value. view value ≡ string (shown_name self.now)) }
     {
         self.as_revname().to_name().to_json(alloc)
     }
 
-    /// The name that a JSON string spells. `NotText` comes exactly where the value is no string, and `Name`
-    /// exactly where `parse_str` refuses the string, with its error.
+    /// The name that a JSON string spells. `NotText` comes exactly if the value is no string, and `Name`
+    /// exactly if `parse_str` refuses the string, with its error.
     pub fn from_json(value: &Value) -> Result<RevNameBuf, JsonNameError>
         ensures { result ≡ name_of_string (as_str (view value.now)) }
     {
@@ -75,15 +75,15 @@ impl RevNameBuf {
     }
 }
 
-/// The JSON string of what is printed of the label. `AllocError` comes where memory is wanting.
+/// The JSON string of what is printed of the label. `AllocError` comes if memory runs out.
 pub fn label_to_json(alloc: Global, label: &LabelBuf) -> Result<Value, AllocError>
     ensures { IfOk result (λ value. view value ≡ string (shown_label label.now)) }
 {
     Ok(Value::String(label.to_string(alloc)?))
 }
 
-/// The label that a JSON string spells. `NotText` comes exactly where the value is no string, and `Label`
-/// exactly where `LabelBuf::parse_str` refuses the string, with its error.
+/// The label that a JSON string spells. `NotText` comes exactly if the value is no string, and `Label`
+/// exactly if `LabelBuf::parse_str` refuses the string, with its error.
 pub fn label_from_json(value: &Value) -> Result<LabelBuf, JsonLabelError>
     ensures { result ≡ label_of_string (as_str (view value.now)) }
 {

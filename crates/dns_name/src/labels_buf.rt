@@ -19,12 +19,13 @@ pub(crate) struct LabelsBuf {
 }
 
 impl Model for LabelsBuf {
-    ghost use Rattle.std.specs.Prelude.{◌≡◌, ◌≤◌, ℕ, List, length, take};
     ghost use Rattle.std.specs.List.{AllByRecursion};
-    ghost use Rattle.dns_wire.specs.Names.{IsLabel, labels_wire};
+    ghost use Rattle.std.specs.Prelude.{◌≡◌, ◌≤◌, length, take};
     ghost use Rattle.dns_label.specs.Labels.{sequence_labels};
+    ghost use Rattle.dns_wire.specs.Names.{IsLabel, labels_wire};
+    ghost use Rattle.dns_wire.specs.Octets.{Labels};
 
-    ghost Value = { List (List ℕ) };
+    ghost Value = { Labels };
 
     ghost view = { λ b. sequence_labels (take b.size b.buffer) };
 

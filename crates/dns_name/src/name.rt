@@ -1,7 +1,8 @@
 //! A name as a view over its octets.
 
-ghost use Rattle.std.specs.Prelude.{◌≡◌, ◌+◌, ◌≤◌, ◌↔◌, ℕ, List, [], ◌∷◌, ◌++◌, length, Option, Some, IfOk, IsTrue};
+ghost use Rattle.std.specs.Prelude.{◌≡◌, ◌+◌, ◌≤◌, ◌↔◌, [], ◌∷◌, ◌++◌, length, Option, Some, IfOk, IsTrue};
 ghost use Rattle.std.proofs.Props.{props};
+ghost use Rattle.dns_wire.specs.Octets.{Labels};
 ghost use Rattle.dns_wire.specs.Reading.{Gives, all_of, plain_at};
 ghost use Rattle.dns_wire.specs.ReadingLemmas.{plain_ends};
 ghost use Rattle.dns_wire.proofs.NamesLemmas.{plain_name_leaves, plain_name_names};
@@ -88,7 +89,7 @@ impl AsBytes for Name<'_> {
 }
 
 impl<'a> ParseBytes<'a> for Name<'a> {
-    ghost Seen = { List (List ℕ) };
+    ghost Seen = { Labels };
 
     ghost seen = { λ v. name_labels v.slice.now };
 

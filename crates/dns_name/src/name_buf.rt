@@ -1,6 +1,7 @@
 //! A name with its octets.
 
 ghost use Rattle.std.specs.Prelude.{◌≡◌, ◌+◌, ◌<◌, ◌≤◌, ℕ, List, ◌++◌, length, take, Some, IfOk, OnErr, ⊤};
+ghost use Rattle.dns_wire.specs.Octets.{Labels};
 ghost use Rattle.dns_wire.specs.Reading.{Gives, all_of, all_at};
 ghost use Rattle.dns_wire.proofs.NamesLemmas.{plain_name_leaves, name_ends, plain_name_names, name_at_names};
 ghost use Rattle.dns_wire.specs.Names.{plain_name, name_labels};
@@ -30,12 +31,13 @@ pub struct NameBuf {
 }
 
 impl Model for NameBuf {
-    ghost use Rattle.std.specs.Prelude.{◌≡◌, ◌≤◌, ℕ, List, take, Some};
-    ghost use Rattle.dns_wire.specs.Reading.{all_of};
+    ghost use Rattle.std.specs.Prelude.{◌≡◌, ◌≤◌, take, Some};
     ghost use Rattle.dns_wire.proofs.NamesLemmas.{plain_name_leaves, name_ends, plain_name_names, name_at_names};
     ghost use Rattle.dns_wire.specs.Names.{plain_name, name_labels};
+    ghost use Rattle.dns_wire.specs.Octets.{Labels};
+    ghost use Rattle.dns_wire.specs.Reading.{all_of};
 
-    ghost Value = { List (List ℕ) };
+    ghost Value = { Labels };
 
     ghost view = { λ b. name_labels (take b.size b.buffer) };
 
@@ -141,7 +143,7 @@ impl NameBuf {
         ensures exact { Gives (λ x. (x.0, x.1)) result (name_at contents.now start) }
         ensures within { IfOk result (λ x. (start ≤ x.1) × (x.1 ≤ length contents.now)) }
         ensures follows { IfOk result (λ x. NameAt contents.now start x.0 x.1) }
-        ensures refused { OnErr result ((labels : List (List ℕ)) (end : ℕ) → ¬ NameAt contents.now start labels end) }
+        ensures refused { OnErr result ((labels : Labels) (end : ℕ) → ¬ NameAt contents.now start labels end) }
         ensures counts { IfOk result (λ x. (found : NameAt contents.now start x.0 x.1) → steps.new ≡ steps.old + label_type_count found.reads) }
         ensures bound { steps.new ≤ steps.old + (129 + start) }
         ensures no_fewer { steps.old ≤ steps.new }
@@ -165,7 +167,7 @@ impl Clone for NameBuf {
 
 /// A name without pointers.
 impl<'a> ParseBytes<'a> for NameBuf {
-    ghost Seen = { List (List ℕ) };
+    ghost Seen = { Labels };
 
     ghost seen = { λ v. v };
 
@@ -192,12 +194,12 @@ impl<'a> SplitBytes<'a> for NameBuf {
 
 /// A name whose pointers are followed (RFC 1035 section 4.1.4).
 impl<'a> ParseMessageBytes<'a> for NameBuf {
-    /// Reads the name that stands from the place to the end of the contents. `ParseError` comes exactly
-    /// where none does.
+    /// Reads the name from the place to the end of the contents. `ParseError` comes exactly
+    /// if there is none.
     fn parse_message_bytes(contents: &'a [u8], start: usize) -> Result<NameBuf, ParseError>
         ensures exact { Gives (λ v. v) result (all_at contents.now (name_at contents.now start)) }
         ensures follows { IfOk result (λ v. NameAt contents.now start v (length contents.now)) }
-        ensures refused { OnErr result ((labels : List (List ℕ)) → ¬ NameAt contents.now start labels (length contents.now)) }
+        ensures refused { OnErr result ((labels : Labels) → ¬ NameAt contents.now start labels (length contents.now)) }
     {
         whole_message(
             read_uncounted::<Brand>(contents, start, Blank::new(1)),
@@ -207,13 +209,13 @@ impl<'a> ParseMessageBytes<'a> for NameBuf {
 }
 
 impl<'a> SplitMessageBytes<'a> for NameBuf {
-    /// Reads the name at the place, and gives the place where it ends. `ParseError` comes exactly where
-    /// none stands there.
+    /// Reads the name at the place, and gives the place where it ends. `ParseError` comes exactly if
+    /// none is there.
     fn split_message_bytes(contents: &'a [u8], start: usize) -> Result<(NameBuf, usize), ParseError>
         ensures exact { Gives (λ x. (x.0, x.1)) result (name_at contents.now start) }
         ensures within { IfOk result (λ x. (start ≤ x.1) × (x.1 ≤ length contents.now)) }
         ensures follows { IfOk result (λ x. NameAt contents.now start x.0 x.1) }
-        ensures refused { OnErr result ((labels : List (List ℕ)) (end : ℕ) → ¬ NameAt contents.now start labels end) }
+        ensures refused { OnErr result ((labels : Labels) (end : ℕ) → ¬ NameAt contents.now start labels end) }
     {
         read_uncounted::<Brand>(contents, start, Blank::new(1))
     }

@@ -23,7 +23,7 @@ use std::cmp::Ordering;
 use std::marker::Brand;
 use std::sync::ledger::{Blank, Ledger};
 
-/// The label just before the most labels that both end in; none where no label precedes these.
+/// The label just before the most labels that both end in; `None` if no label precedes these.
 /// `agreed` octets agree from the ends of both names on, their roots included. Each label type that is read is a
 /// step.
 fn labels_before<'a, 'b, L: Ledger>(

@@ -1,9 +1,10 @@
 //! Names that are read, and what their labels are.
 
-ghost use Rattle.std.specs.Prelude.{◌≡◌, ◌≤◌, ℕ, List, length, Some};
+ghost use Rattle.std.specs.Prelude.{◌≡◌, ◌≤◌, ℕ, length, Some};
 ghost use Rattle.std.proofs.Common.{refl};
 ghost use Rattle.dns_wire.proofs.NamesLemmas.{plain_name_names, name_at_names, placed_names};
 ghost use Rattle.dns_wire.specs.Names.{IsName, plain_name, name_labels};
+ghost use Rattle.dns_wire.specs.Octets.{Octets, Labels};
 ghost use Rattle.dns_wire.specs.Pointers.{name_at};
 ghost use Rattle.dns_name.specs.UnparsedLemmas.{unparsed_names, unparsed_names_at};
 ghost use Rattle.dns_name.specs.Unparsed.{unparsed_of};
@@ -15,15 +16,15 @@ use crate::rev_name_buf::RevNameBuf;
 use crate::unparsed_name::UnparsedName;
 use dns_wire::{ParseName, SplitMessageBytes};
 
-/// A name that is read whole: the labels that stand where it was read are those that it writes and compares
+/// A name that is read whole: the labels that are where it was read are those that it writes and compares
 /// (RFC 1035 section 3.1, RFC 4034 section 6).
 pub trait ReadName<'a>: ParseName<'a> + CanonicalName {
     /// What is read is the name at the start of the octets.
-    ghost read: { (value : Self) (bytes rest : List ℕ) →
+    ghost read: { (value : Self) (bytes rest : Octets) →
         Self.reads bytes ≡ Some (Self.seen value, rest) → plain_name bytes ≡ Some (Self.name value, rest) };
 
     /// Each name at the start of octets is read.
-    ghost read_each: { (bytes : List ℕ) (labels : List (List ℕ)) (rest : List ℕ) →
+    ghost read_each: { (bytes : Octets) (labels : Labels) (rest : Octets) →
         plain_name bytes ≡ Some (labels, rest) → (seen : Self.Seen) × (Self.reads bytes ≡ Some (seen, rest)) };
 
     /// The labels that its value has are those that it writes.
@@ -33,11 +34,11 @@ pub trait ReadName<'a>: ParseName<'a> + CanonicalName {
 /// The same in a message, where pointers are followed (RFC 1035 section 4.1.4).
 pub trait ReadMessageName<'a>: ReadName<'a> + SplitMessageBytes<'a> {
     /// What is read is the name at the place.
-    ghost read_at: { (value : Self) (contents : List ℕ) (at end : ℕ) →
+    ghost read_at: { (value : Self) (contents : Octets) (at end : ℕ) →
         Self.reads_at contents at ≡ Some (Self.seen value, end) → name_at contents at ≡ Some (Self.name value, end) };
 
     /// Each name at a place is read.
-    ghost read_each_at: { (contents : List ℕ) (at : ℕ) (labels : List (List ℕ)) (end : ℕ) →
+    ghost read_each_at: { (contents : Octets) (at : ℕ) (labels : Labels) (end : ℕ) →
         name_at contents at ≡ Some (labels, end) → (seen : Self.Seen) × (Self.reads_at contents at ≡ Some (seen, end)) };
 }
 
@@ -116,7 +117,7 @@ impl<'a> ReadMessageName<'a> for RevNameBuf {
     ghost read_each_at = { λ contents at labels end e. (labels, e) };
 }
 
-/// The labels before its pointer, or all where it has none.
+/// The labels before its pointer, or all if it has none.
 impl<'a> ParseName<'a> for UnparsedName<'a> {
     ghost labels = { λ v. (unparsed_of v.slice.now).0 };
 

@@ -1,4 +1,4 @@
-//! Labels one after another, as they stand in a name of either layout beside its root.
+//! Labels one after another, as they are in a name of either layout beside its root.
 
 ghost use Rattle.std.specs.Prelude.{◌≡◌, ◌≤◌, ◌-◌, List, [], ◌∷◌, ◌++◌, length, take, drop, reverse, Some, MatchOption};
 ghost use Rattle.std.proofs.Props.{props};
@@ -15,7 +15,7 @@ pub(crate) struct RelativeName<'a> {
 }
 
 impl<'a> RelativeName<'a> {
-    /// The first label, and those after it; none where there are no labels.
+    /// The first label, and those after it; `None` if there are no labels.
     pub fn split_first(&self) -> Option<(&'a [u8], RelativeName<'a>)>
         ensures { MatchOption result (relative_labels self.now.slice.now ≡ [])
             (λ x. relative_labels self.now.slice.now ≡ x.0.now ∷ relative_labels x.1.slice.now) }

@@ -2,7 +2,7 @@
 
 ghost use Rattle.std.specs.Prelude.{◌≡◌, ◌+◌, ◌≤◌, ◌<◌, ◌^◌, ◌↔◌, [], ◌∷◌, length, reverse, Some, IsTrue, ⊤};
 ghost use Rattle.std.proofs.Props.{props};
-ghost use Rattle.dns_wire.specs.Building.{Builds, Stands};
+ghost use Rattle.dns_wire.specs.Building.{Builds, Occurs};
 ghost use Rattle.dns_wire.specs.Names.{wire};
 ghost use Rattle.dns_wire.specs.Reversed.{relative_labels, reversed_wire, reversed_name, reversed_name_labels};
 
@@ -77,7 +77,7 @@ impl<'a> RevName<'a> {
     /// Copies the labels to a place of the buffer, the first label first, and gives the place where they end.
     pub(crate) fn put_forward(&self, bytes: &mut [u8], start: usize) -> usize
         requires { start + length self.now.slice.now ≤ length bytes.old }
-        ensures { Stands (wire (reversed_name_labels self.now.slice.now)) bytes.old start bytes.new result }
+        ensures { Occurs (wire (reversed_name_labels self.now.slice.now)) bytes.old start bytes.new result }
     {
         let end = start + self.slice.len();
         copy_before(&[0], bytes, end);

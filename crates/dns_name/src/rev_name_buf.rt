@@ -1,6 +1,7 @@
 //! A name from the root on, with its octets.
 
 ghost use Rattle.std.specs.Prelude.{◌≡◌, ◌≤◌, ◌<◌, ℕ, List, length, drop, Some, IfOk, OnErr, ⊤};
+ghost use Rattle.dns_wire.specs.Octets.{Labels};
 ghost use Rattle.dns_wire.specs.Reading.{Gives, all_of, all_at};
 ghost use Rattle.dns_wire.proofs.NamesLemmas.{plain_name_leaves, name_ends, plain_name_names, name_at_names};
 ghost use Rattle.dns_wire.specs.Names.{plain_name, wire};
@@ -21,17 +22,18 @@ use std::marker::Model;
 /// takes no memory.
 #[derive(Debug, Drop)]
 pub struct RevNameBuf {
-    /// Where the root's 0 stands in the buffer. The name ends with it, so that labels can be put before
+    /// Where the root's 0 is in the buffer. The name ends with it, so that labels can be put before
     /// others.
     offset: u8,
     buffer: [u8; RevName::MAX_SIZE],
 }
 
 impl Model for RevNameBuf {
-    ghost use Rattle.std.specs.Prelude.{◌≡◌, ◌<◌, ℕ, List, drop, Some};
+    ghost use Rattle.std.specs.Prelude.{◌≡◌, ◌<◌, drop, Some};
+    ghost use Rattle.dns_wire.specs.Octets.{Labels};
     ghost use Rattle.dns_wire.specs.Reversed.{reversed_name, reversed_name_labels};
 
-    ghost Value = { List (List ℕ) };
+    ghost Value = { Labels };
 
     ghost view = { λ b. reversed_name_labels (drop b.offset b.buffer) };
 
@@ -116,7 +118,7 @@ fn read_reversed(contents: &[u8], start: usize) -> Result<(RevNameBuf, usize), P
 
 /// The octets of a name without pointers, its first label first.
 impl<'a> ParseBytes<'a> for RevNameBuf {
-    ghost Seen = { List (List ℕ) };
+    ghost Seen = { Labels };
 
     ghost seen = { λ v. v };
 
@@ -143,20 +145,20 @@ impl<'a> SplitBytes<'a> for RevNameBuf {
 
 /// A name whose pointers are followed (RFC 1035 section 4.1.4).
 impl<'a> ParseMessageBytes<'a> for RevNameBuf {
-    /// Reads the name that stands from the place to the end of the contents. `ParseError` comes exactly
-    /// where none does.
+    /// Reads the name from the place to the end of the contents. `ParseError` comes exactly
+    /// if there is none.
     fn parse_message_bytes(contents: &'a [u8], start: usize) -> Result<RevNameBuf, ParseError>
         ensures exact { Gives (λ v. v) result (all_at contents.now (name_at contents.now start)) }
         ensures follows { IfOk result (λ v. NameAt contents.now start v (length contents.now)) }
-        ensures refused { OnErr result ((labels : List (List ℕ)) → ¬ NameAt contents.now start labels (length contents.now)) }
+        ensures refused { OnErr result ((labels : Labels) → ¬ NameAt contents.now start labels (length contents.now)) }
     {
         whole_message(read_reversed(contents, start), contents)
     }
 }
 
 impl<'a> SplitMessageBytes<'a> for RevNameBuf {
-    /// Reads the name at the place, and gives the place where it ends. `ParseError` comes exactly where
-    /// none stands there.
+    /// Reads the name at the place, and gives the place where it ends. `ParseError` comes exactly if
+    /// none is there.
     fn split_message_bytes(
         contents: &'a [u8],
         start: usize,
@@ -164,7 +166,7 @@ impl<'a> SplitMessageBytes<'a> for RevNameBuf {
         ensures exact { Gives (λ x. (x.0, x.1)) result (name_at contents.now start) }
         ensures within { IfOk result (λ x. (start ≤ x.1) × (x.1 ≤ length contents.now)) }
         ensures follows { IfOk result (λ x. NameAt contents.now start x.0 x.1) }
-        ensures refused { OnErr result ((labels : List (List ℕ)) (end : ℕ) → ¬ NameAt contents.now start labels end) }
+        ensures refused { OnErr result ((labels : Labels) (end : ℕ) → ¬ NameAt contents.now start labels end) }
     {
         read_reversed(contents, start)
     }

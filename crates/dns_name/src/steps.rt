@@ -34,7 +34,7 @@ impl<L: Ledger> Steps<L> {
         Steps { book, share }
     }
 
-    /// So many more.
+    /// That many more.
     pub fn add(&mut self, count: usize)
         ensures { self.new ≡ self.old + count }
     {

@@ -16,7 +16,7 @@ use std::str::FromStr;
 
 impl NameBuf {
     /// Reads the name that the whole text spells: labels that a dot follows each; the empty text is the root.
-    /// Each error comes exactly where its fault is the first one from the left.
+    /// Each error comes exactly if its fault is the first one from the left.
     pub fn parse_str(s: &[u8]) -> Result<NameBuf, NameParseError>
         ensures { result ≡ parsed_name s.now }
     {
@@ -34,7 +34,7 @@ impl NameBuf {
     }
 
     /// Reads the name at the start of the text, and gives the text after it, which begins with an octet
-    /// that no text of a name has. Each error comes exactly where its fault is the first one from the left.
+    /// that no text of a name has. Each error comes exactly if its fault is the first one from the left.
     pub fn split_str(s: &[u8]) -> Result<(NameBuf, &[u8]), NameSplitError>
         ensures { GivesResult (λ x. (x.0, x.1.now)) result (split_name s.now) }
     {
@@ -140,7 +140,7 @@ fn label_at(text: &[u8]) -> Result<(LabelBuf, &[u8]), NameParseError>
     }
 }
 
-/// The text after the dot that stands before it; none where none does.
+/// The text after the dot that comes before it; `None` if none does.
 fn following_dot(text: &[u8]) -> Option<&[u8]>
     ensures { MatchOption result (NoDot text.now) (λ rest. text.now ≡ 46 ∷ rest.now) }
 {
@@ -150,7 +150,7 @@ fn following_dot(text: &[u8]) -> Option<&[u8]>
     }
 }
 
-/// The error of a prefix of a text, where the whole text has this one.
+/// The error of a prefix of a text, if the whole text has this one.
 fn of_prefix(error: NameParseError) -> NameSplitError
     ensures { result ≡ of_prefix error }
 {

@@ -16,19 +16,19 @@ pub enum NameParseError {
     /// The text ends after a label that no dot follows.
     #[error("the domain name did not end with `.`")]
     Relative,
-    /// A dot stands where a label should begin.
+    /// A dot is where a label should begin.
     #[error("the domain name contained an empty label")]
     EmptyLabel,
     /// A label would have more than 63 octets (RFC 1035 section 2.3.4).
     #[error("a label in the domain name was too long")]
     OverlongLabel,
-    /// An octet stands in the text that no text of a name has, as a space.
+    /// The text has an octet that no text of a name has, such as a space.
     #[error("the domain name contained an invalid character")]
     InvalidChar,
     /// The text ends within an escape: after a backslash, or before the third of three digits.
     #[error("the domain name contained an incomplete escape")]
     PartialEscape,
-    /// A backslash stands before what is no escape: a number that is not of three decimal digits or is
+    /// A backslash comes before what is no escape: a number that is not of three decimal digits or is
     /// above 255, or an octet that is no graphic ASCII.
     #[error("the domain name contained an invalid escape")]
     InvalidEscape,
@@ -44,7 +44,7 @@ pub enum NameSplitError {
     /// A label ends before an octet that is no dot and that no text of a name has.
     #[error("the domain name did not end with `.`")]
     Relative,
-    /// A dot stands where a label should begin.
+    /// A dot is where a label should begin.
     #[error("the domain name contained an empty label")]
     EmptyLabel,
     /// A label would have more than 63 octets (RFC 1035 section 2.3.4).
@@ -53,7 +53,7 @@ pub enum NameSplitError {
     /// Never comes from reading: the name ends before an octet that no text of a name has.
     #[error("the domain name contained an invalid character")]
     InvalidChar,
-    /// A backslash stands before what is no escape: a number that is not of three decimal digits or is
+    /// A backslash comes before what is no escape: a number that is not of three decimal digits or is
     /// above 255, or an octet that is no graphic ASCII.
     #[error("the domain name contained an invalid escape")]
     InvalidEscape,

@@ -1,4 +1,4 @@
-//! A name as it stands in a message, whatever its pointer leads to.
+//! A name as it is in a message, whatever its pointer leads to.
 
 ghost use Rattle.std.specs.Prelude.{◌≡◌, ◌≤◌, ◌<◌, ◌^◌, ◌↔◌, List, [], ◌∷◌, length, take, drop, Option, Some, None, IfOk, OnErr, IsTrue, MatchOption};
 ghost use Rattle.std.proofs.Props.{props};
@@ -44,7 +44,7 @@ impl<'a> UnparsedName<'a> {
         self.as_bytes().len()
     }
 
-    /// Whether the root alone stands here.
+    /// Whether the root alone is here.
     pub fn is_root(&self) -> bool
         ensures { IsTrue result ↔ (unparsed_of self.now.slice.now ≡ ([], None)) }
     {
@@ -61,7 +61,7 @@ impl<'a> UnparsedName<'a> {
         self.slice
     }
 
-    /// Where the pointer leads, counted from the start of the message, if one pointer is all that stands
+    /// Where the pointer leads, counted from the start of the message, if one pointer is all that is
     /// here. The offset has 14 bits.
     pub fn pointer_value(&self) -> Option<u16>
         ensures { result ≡ alone_offset (unparsed_of self.now.slice.now) }
@@ -73,7 +73,7 @@ impl<'a> UnparsedName<'a> {
         Some(pointer_offset(high, self.slice[1]) as u16)
     }
 
-    /// The first label, and the name after it; none where the root or one pointer is all that stands here.
+    /// The first label, and the name after it; `None` if the root or one pointer is all that is here.
     pub fn split_first(&self) -> Option<(Label<'a>, UnparsedName<'a>)>
         ensures { MatchOption result ((unparsed_of self.now.slice.now).0 ≡ [])
             (λ x. unparsed_of self.now.slice.now ≡ (contents_of x.0.slice.now ∷ (unparsed_of x.1.slice.now).0, (unparsed_of x.1.slice.now).1)) }
@@ -182,7 +182,7 @@ impl<'a> SplitMessageBytes<'a> for UnparsedName<'a> {
     }
 }
 
-/// The octets as they stand.
+/// The octets as they are.
 impl BuildBytes for UnparsedName<'_> {
     ghost use Rattle.std.specs.Prelude.{⊤};
     ghost use Rattle.dns_wire.specs.Building.{Builds};

@@ -76,7 +76,7 @@ fn counted_end(contents: &[u8], offset: usize) -> Option<usize> {
 }
 
 /// How many label types a reading from the offset goes over: one for each label and each pointer, and one for the
-/// root. `None` where no root is among the first 10,000.
+/// root. `None` if no root is among the first 10,000.
 fn label_types_read(contents: &[u8], offset: usize) -> Option<usize>
     ensures { IfSome result (λ n. (labels : List (List ℕ)) (end : ℕ) (found : NameAt contents.now offset labels end) → label_type_count found.reads ≡ n) }
 {

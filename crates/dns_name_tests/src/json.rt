@@ -72,6 +72,23 @@ fn the_longest_name_is_a_json_string(rt: HostRuntime) {
     holds(&rt, holds_longest(rt.alloc()), "255 octets");
 }
 
+/// Whether the longest label, 63 letters, is its JSON string.
+fn holds_longest_label(alloc: Global) -> bool {
+    let letters = [b'a'; 63];
+    match json_of_label(alloc, &letters) {
+        Some(value) => match value.as_str() {
+            Some(string) => string.as_bytes() == letters.as_slice(),
+            None => false,
+        },
+        None => false,
+    }
+}
+
+#[test]
+fn the_longest_label_is_a_json_string(rt: HostRuntime) {
+    holds(&rt, holds_longest_label(rt.alloc()), "63 octets");
+}
+
 #[test]
 fn prints_names_as_json(rt: HostRuntime) {
     let alloc = rt.alloc();

@@ -6,7 +6,7 @@ use crate::writing::{octets_left, writes};
 use dns_name::{Name, NameBuf, RevNameBuf, UnparsedName};
 use dns_wire::{ParseBytes, ParseName, SplitBytes};
 
-/// The name that the octets are, or the root where they are none.
+/// The name that the octets are, or the root if they are none.
 pub(crate) fn name(octets: &[u8]) -> Name<'_> {
     match Name::parse_bytes(octets) {
         Ok(name) => name,

@@ -46,7 +46,7 @@ pub(crate) fn end_in_message<T: BuildInMessage>(
     }
 }
 
-/// Whether the value is written in a message as the octets after one octet, where there is room for no more, and
+/// Whether the value is written in a message as the octets after one octet, if there is room for no more, and
 /// names can then point to these offsets.
 pub(crate) fn compresses<T: BuildInMessage>(value: &T, octets: &[u8], places: &[u16]) -> bool {
     let mut buffer = [b'.'; 32];
@@ -70,7 +70,7 @@ pub(crate) fn has_no_room_in_message<T: BuildInMessage>(value: &T, size: usize) 
 }
 
 /// Whether the value, which has octets but no names that can be pointed to, is written in a message as these
-/// octets, and is refused where there is room for one less.
+/// octets, and is refused if there is room for one less.
 pub(crate) fn writes_in_message<T: BuildInMessage>(value: &T, octets: &[u8]) -> bool {
     compresses(value, octets, &[]) && has_no_room_in_message(value, octets.len().saturating_sub(1))
 }

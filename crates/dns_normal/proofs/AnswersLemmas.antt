@@ -8,8 +8,8 @@ use Rattle.dns_wire.specs.Compression.{CompressedWrite, FitsIn, compressed_name_
 use Rattle.dns_wire.specs.Layout.{laid, list_writes}
 use Rattle.dns_wire.specs.LayoutLemmas.{list_writes-one, list_writes-append}
 use Rattle.dns_num.specs.InMessage.{zeros}
-use Rattle.dns_record.specs.InMessage.{record_numbers}
-use Rattle.dns_message.specs.Building.{Draft, drafted, count_in, has_later, with_count, pushed, PushAnswers}
+use Rattle.dns_record.specs.InMessage.{fixed_header}
+use Rattle.dns_message.specs.Building.{Draft, drafted, count_in, has_later, with_count, pushed, PushResults}
 use Rattle.dns_message.specs.Built.{built, field_part}
 use Rattle.dns_message.specs.Canonical.{lowercase_names}
 use Rattle.dns_message.specs.Messages.{RecordValue, records_among}
@@ -40,7 +40,7 @@ built_more rs r =
 record_some : (r : RecordValue) (contents places : List ℕ) → 10 ≤ length (built r contents places).0
 record_some r contents places =
     let owner = compressed_name_writes r.owner contents places in
-    let numbers = record_numbers r.rtype r.class r.ttl in
+    let numbers = fixed_header r.rtype r.class r.ttl in
     let at = ((contents ++ owner.0) ++ numbers) ++ zeros w16 in
     let content = (laid (map field_part r.content) at owner.1).0 in
     let size = to_be_bytes w16 (length content) in
@@ -112,7 +112,7 @@ one_more rs r draft has well room =
 
 -- what a push of a record leaves
 pub pushed_more : {A : Type 0} (rs : List RecordValue) (r : RecordValue) (draft after : Draft) (fits : List ℕ → List ℕ → Type 0) (writes : CompressedWrite) (result : Result A MessageBuildError)
-    → HasAnswers rs draft → WellFormed r → writes ≡ built r → fits draft.contents draft.places → PushAnswers 1 fits writes draft result → OnOk result (after ≡ pushed 1 writes draft) → HasAnswersIfFew (rs ++ r ∷ []) after result
+    → HasAnswers rs draft → WellFormed r → writes ≡ built r → fits draft.contents draft.places → PushResults 1 fits writes draft result → OnOk result (after ≡ pushed 1 writes draft) → HasAnswersIfFew (rs ++ r ∷ []) after result
 pushed_more rs r draft after fits writes (Ok done) has well is fit answers pushes =
     let octets = ap (λ (w : CompressedWrite). length (w draft.contents draft.places).0) is in
     subst (HasAnswers (rs ++ r ∷ [])) (sym (pushes ∙ ap (λ (w : CompressedWrite). pushed 1 w draft) is)) (one_more rs r draft has well (omega (arith, answers.2.1, has.size, octets)))
@@ -157,7 +157,7 @@ message_is rs draft has = λ k. has.header k ++ sym (ap (λ (o : List ℕ × Lis
 pub message_short : (rs : List RecordValue) (draft : Draft) → HasAnswers rs draft → length (answers_message rs) ≤ 65535
 message_short rs draft has = omega (arith, has.room, message_long rs, ap (λ (o : List ℕ × List ℕ). length o.0) has.octets)
 
--- whether records stand as answers, by the test of what was answered
+-- whether records are the answers, by the test of what was answered
 pub if_refused : {A E : Type 0} (rs : List RecordValue) (draft : Draft) (result : Result A E) → is_err result ≡ true → HasAnswersIfFew rs draft result → 65535 < length (answers_message rs)
 if_refused rs draft (Ok done) e has = absurd cc
 if_refused rs draft (Err error) e over = over

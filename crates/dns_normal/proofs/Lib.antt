@@ -3,7 +3,7 @@ pub mod AnswersLemmas
 pub mod NormalForms
 pub mod NormalOctets
 pub mod NormalTexts
-pub mod Outcomes
+pub mod NormalOutcomes
 pub mod PushedRecords
 pub mod RecordsOf
 pub mod SameRecords

@@ -23,7 +23,7 @@ use Rattle.dns_normal.proofs.SameRecords.{same_back, same_least, same_lowercased
 
 -- ---- records that are built
 
--- more records stand as answers, where they are few octets
+-- more records are the answers, if they are few octets
 built_after : (rs later : List RecordValue) (draft : Draft) → HasAnswers rs draft → AllByRecursion WellFormed later → length (answers_message (rs ++ later)) ≤ 65535 → (after : Draft) × HasAnswers (rs ++ later) after
 built_after rs [] draft has are short = (draft, subst (λ (l : List RecordValue). HasAnswers l draft) (sym (append-nil rs)) has)
 built_after rs (r ∷ later) draft has are short =

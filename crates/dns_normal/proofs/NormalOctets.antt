@@ -10,7 +10,7 @@ use Rattle.dns_wire.specs.Reading.{AreOctets}
 use Rattle.dns_num.specs.InMessage.{zeros}
 use Rattle.dns_record.specs.Fields.{Field, field_octets, fields_octets}
 use Rattle.dns_record.specs.Fields.FieldOf.{Compressible, Uncompressed, Raw, Sized, Byte, Number}
-use Rattle.dns_record.specs.InMessage.{record_numbers}
+use Rattle.dns_record.specs.InMessage.{fixed_header}
 use Rattle.dns_message.specs.Built.{built, field_part}
 use Rattle.dns_message.specs.Messages.{RecordValue}
 use Rattle.dns_message.specs.WellFormed.{WellFormed}
@@ -44,7 +44,7 @@ parts_octets (field ∷ fields) contents places are =
 built_octets : (r : RecordValue) (contents places : List ℕ) → WellFormed r → AreOctets (built r contents places).0
 built_octets r contents places is =
     let owner = compressed_name_writes r.owner contents places in
-    let numbers = record_numbers r.rtype r.class r.ttl in
+    let numbers = fixed_header r.rtype r.class r.ttl in
     let at = ((contents ++ owner.0) ++ numbers) ++ zeros w16 in
     let content = (laid (map field_part r.content) at owner.1).0 in
     let size = to_be_bytes w16 (length content) in

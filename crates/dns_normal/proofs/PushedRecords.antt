@@ -11,12 +11,12 @@ use Rattle.dns_wire.specs.Reading.{Gives}
 use Rattle.dns_num.specs.InMessage.{zeros}
 use Rattle.dns_record.specs.Fields.{FieldOf, fields_octets, named_by}
 use Rattle.dns_record.specs.Fields.FieldOf.{Compressible, Uncompressed, Raw, Sized, Byte, Number}
-use Rattle.dns_record.specs.InMessage.{fields_write, fields_fit, record_numbers}
+use Rattle.dns_record.specs.InMessage.{fields_write, fields_fit, fixed_header}
 use Rattle.dns_record.specs.Seen.{record_seen}
 use Rattle.dns_record.specs.declared.record.Record.{Record}
 use Rattle.dns_rdata.specs.Data.{data_fields}
 use Rattle.dns_rdata.specs.declared.record_data.RecordData.{RecordData}
-use Rattle.dns_message.specs.Building.{Draft, PushAnswers, pushed, record_fits_in, record_compressed}
+use Rattle.dns_message.specs.Building.{Draft, PushResults, pushed, record_fits_in, record_compressed}
 use Rattle.dns_message.specs.Built.{field_part, built}
 use Rattle.dns_message.specs.Canonical.{canonical_wire, lowercase_names, plain_record}
 use Rattle.dns_message.specs.Messages.{RecordValue}
@@ -66,7 +66,7 @@ module _ {N : Type 0} (name : N → List (List ℕ)) where
       → record_fits_in (λ _ _ _. ⊤) writes_name (λ v. fields_fit (λ _ _ _. ⊤) writes_name (data_fields v)) (λ v. fields_write writes_name (data_fields v)) x contents places
   record_fits_room x r is well contents places =
       let owner = writes_name x.rname contents places in
-      let at = ((contents ++ owner.0) ++ record_numbers x.rtype.code.value x.rclass.code.value x.ttl.value.value) ++ zeros w16 in
+      let at = ((contents ++ owner.0) ++ fixed_header x.rtype.code.value x.rclass.code.value x.ttl.value.value) ++ zeros w16 in
       (tt, (data_few x r is well at owner.1, all_fit writes_name (data_fields x.rdata) at owner.1))
 
   -- what a push of the record leaves
@@ -77,7 +77,7 @@ module _ {N : Type 0} (name : N → List (List ℕ)) where
   fits_record = record_fits_in (λ _ _ _. ⊤) writes_name (λ v. fields_fit (λ _ _ _. ⊤) writes_name (data_fields v)) (λ v. fields_write writes_name (data_fields v))
 
   pub push_leaves : {A : Type 0} (rs : List RecordValue) (r : RecordValue) (x : Record N (RecordData N)) (draft after : Draft) (result : Result A MessageBuildError) → HasAnswers rs draft → WellFormed r → seen x ≡ r
-      → PushAnswers 1 (fits_record x) (writes_record x) draft result → OnOk result (after ≡ pushed 1 (writes_record x) draft) → HasAnswersIfFew (rs ++ r ∷ []) after result
+      → PushResults 1 (fits_record x) (writes_record x) draft result → OnOk result (after ≡ pushed 1 (writes_record x) draft) → HasAnswersIfFew (rs ++ r ∷ []) after result
   push_leaves rs r x draft after result has well is answers leaves =
       pushed_more rs r draft after (fits_record x) (writes_record x) result has well (record_writes_built x r is) (record_fits_room x r is well draft.contents draft.places) answers leaves
 

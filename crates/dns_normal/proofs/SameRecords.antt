@@ -29,27 +29,27 @@ pub same_least : (rs : List RecordValue) → All WellFormed rs → Same rs (leas
 same_least rs are x = (
   λ h. record {
     found = x;
-    stands = (least_members rs are x).1 h;
+    occurs = (least_members rs are x).1 h;
     not_opt = ap is_not_opt (sym h.lowercased) ∙ h.not_opt;
     lowercased = once h.found x h.lowercased ∙ h.lowercased;
-    least = λ other stands alike.
-        let o = (least_members rs are other).0 stands in
+    least = λ other occurs alike.
+        let o = (least_members rs are other).0 occurs in
         omega (
           arith,
-          h.least o.found o.stands (alike_by other x o.found h.found (once o.found other o.lowercased) (once h.found x h.lowercased) alike),
+          h.least o.found o.occurs (alike_by other x o.found h.found (once o.found other o.lowercased) (once h.found x h.lowercased) alike),
           ap (λ (r : RecordValue). r.ttl) o.lowercased,
           ap (λ (r : RecordValue). r.ttl) h.lowercased,
         );
   },
   λ h.
-      let o = (least_members rs are h.found).0 h.stands in
+      let o = (least_members rs are h.found).0 h.occurs in
       let same : h.found ≡ x = sym o.lowercased ∙ sym (once o.found h.found o.lowercased) ∙ h.lowercased in
       subst (IsLeast rs) same o,
 )
 
 -- ---- lists that are one when lowercased
 
--- each record of the one is in the other, but for the case of letters
+-- each record of the one is in the other, except for the case of letters
 moved : (rs ss : List RecordValue) → map lowercase_names rs ≡ map lowercase_names ss → (r : RecordValue) → Among r rs → (s : RecordValue) × Among s ss × (lowercase_names s ≡ lowercase_names r)
 moved [] ss e r m = absurd m
 moved (x ∷ rs) [] e r m = absurd cc
@@ -61,14 +61,14 @@ moved (x ∷ rs) (y ∷ ss) e r (inr deep) =
 
 least_of_other : (rs ss : List RecordValue) → map lowercase_names rs ≡ map lowercase_names ss → (x : RecordValue) → IsLeast rs x → IsLeast ss x
 least_of_other rs ss e x h =
-    let f = moved rs ss e h.found (among rs h.found h.stands) in
+    let f = moved rs ss e h.found (among rs h.found h.occurs) in
     record {
       found = f.0;
-      stands = contains ss f.0 f.1;
+      occurs = contains ss f.0 f.1;
       not_opt = ap is_not_opt f.2 ∙ h.not_opt;
       lowercased = f.2 ∙ h.lowercased;
-      least = λ other stands alike.
-          let g = moved ss rs (sym e) other (among ss other stands) in
+      least = λ other occurs alike.
+          let g = moved ss rs (sym e) other (among ss other occurs) in
           omega (
             arith,
             h.least g.0 (contains rs g.0 g.1) (alike_by other f.0 g.0 h.found (sym g.2) f.2 alike),

@@ -1,5 +1,5 @@
 -- A message in which records are built as answers.
-use Rattle.std.specs.Prelude.{◌≡◌, ℕ, ◌+◌, ◌*◌, ◌<◌, ◌≤◌, List, [], length, map, Result, Ok, Err}
+use Rattle.std.specs.Prelude.{◌≡◌, ◌+◌, ◌*◌, ◌<◌, ◌≤◌, List, [], length, map, Result, Ok, Err}
 use Rattle.std.specs.List.{AllByRecursion}
 use Rattle.dns_wire.specs.Octets.{Octets}
 use Rattle.dns_wire.specs.Compression.{FitsIn}
@@ -11,8 +11,8 @@ use Rattle.dns_message.specs.Canonical.{canonical_wire, lowercase_names}
 use Rattle.dns_message.specs.Messages.{Item, RecordValue, message_reading, records_among}
 use Rattle.dns_message.specs.Messages.Reading.{Whole}
 use Rattle.dns_message.specs.WellFormed.{WellFormed}
+use Rattle.dns_message.specs.declared.message.TheConstants.{MAX_MESSAGE_SIZE}
 use Rattle.dns_normal.specs.Normal.{answers_header, answers_message}
-use Rattle.dns_normal.specs.declared.refusal.TheConstants.{MESSAGE_LIMIT}
 
 -- ---- records by their canonical octets
 
@@ -30,12 +30,12 @@ IsRecordOf octets = (r : RecordValue) × WellFormed r × (canonical_wire r ≡ o
 
 -- ---- records as answers
 
--- The records stand as answers in a buffer of 65,535 octets, and nothing else: their octets are those that are built one after
--- another, and the message is read whole as them, but for ASCII case where it does not count.
+-- The records are the answers in a buffer of 65,535 octets, and nothing else is in it: their octets are those that are built one after
+-- another, and the message is read whole as them, except for ASCII case where it does not count.
 pub record HasAnswers (rs : List RecordValue) (draft : Draft) : Type 0 where
   pub header : draft.header ≡ answers_header (length rs)
-  pub size : draft.size ≡ MESSAGE_LIMIT
-  pub room : HEADER_SIZE + length draft.contents ≤ MESSAGE_LIMIT
+  pub size : draft.size ≡ MAX_MESSAGE_SIZE
+  pub room : HEADER_SIZE + length draft.contents ≤ MAX_MESSAGE_SIZE
   pub few : 10 * length rs ≤ length draft.contents
   pub octets : list_writes built rs [] [] ≡ (draft.contents, draft.places)
   pub known : FitsIn draft.places draft.contents
@@ -43,7 +43,7 @@ pub record HasAnswers (rs : List RecordValue) (draft : Draft) : Type 0 where
   pub read : message_reading (drafted draft) ≡ Whole items (length draft.contents)
   pub alike : map lowercase_names (records_among items) ≡ map lowercase_names rs
 
--- where they were accepted they stand so, and where one was refused they are more octets than a message may have
+-- if they were accepted they are so, and if one was refused they are more octets than a message may have
 abbrev pub HasAnswersIfFew : {A E : Type 0} → List RecordValue → Draft → Result A E → Type 0
 HasAnswersIfFew rs draft (Ok done) = HasAnswers rs draft
-HasAnswersIfFew rs draft (Err error) = MESSAGE_LIMIT < length (answers_message rs)
+HasAnswersIfFew rs draft (Err error) = MAX_MESSAGE_SIZE < length (answers_message rs)

@@ -1,25 +1,26 @@
 -- The message in a text, and the outcome that a text calls for.
-use Rattle.std.specs.Prelude.{◌≡◌, ℕ, List, [], ◌∷◌, bytes_eq, codes, length, nat_lt, Option, Some, None, if◌then◌else◌, ⊤}
+use Rattle.std.specs.Prelude.{◌≡◌, ℕ, List, [], ◌∷◌, bytes_eq, codes, length, nat_lt, Option, Some, None, if◌then◌else◌, true, ⊤}
 use Rattle.dns_wire.specs.Octets.{Octets}
 use Rattle.dns_wire.specs.Hexadecimal.{Spells, line, spelled, trim}
 use Rattle.dns_text.specs.Notes.{note_line, notice_line}
 use Rattle.dns_text.specs.declared.notice.Notice.TheVariants as notice
+use Rattle.dns_text.specs.declared.transfer.TheConstants.{MESSAGE_TEXT_LIMIT}
 use Rattle.dns_text.specs.Endings.{Rules}
 use Rattle.dns_text.specs.Outcomes.{expected_outcome, text_rules}
 use Rattle.dns_text.specs.declared.outcome.Outcome.{Outcome}
 use Rattle.dns_text.specs.declared.outcome.Outcome.TheVariants as outcome
 use Rattle.dns_message.specs.Messages.{Reading, RecordValue, Valid, message_reading, records_among}
 use Rattle.dns_message.specs.Messages.Reading.{Short as TooShort, Stopped, Whole}
+use Rattle.dns_message.specs.declared.message.TheConstants.{MAX_MESSAGE_SIZE}
 use Rattle.dns_normal.specs.Normal.{normal_form}
 use Rattle.dns_normal.specs.declared.refusal.Refusal.{Refusal}
 use Rattle.dns_normal.specs.declared.refusal.Refusal.TheVariants.{BadHex, Short, Item, TooLarge}
-use Rattle.dns_normal.specs.declared.refusal.TheConstants.{LIMIT, MESSAGE_LIMIT}
 use Rattle.dns_normal.specs.declared.status.NormalStatus.{NormalStatus}
 use Rattle.dns_normal.specs.declared.status.NormalStatus.TheVariants as status
 
 -- ---- words
 
--- the command, where the words are `normal` alone
+-- the command, if the words are `normal` alone
 abbrev pub command_of : List Octets → Option ⊤
 command_of [] = None
 command_of (word ∷ []) = if bytes_eq word (codes "normal") then Some tt else None
@@ -29,7 +30,7 @@ command_of (word ∷ other ∷ more) = None
 
 -- why a message is refused that has more octets than a message may have
 abbrev pub size_refusal : Octets → Option Refusal
-size_refusal m = if nat_lt MESSAGE_LIMIT (length m) then Some TooLarge else None
+size_refusal m = if nat_lt MAX_MESSAGE_SIZE (length m) then Some TooLarge else None
 
 -- why a message is refused that is read so
 abbrev pub reading_refusal : Reading → Option Refusal
@@ -42,12 +43,12 @@ abbrev pub spelling_refusal : Option Octets → Option Refusal
 spelling_refusal None = Some BadHex
 spelling_refusal (Some m) = reading_refusal (message_reading m)
 
--- why a text is refused; none where the normal form of its message is printed for it
+-- why a text is refused; `None` if the normal form of its message is printed for it
 abbrev pub normal_refusal : ⊤ → Octets → Option Refusal
 normal_refusal command text = spelling_refusal (spelled (trim text))
 
 abbrev pub normal_limit : ⊤ → ℕ
-normal_limit command = LIMIT
+normal_limit command = MESSAGE_TEXT_LIMIT
 
 -- the outcome that a text calls for; `normal_statuses_in_words` says it in other words
 abbrev pub normal_outcome : Option ⊤ → Octets → Outcome Refusal
@@ -74,7 +75,7 @@ normal_note TooLarge = note_line (codes "too large") []
 
 -- the rules of the command
 abbrev pub normal_rules : Rules ⊤ (Outcome Refusal)
-normal_rules = text_rules normal_limit normal_refusal PrintsNormal
+normal_rules = text_rules (λ command. true) normal_limit normal_refusal PrintsNormal
 
 -- a status as an outcome
 abbrev pub outcome_of : NormalStatus → Outcome Refusal

@@ -1,15 +1,16 @@
 //! The command `normal`.
 
-ghost use Rattle.std.specs.Prelude.{◌≡◌};
+ghost use Rattle.std.specs.Prelude.{◌≡◌, true};
 ghost use Rattle.dns_text.specs.Endings.{Ran};
 ghost use Rattle.dns_text.specs.Outcomes.{note_of};
 ghost use Rattle.dns_normal.specs.Texts.{PrintsNormal, command_of, normal_limit, normal_note, normal_refusal, normal_rules, outcome_of};
 
 use crate::message::normal_line;
-use crate::refusal::{LIMIT, Refusal};
+use crate::refusal::Refusal;
 use crate::status::NormalStatus;
 use dns_text::{
-    Args, Command, HexError, Notice, PrintError, octets_of, put_line, put_notice, run_command,
+    Args, HexError, MESSAGE_TEXT_LIMIT, Notice, PrintError, TextCommand, octets_of, put_line,
+    put_notice, run_command,
 };
 use dns_wire::{Failed, Sink, Source};
 use std::alloc::Global;
@@ -27,8 +28,10 @@ impl Model for Normal {
     ghost view = { λ _. tt };
 }
 
-impl Command for Normal {
+impl TextCommand for Normal {
     type Refusal = Refusal;
+
+    ghost reads = { λ command. true };
 
     ghost limit = { normal_limit };
 
@@ -38,8 +41,12 @@ impl Command for Normal {
 
     ghost refusal_note = { normal_note };
 
+    fn reads_text(&self) -> bool {
+        true
+    }
+
     fn text_limit(&self) -> usize {
-        LIMIT
+        MESSAGE_TEXT_LIMIT
     }
 
     fn print(&self, alloc: Global, text: &[u8]) -> Result<Vec<u8>, PrintError<Refusal>> {

@@ -12,5 +12,4 @@ pub use laws::{
     equal_normal_forms, equal_statuses, normal_forms_are_read, normal_statuses_in_words,
     normalised_twice, words_of_normal,
 };
-pub use refusal::LIMIT;
 pub use status::NormalStatus;

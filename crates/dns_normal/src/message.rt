@@ -10,10 +10,10 @@ ghost use Rattle.dns_normal.specs.Answers.{AreRecordsOf, HasAnswers, HasAnswersI
 ghost use Rattle.dns_normal.specs.Normal.{answers_message, normal_form};
 ghost use Rattle.dns_normal.specs.Texts.{size_refusal, reading_refusal};
 
-use crate::refusal::{MESSAGE_LIMIT, Refusal};
+use crate::refusal::Refusal;
 use dns_message::{
-    CanonError, CanonicalRecord, HeaderFlags, MessageBuildError, MessageBuilder, collapsed,
-    put_canonical, read_records,
+    CanonError, CanonicalRecord, HeaderFlags, MAX_MESSAGE_SIZE, MessageBuildError, MessageBuilder,
+    collapsed, put_canonical, read_records,
 };
 use dns_name::Name;
 use dns_num::U16;
@@ -78,12 +78,12 @@ fn answers_line(
     ensures printed { (rs : List RecordValue) → AreRecordsOf (map (λ r. canonical_wire r.now) records.now) rs
         → IfOk result (λ text. text.items ≡ line (answers_message (map lowercase_names rs))) }
     ensures accepted { (rs : List RecordValue) → AreRecordsOf (map (λ r. canonical_wire r.now) records.now) rs
-        → IfOk result (λ _. length (answers_message (map lowercase_names rs)) ≤ MESSAGE_LIMIT) }
+        → IfOk result (λ _. length (answers_message (map lowercase_names rs)) ≤ MAX_MESSAGE_SIZE) }
     ensures refused { (rs : List RecordValue) → AreRecordsOf (map (λ r. canonical_wire r.now) records.now) rs
         → IfErr result (RefusesFor (size_refusal (answers_message (map lowercase_names rs)))) }
 {
     let mut octets = vec![in alloc; 0; CanonicalRecord::MAX_SIZE]?;
-    let mut buffer = vec![in alloc; 0; MESSAGE_LIMIT]?;
+    let mut buffer = vec![in alloc; 0; MAX_MESSAGE_SIZE]?;
     let mut compressor = NameCompressor::new();
     let (id, flags) = (U16::new(0), HeaderFlags::from_bits(0));
     let mut builder = MessageBuilder::new(&mut buffer, &mut compressor, id, flags);

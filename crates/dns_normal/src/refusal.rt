@@ -1,11 +1,5 @@
 //! Why a text has no normal form that is printed.
 
-/// The most octets of the text of a message.
-pub const LIMIT: usize = 131_072;
-
-/// The most octets of a message (RFC 1035 section 4.2.2).
-pub(crate) const MESSAGE_LIMIT: usize = 65_535;
-
 /// Why a text has no normal form that is printed.
 #[derive(Clone, Copy, Debug, PartialEq, Eq)]
 pub(crate) enum Refusal {

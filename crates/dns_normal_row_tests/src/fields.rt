@@ -3,7 +3,7 @@
 use dns_text::Args;
 use std::alloc::{AllocError, Global};
 
-/// The octet that a letter after a backslash stands for.
+/// The octet that a letter after a backslash represents.
 fn escaped(letter: u8) -> u8 {
     match letter {
         b'n' => b'\n',
@@ -14,7 +14,7 @@ fn escaped(letter: u8) -> u8 {
     }
 }
 
-/// The octets that a field stands for: `\n`, `\r`, `\t` and `\s` are LF, CR, a tab and a blank.
+/// The octets that a field represents: `\n`, `\r`, `\t` and `\s` are LF, CR, a tab and a space.
 pub(crate) fn octets_of(alloc: Global, field: &str) -> Result<Vec<u8>, AllocError> {
     let mut octets = Vec::new(alloc);
     let mut after_backslash = false;
@@ -31,7 +31,7 @@ pub(crate) fn octets_of(alloc: Global, field: &str) -> Result<Vec<u8>, AllocErro
     Ok(octets)
 }
 
-/// The words of a command line, between commas; a hyphen stands for none.
+/// The words of a command line, between commas; a hyphen means none.
 pub(crate) fn words_of(alloc: Global, field: &str) -> Result<Args, AllocError> {
     let mut words = Vec::new(alloc);
     if field != "-" {
@@ -43,7 +43,7 @@ pub(crate) fn words_of(alloc: Global, field: &str) -> Result<Args, AllocError> {
     Ok(Args::new(words))
 }
 
-/// The number that a field has in decimal digits; 0 where it has none.
+/// The number that a field has in decimal digits; 0 if it has none.
 pub(crate) fn number_of(field: &str) -> usize {
     field.parse::<usize>().unwrap_or(0)
 }

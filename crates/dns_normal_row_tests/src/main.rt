@@ -1,5 +1,5 @@
 //! Answers cases: each line of standard input is a case, and what `dns_normal::run_normal` does for it is printed. A case is a
-//! kind, a name and the fields of the kind, with a blank between two. A line that begins with a number sign is a
+//! kind, a name and the fields of the kind, with a space between two. A line that begins with a number sign is a
 //! comment.
 #![tactic(auto)]
 
@@ -50,7 +50,7 @@ fn show_answer(
     show(rt, name, &found)
 }
 
-/// Prints the answer to the words for a text, where a device fails at a call.
+/// Prints the answer to the words for a text, if a device fails at a call.
 fn show_failing(
     rt: &impl Print,
     alloc: Global,
@@ -72,7 +72,7 @@ fn longer(alloc: Global, text: &str, pair: &str, count: usize) -> Result<Vec<u8>
     Ok(octets)
 }
 
-/// Prints the start of the answer to the words for a text with that many pairs of digits, or of blanks, after it.
+/// Prints the start of the answer to the words for a text with that many pairs of digits, or of spaces, after it.
 fn show_longer(
     rt: &impl Print,
     alloc: Global,
@@ -105,6 +105,31 @@ fn show_twice(
     println!(rt; "again: {same}")
 }
 
+/// A text with that many records after it, as short as records are: the root, type 65,280, one of each class from 0 on, no data.
+fn with_shortest(alloc: Global, text: &str, count: u16) -> Result<Vec<u8>, AllocError> {
+    let mut octets = octets_of(alloc, text)?;
+    for index in 0..count {
+        let number = index.wrapping_add(0);
+        octets.extend_from_slice(b"00ff00")?;
+        octets.extend_from_slice(hex::encode(alloc, &number.to_be_bytes())?.as_bytes())?;
+        octets.extend_from_slice(b"000000000000")?;
+    }
+    Ok(octets)
+}
+
+/// Prints the start of the answer to the words for a text with that many of the shortest records after it.
+fn show_shortest(
+    rt: &impl Print,
+    alloc: Global,
+    name: &str,
+    words: &str,
+    (text, count): (&str, usize),
+) -> io::Result<()> {
+    let text = with_shortest(alloc, text, (count % 65_536) as u16)?;
+    let found = answer_to(alloc, words, &text, SOUND)?;
+    show_start(rt, name, &found)
+}
+
 /// Prints what a case asks for.
 fn show_case(rt: &impl Print, alloc: Global, case: &str) -> io::Result<()> {
     let mut fields = case.split(' ');
@@ -118,6 +143,7 @@ fn show_case(rt: &impl Print, alloc: Global, case: &str) -> io::Result<()> {
         "blanks" => show_longer(rt, alloc, name, words, (text, "  ", number)),
         "zeros" => show_longer(rt, alloc, name, words, (text, "00", number)),
         "twice" => show_twice(rt, alloc, name, words, text),
+        "shortest" => show_shortest(rt, alloc, name, words, (text, number)),
         _ => show_failing(rt, alloc, name, failing(kind, number), (words, text)),
     }
 }

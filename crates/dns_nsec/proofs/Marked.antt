@@ -1,4 +1,4 @@
--- A type is among those of a bitmap exactly where its bit is 1.
+-- A type is among those of a bitmap exactly if its bit is 1.
 use Rattle.std.proofs.Common.{◌≡◌, ℕ, zero, suc, ◌-◌, ◌/◌, ◌%◌, ◌^◌, ◌<◌, Bool, true, false, cond, List, [], ◌∷◌, length, get_or, refl, sym, ap, ◌∙◌, arith}
 use Rattle.std.specs.Prelude.{◌==◌, ◌↔◌, IsTrue, Contains}
 use Rattle.std.proofs.lemmas.Bool.Decides.{nat_tests}

@@ -5,7 +5,7 @@ use Rattle.std.proofs.lemmas.Bool.{ltb-false, ltb-true, lt-ltb}
 use Rattle.std.proofs.lemmas.List.{drop_all}
 use Rattle.dns_nsec.specs.Bitmaps.{octet_bits, bits_of, set_from}
 
--- ---- where a bit stands
+-- ---- where a bit is
 
 in_octet : (octet j : ℕ) (more : List ℕ) → j < 8 → get_or (octet_bits octet ++ more) j 0 ≡ octet / 2 ^ (7 - j) % 2
 in_octet octet zero more lt = refl

@@ -1,4 +1,4 @@
--- The types that a bitmap names (RFC 4034 section 4.1.2): bit j of octet i, counted from the top bit, of window w stands for
+-- The types that a bitmap names (RFC 4034 section 4.1.2): bit j of octet i, counted from the top bit, of window w represents
 -- type 256 * w + 8 * i + j.
 use Rattle.std.specs.Prelude.{◌≡◌, ℕ, suc, ◌+◌, ◌-◌, ◌*◌, ◌/◌, ◌%◌, List, [], ◌∷◌, ◌++◌, drop, slice_index, Contains, Option, Some, None, ◌==◌, if◌then◌else◌}
 use Rattle.std.specs.Int.{bit_at}
@@ -13,7 +13,7 @@ unfoldable pub bits_of : List ℕ → List ℕ
 bits_of [] = []
 bits_of (octet ∷ octets) = octet_bits octet ++ bits_of octets
 
--- the numbers of the bits that are 1, where the first has this number
+-- the numbers of the bits that are 1, if the first has this number
 unfoldable pub set_from : ℕ → List ℕ → List ℕ
 set_from number [] = []
 set_from number (bit ∷ bits) = if bit == 1 then number ∷ set_from (suc number) bits else set_from (suc number) bits
@@ -22,7 +22,7 @@ set_from number (bit ∷ bits) = if bit == 1 then number ∷ set_from (suc numbe
 abbrev pub window_types : Window → List ℕ
 window_types window = set_from (256 * window.number) (bits_of window.bits)
 
--- the types of a window from this place on, of its number and its octets of bits; the first bit stands at place 0
+-- the types of a window from this place on, of its number and its octets of bits; the first bit is at place 0
 abbrev pub types_from : ℕ → List ℕ → ℕ → List ℕ
 types_from number bits place = set_from (256 * number + place) (drop place (bits_of bits))
 

@@ -63,7 +63,7 @@ impl<'a> TypeBitmaps<'a> {
         has_no_type(self.slice)
     }
 
-    /// The first window, and the windows after it; none where there is no window.
+    /// The first window, and the windows after it; `None` if there is no window.
     pub(crate) fn split_first(&self) -> Option<(Window<'a>, TypeBitmaps<'a>)>
         ensures windows { MatchOption result (windows_in self.now.slice.now ≡ [])
             (λ x. windows_in self.now.slice.now ≡ window_seen x.0 ∷ windows_in x.1.slice.now) }

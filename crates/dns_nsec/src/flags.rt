@@ -30,7 +30,7 @@ impl Nsec3Flags {
         self.bits
     }
 
-    /// Whether bit 0, the last, is 1: names without security may stand between two owners (RFC 5155
+    /// Whether bit 0, the last, is 1: names without security may be between two owners (RFC 5155
     /// section 3.1.2.1).
     pub fn is_optout(&self) -> bool
         ensures { IsTrue result ↔ (bit_at (nsec3_flag_bits self.now) 0 ≡ 1) }

@@ -23,8 +23,8 @@ pub use nsec::Nsec;
 pub use nsec3::Nsec3;
 pub use nsec3param::Nsec3Param;
 pub use order_laws::{
-    bitmaps_are_equal_by_octets, codes_are_compared_by_number, data_are_equal_by_fields,
-    data_are_hashed_by_fields, default_flags,
+    bitmaps_are_equal_by_octets, bitmaps_are_hashed_by_octets, codes_are_compared_by_number,
+    codes_are_hashed_by_number, data_are_equal_by_fields, data_are_hashed_by_fields, default_flags,
 };
 pub use type_iter::TypeIter;
 pub use type_laws::{

@@ -69,7 +69,7 @@ impl<'a> Nsec3Param<'a> {
         self.parameters.flags
     }
 
-    /// Whether names without security may stand between two owners (RFC 5155 section 3.1.2.1).
+    /// Whether names without security may be between two owners (RFC 5155 section 3.1.2.1).
     pub fn opt_out_flag(&self) -> bool
         ensures { IsTrue result ↔ (bit_at (param_flags_of self.now) 0 ≡ 1) }
     {

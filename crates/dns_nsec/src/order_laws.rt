@@ -1,4 +1,4 @@
-//! Data are compared and fed to a hasher field by field, in the order in which the fields stand on the wire.
+//! Data are compared and fed to a hasher field by field, in the order in which the fields come on the wire.
 
 ghost use Rattle.std.specs.Prelude.{◌≡◌, nat_eq};
 ghost use Rattle.std.specs.Ordering.{eq_by_cmp, nat_cmp, on};
@@ -18,7 +18,7 @@ use crate::nsec3::Nsec3;
 use crate::nsec3param::Nsec3Param;
 use std::hash::Hash;
 
-/// Data are equal where all their fields are, names without regard to ASCII case (RFC 1035 section 2.3.3), salts,
+/// Data are equal if all their fields are, names without regard to ASCII case (RFC 1035 section 2.3.3), salts,
 /// hashes and bitmaps octet by octet.
 pub fn data_are_equal_by_fields()
     ensures nsec { (a b : _) → ⟦<Nsec<'static> as PartialEq>⟧.eq a b ≡ fields_eq (eq_by_cmp (on key key_cmp)) (eq_by_cmp (on key key_cmp)) (pointwise nat_eq) (nsec_fields a) (nsec_fields b) }
@@ -38,11 +38,22 @@ pub fn data_are_hashed_by_fields()
     ensures nsec3param { (v : _) → ⟦<Nsec3Param<'static> as Hash>⟧.hash_input v ≡ fields_writes name_writes name_writes (slice u8) (nsec3param_fields v) }
 {}
 
+/// Type bit maps feed a hasher their octets after the number of these.
+pub fn bitmaps_are_hashed_by_octets()
+    ensures { (v : _) → ⟦<TypeBitmaps<'static> as Hash>⟧.hash_input v ≡ slice u8 v.slice.now }
+{}
+
 /// Hash algorithms are equal, and come in order, by their numbers; flags are equal where their bits are.
 pub fn codes_are_compared_by_number()
     ensures equal { (a b : _) → ⟦<Nsec3HashAlgorithm as PartialEq>⟧.eq a b ≡ nat_eq a.code b.code }
     ensures order { (a b : _) → ⟦<Nsec3HashAlgorithm as Ord>⟧.cmp a b ≡ nat_cmp a.code b.code }
     ensures flags { (a b : _) → ⟦<Nsec3Flags as PartialEq>⟧.eq a b ≡ nat_eq (nsec3_flag_bits a) (nsec3_flag_bits b) }
+{}
+
+/// Hash algorithms and flags feed a hasher their numbers.
+pub fn codes_are_hashed_by_number()
+    ensures algorithm { (v : _) → ⟦<Nsec3HashAlgorithm as Hash>⟧.hash_input v ≡ u8 v.code }
+    ensures flags { (v : _) → ⟦<Nsec3Flags as Hash>⟧.hash_input v ≡ u8 (nsec3_flag_bits v) }
 {}
 
 /// The flags by default have no bit (RFC 5155 section 3.1.2).

@@ -1,7 +1,7 @@
 //! Octets that one octet can count.
 
 ghost use Rattle.dns_wire.specs.ReadingLemmas.{plain_ends};
-ghost use Rattle.dns_record.specs.DataLemmas.{text_leaves};
+ghost use Rattle.dns_record.specs.DataLemmas.{character_string_leaves};
 ghost use Rattle.std.specs.Prelude.{◌≡◌, ◌≤◌, ◌∷◌, ℕ, List, [], length, ⊤};
 ghost use Rattle.dns_wire.specs.Reading.{plain_at};
 ghost use Rattle.dns_record.specs.CharacterStrings.{character_string};
@@ -9,7 +9,7 @@ ghost use Rattle.dns_record.specs.CharacterStrings.{character_string};
 use dns_num::SizePrefixed;
 use dns_wire::{BuildBytes, ParseBytes, ParseError, SplitBytes, TruncationError, put, whole};
 
-/// At most 255 octets. On the wire they stand after an octet with their number (RFC 5155 section 3.2).
+/// At most 255 octets. On the wire they come after an octet with their number (RFC 5155 section 3.2).
 #[derive(Clone, Copy, Debug, PartialEq, Eq, Hash)]
 pub(crate) struct ShortOctets<'a> {
     /// The octets, without their number.
@@ -35,7 +35,7 @@ impl<'a> ShortOctets<'a> {
         SizePrefixed::new(self.octets)
     }
 
-    /// What is compared first and last: on the wire their number stands before them.
+    /// What is compared first and last: on the wire their number comes before them.
     pub fn order_key(&self) -> (usize, &'a [u8])
         ensures { result ≡ record { 0 = length self.now.octets.now; 1 = self.now.octets } }
     {
@@ -52,9 +52,9 @@ impl<'a> ParseBytes<'a> for ShortOctets<'a> {
 
     ghost reads_at = { plain_at character_string };
 
-    ghost leaves_rest = { text_leaves };
+    ghost leaves_rest = { character_string_leaves };
 
-    ghost ends_within = { plain_ends character_string text_leaves };
+    ghost ends_within = { plain_ends character_string character_string_leaves };
 
     fn parse_bytes(bytes: &'a [u8]) -> Result<ShortOctets<'a>, ParseError> {
         whole(ShortOctets::split_bytes(bytes))

@@ -49,7 +49,7 @@ impl<'a> Iterator for TypeIter<'a> {
 
     ghost remaining = { item_count (λ types. types) };
 
-    /// The next type. It is none where none is left, and then always.
+    /// The next type. It is `None` if none is left, and then always.
     fn next(&mut self) -> Option<RType> {
         let mut window = self.window;
         let mut from = self.place;

@@ -60,7 +60,7 @@ impl<'a> Window<'a> {
         }
     }
 
-    /// The type that the bit at this place stands for.
+    /// The type that the bit at this place represents.
     pub fn rtype(&self, place: usize) -> RType
         requires { place < 256 }
         ensures { result.code.value ≡ 256 * self.now.number + place }

@@ -1,4 +1,4 @@
--- Prefixed data are read exactly where they stand as they are written.
+-- Prefixed data are read exactly if they are there in the form in which they are written.
 use Rattle.std.proofs.Common.{◌≡◌, ℕ, ◌%◌, ◌<◌, ◌≤◌, ◌^◌, ◌⊎◌, inl, inr, ltb, false, List, [], ◌∷◌, ◌++◌, length, take, drop, get_or, Option, Some, None, refl, sym, ap, subst, ◌∙◌, append_assoc, arith, rules}
 use Rattle.std.specs.Int.{Width, w8, w16, byte_len, from_be_bytes, to_be_bytes}
 use Rattle.std.proofs.lemmas.Bool.{le-ltb, ltb-false, cases_lt}
@@ -33,7 +33,7 @@ read_back w narrow grammar content rest value fits is =
     let long : ltb (length (content ++ rest)) (length content) ≡ false = le-ltb _ _ (omega (arith, length-append content rest)) in
     rw (append_assoc (to_be_bytes w (length content)) content rest, number_back w narrow (length content) (content ++ rest) fits, long, take_at content rest (length content) refl, drop_at content rest (length content) refl, is) refl
 
--- ---- what is read stands so
+-- ---- what is read has this form
 
 -- the two steps of a reading
 then_some : {A B : Type 0} (read : Option A) (next : A → Option B) (b : B) → (read >>= next) ≡ Some b → (a : A) × (read ≡ Some a) × (next a ≡ Some b)
@@ -72,9 +72,9 @@ pub small : (w : Width) → Narrow w → (bytes : List ℕ) → ((i : ℕ) → g
 small w (inl e) bytes = subst (λ (v : Width). ((i : ℕ) → get_or bytes i 0 < 256) → from_be_bytes v bytes < 256 ^ byte_len v) (sym e) (one_small bytes)
 small w (inr e) bytes = subst (λ (v : Width). ((i : ℕ) → get_or bytes i 0 < 256) → from_be_bytes v bytes < 256 ^ byte_len v) (sym e) (two_small bytes)
 
--- a number that is read stands before, and is no more than that many octets can say
-number_stands : (w : Width) → Narrow w → (bytes : List ℕ) (n : ℕ) (rest : List ℕ) → AreOctets bytes → number w bytes ≡ Some (n, rest) → (n < 256 ^ byte_len w) × (bytes ≡ to_be_bytes w n ++ rest)
-number_stands w narrow bytes n rest are e =
+-- a number that is read comes before, and is no more than that many octets can say
+number_occurs : (w : Width) → Narrow w → (bytes : List ℕ) (n : ℕ) (rest : List ℕ) → AreOctets bytes → number w bytes ≡ Some (n, rest) → (n < 256 ^ byte_len w) × (bytes ≡ to_be_bytes w n ++ rest)
+number_occurs w narrow bytes n rest are e =
     elim (chosen (ltb (length bytes) (byte_len w)) _ _ _ e) [
       | inl short ↦ absurd (let h = short.1 in cc)
       | inr long ↦
@@ -95,14 +95,14 @@ octets_stand n bytes content rest e =
           (ap length (sym same.0) ∙ omega (arith, length-take n bytes), rw (← same.0, ← same.1) (sym (take-append-drop n bytes)))
     ]
 
-pub stands_so : {Y : Type 0} (w : Width) → Narrow w → (grammar : List ℕ → Option (Y × List ℕ)) (bytes rest : List ℕ) (value : Y) → AreOctets bytes → prefixed w grammar bytes ≡ Some (value, rest) → (content : List ℕ) × (length content < 256 ^ byte_len w) × (bytes ≡ sized w content ++ rest) × (all_of (grammar content) ≡ Some value)
+pub occurs_so : {Y : Type 0} (w : Width) → Narrow w → (grammar : List ℕ → Option (Y × List ℕ)) (bytes rest : List ℕ) (value : Y) → AreOctets bytes → prefixed w grammar bytes ≡ Some (value, rest) → (content : List ℕ) × (length content < 256 ^ byte_len w) × (bytes ≡ sized w content ++ rest) × (all_of (grammar content) ≡ Some value)
 unfolding prefixed
-stands_so w narrow grammar bytes rest value are is =
+occurs_so w narrow grammar bytes rest value are is =
     let size = then_some (number w bytes) _ _ is in
     let content = then_some (octets size.0.0 size.0.1) _ _ size.2 in
     let read = then_some (all_of (grammar content.0.0)) _ _ content.2 in
     let same = some_pair_parts read.0 value content.0.1 rest read.2 in
-    let prefix = number_stands w narrow bytes size.0.0 size.0.1 are size.1 in
+    let prefix = number_occurs w narrow bytes size.0.0 size.0.1 are size.1 in
     let trailing = octets_stand size.0.0 size.0.1 content.0.0 content.0.1 content.1 in
     let joined : size.0.1 ≡ content.0.0 ++ rest = trailing.1 ∙ ap (λ (l : List ℕ). content.0.0 ++ l) same.1 in
     let parts : bytes ≡ sized w content.0.0 ++ rest =

@@ -1,4 +1,4 @@
--- Prefixed data in a message are read exactly where they stand.
+-- Prefixed data in a message are read exactly if they are there.
 use Rattle.std.proofs.Common.{◌≡◌, ℕ, ◌+◌, ◌-◌, ◌<◌, ◌≤◌, ◌^◌, Bool, true, false, cond, ltb, List, length, take, drop, Option, Some, None, refl, sym, ap, subst, ◌∙◌, arith, length-drop}
 use Rattle.std.specs.Prelude.{◌++◌}
 use Rattle.std.specs.Int.{Width, byte_len, from_be_bytes, to_be_bytes}
@@ -16,8 +16,8 @@ record NumberStands (w : Width) (contents : List ℕ) (at n end : ℕ) : Type 0 
   within : end ≤ length contents
   is : n ≡ from_be_bytes w (take (byte_len w) (drop at contents))
 
-number_stands : (w : Width) (contents : List ℕ) (at n end : ℕ) → plain_at (number w) contents at ≡ Some (n, end) → NumberStands w contents at n end
-number_stands w contents at n end e = by (ltb (length contents) at) (ltb (length (drop at contents)) (byte_len w)) refl refl e where
+number_occurs : (w : Width) (contents : List ℕ) (at n end : ℕ) → plain_at (number w) contents at ≡ Some (n, end) → NumberStands w contents at n end
+number_occurs w contents at n end e = by (ltb (length contents) at) (ltb (length (drop at contents)) (byte_len w)) refl refl e where
   by : (past short : Bool) → ltb (length contents) at ≡ past → ltb (length (drop at contents)) (byte_len w) ≡ short
       → cond past None (with_end contents (cond {A = Option (ℕ × List ℕ)} short None (Some (from_be_bytes w (take (byte_len w) (drop at contents)), drop (byte_len w) (drop at contents))))) ≡ Some (n, end) → NumberStands w contents at n end
   by true short is-past is-short h = absurd cc
@@ -43,7 +43,7 @@ prefixed_is w narrow grammar contents at value end are e =
     let size = then_some (plain_at (number w) contents at) _ _ e in
     let read = then_some (all_up_to grammar contents size.0.1 (size.0.1 + size.0.0)) _ _ size.2 in
     let same = some_pair_parts read.0 value (size.0.1 + size.0.0) end read.2 in
-    let n = number_stands w contents at size.0.0 size.0.1 size.1 in
+    let n = number_occurs w contents at size.0.0 size.0.1 size.1 in
     let up = up_to (ltb (length contents) (size.0.1 + size.0.0)) contents (size.0.1 + size.0.0) _ read.0 refl read.1 in
     let prefix = octets_prefix (drop at contents) (byte_len w) (octets_after contents at are) in
     let long : length (take (byte_len w) (drop at contents)) ≡ byte_len w = omega (arith, length-take (byte_len w) (drop at contents), length-drop at contents, n.end_is, n.within) in

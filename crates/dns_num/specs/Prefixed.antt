@@ -19,7 +19,7 @@ prefixed w grammar bytes = do
 
 -- ---- at a place in the contents of a message
 
--- what the grammar reads from a place up to an end, after which it sees nothing; none where that lies after the contents
+-- what the grammar reads from a place up to an end, after which it sees nothing; `None` if that lies after the contents
 abbrev pub all_up_to : {Y : Type 0} → (Octets → ℕ → Option (Y × ℕ)) → Octets → ℕ → ℕ → Option Y
 all_up_to grammar contents start end =
     if nat_lt (length contents) end then None else all_at (take end contents) (grammar (take end contents) start)
@@ -33,7 +33,7 @@ prefixed_at w grammar contents at = do
 
 -- ---- in words
 
--- At a place stand that many octets as the number says that stands before them, up to the end, and the value is what the
+-- At a place there are as many octets as the number before them says, up to the end, and the value is what the
 -- grammar reads from just these, seeing nothing after them.
 pub record PrefixedAt {Y : Type 0} (w : Width) (grammar : Octets → ℕ → Option (Y × ℕ)) (contents : Octets) (at : ℕ) (value : Y) (end : ℕ) : Type 0 where
   pub count : ℕ

@@ -25,7 +25,7 @@ pub struct U16 {
 }
 
 impl U16 {
-    /// The number as it stands on the wire.
+    /// The number as it is on the wire.
     pub const fn new(value: u16) -> Self
         ensures { result.value ≡ value }
     {

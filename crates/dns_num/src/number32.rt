@@ -23,7 +23,7 @@ pub struct U32 {
 }
 
 impl U32 {
-    /// The number as it stands on the wire.
+    /// The number as it is on the wire.
     pub const fn new(value: u32) -> Self
         ensures { result.value ≡ value }
     {

@@ -23,7 +23,7 @@ pub struct U64 {
 }
 
 impl U64 {
-    /// The number as it stands on the wire.
+    /// The number as it is on the wire.
     pub const fn new(value: u64) -> Self
         ensures { result.value ≡ value }
     {

@@ -10,7 +10,7 @@ use crate::number64::U64;
 use crate::size_prefixed::SizePrefixed;
 use std::hash::Hash;
 
-/// Numbers are equal where their values are.
+/// Numbers are equal if their values are.
 pub fn numbers_are_equal_by_value()
     ensures two_octets { (a b : _) → ⟦<U16 as PartialEq>⟧.eq a b ≡ nat_eq a.value b.value }
     ensures four_octets { (a b : _) → ⟦<U32 as PartialEq>⟧.eq a b ≡ nat_eq a.value b.value }

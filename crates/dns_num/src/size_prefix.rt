@@ -3,7 +3,7 @@
 ghost use Rattle.std.specs.Prelude.{◌≡◌, ◌<◌, ◌≤◌, ◌^◌, ◌++◌, ◌⊎◌, ◌↔◌, length, drop, Some, IfOk, IsTrue};
 ghost use Rattle.std.proofs.Common.{inl, inr, refl};
 ghost use Rattle.std.specs.Int.{Width, w8, w16, byte_len, to_be_bytes};
-ghost use Rattle.dns_wire.specs.Reading.{Gives, number};
+ghost use Rattle.dns_wire.specs.Reading.{Gives, number, plain_at};
 
 use crate::number16::U16;
 use dns_wire::ParseError;
@@ -75,7 +75,7 @@ pub(crate) fn can_say<S: SizePrefix>(size: usize) -> bool
     size >> (8 * S::width()) == 0
 }
 
-/// Reads the prefix, and gives the octets after it. `ParseError` comes exactly where there are too few.
+/// Reads the prefix, and gives the octets after it. `ParseError` comes exactly if there are too few.
 pub(crate) fn split_size<S: SizePrefix>(bytes: &[u8]) -> Result<(usize, &[u8]), ParseError>
     ensures exact { Gives (λ x. (x.0, x.1.now)) result (number S.number_width bytes.now) }
     ensures within { IfOk result (λ x. length x.1.now ≤ length bytes.now) }
@@ -85,4 +85,21 @@ pub(crate) fn split_size<S: SizePrefix>(bytes: &[u8]) -> Result<(usize, &[u8]), 
         return Err(ParseError);
     }
     Ok((S::read_size(bytes), &bytes[width..]))
+}
+
+/// Reads the prefix at a place in a message, and gives the place after it. `ParseError` comes exactly where
+/// too few octets stand there.
+pub(crate) fn split_size_at<S: SizePrefix>(
+    contents: &[u8],
+    start: usize,
+) -> Result<(usize, usize), ParseError>
+    ensures exact { Gives (λ x. x) result (plain_at (number S.number_width) contents.now start) }
+    ensures within { IfOk result (λ x. (start ≤ x.1) × (x.1 ≤ length contents.now)) }
+{
+    if contents.len() < start {
+        return Err(ParseError);
+    }
+    let (_, after) = contents.split_at(start);
+    let (size, rest) = split_size::<S>(after)?;
+    Ok((size, contents.len() - rest.len()))
 }

@@ -5,7 +5,7 @@ ghost use Rattle.std.specs.Int.{byte_len};
 ghost use Rattle.dns_num.specs.PrefixedLemmas.{prefixed_leaves, prefixed_ends};
 ghost use Rattle.dns_num.specs.Prefixed.{sized, prefixed, prefixed_at};
 
-use crate::size_prefix::{SizePrefix, can_say, split_size};
+use crate::size_prefix::{SizePrefix, can_say, split_size, split_size_at};
 use dns_wire::{
     BuildBytes, ParseBytes, ParseError, ParseMessageBytes, SplitBytes, SplitMessageBytes,
     TruncationError, whole_message,
@@ -106,14 +106,10 @@ impl<'a, S: SizePrefix, T: ParseMessageBytes<'a>> SplitMessageBytes<'a> for Size
         contents: &'a [u8],
         start: usize,
     ) -> Result<(SizePrefixed<S, T>, usize), ParseError> {
-        if contents.len() < start {
+        let (size, body) = split_size_at::<S>(contents, start)?;
+        if contents.len() - body < size {
             return Err(ParseError);
         }
-        let (size, rest) = split_size::<S>(&contents[start..])?;
-        if rest.len() < size {
-            return Err(ParseError);
-        }
-        let body = contents.len() - rest.len();
         let end = body + size;
         let inner = T::parse_message_bytes(&contents[..end], body)?;
         Ok((SizePrefixed::new(inner), end))

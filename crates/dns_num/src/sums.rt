@@ -14,7 +14,7 @@ impl Add for U16 {
 
     ghost add_gives = { λ a b number. number.value ≡ a.value + b.value };
 
-    /// The sum, where it fits.
+    /// The sum, if it fits.
     fn add(self, other: U16) -> U16 {
         U16::new(self.value + other.value)
     }
@@ -27,7 +27,7 @@ impl Add<u16> for U16 {
 
     ghost add_gives = { λ a b number. number.value ≡ a.value + b };
 
-    /// The sum, where it fits.
+    /// The sum, if it fits.
     fn add(self, other: u16) -> U16 {
         U16::new(self.value + other)
     }
@@ -60,7 +60,7 @@ impl Sub for U16 {
 
     ghost sub_gives = { λ a b number. number.value ≡ a.value - b.value };
 
-    /// The difference, where it is not negative.
+    /// The difference, if it is not negative.
     fn sub(self, other: U16) -> U16 {
         U16::new(self.value - other.value)
     }
@@ -73,7 +73,7 @@ impl Sub<u16> for U16 {
 
     ghost sub_gives = { λ a b number. number.value ≡ a.value - b };
 
-    /// The difference, where it is not negative.
+    /// The difference, if it is not negative.
     fn sub(self, other: u16) -> U16 {
         U16::new(self.value - other)
     }
@@ -106,7 +106,7 @@ impl Add for U32 {
 
     ghost add_gives = { λ a b number. number.value ≡ a.value + b.value };
 
-    /// The sum, where it fits.
+    /// The sum, if it fits.
     fn add(self, other: U32) -> U32 {
         U32::new(self.value + other.value)
     }
@@ -119,7 +119,7 @@ impl Add<u32> for U32 {
 
     ghost add_gives = { λ a b number. number.value ≡ a.value + b };
 
-    /// The sum, where it fits.
+    /// The sum, if it fits.
     fn add(self, other: u32) -> U32 {
         U32::new(self.value + other)
     }
@@ -152,7 +152,7 @@ impl Sub for U32 {
 
     ghost sub_gives = { λ a b number. number.value ≡ a.value - b.value };
 
-    /// The difference, where it is not negative.
+    /// The difference, if it is not negative.
     fn sub(self, other: U32) -> U32 {
         U32::new(self.value - other.value)
     }
@@ -165,7 +165,7 @@ impl Sub<u32> for U32 {
 
     ghost sub_gives = { λ a b number. number.value ≡ a.value - b };
 
-    /// The difference, where it is not negative.
+    /// The difference, if it is not negative.
     fn sub(self, other: u32) -> U32 {
         U32::new(self.value - other)
     }
@@ -198,7 +198,7 @@ impl Add for U64 {
 
     ghost add_gives = { λ a b number. number.value ≡ a.value + b.value };
 
-    /// The sum, where it fits.
+    /// The sum, if it fits.
     fn add(self, other: U64) -> U64 {
         U64::new(self.value + other.value)
     }
@@ -211,7 +211,7 @@ impl Add<u64> for U64 {
 
     ghost add_gives = { λ a b number. number.value ≡ a.value + b };
 
-    /// The sum, where it fits.
+    /// The sum, if it fits.
     fn add(self, other: u64) -> U64 {
         U64::new(self.value + other)
     }
@@ -244,7 +244,7 @@ impl Sub for U64 {
 
     ghost sub_gives = { λ a b number. number.value ≡ a.value - b.value };
 
-    /// The difference, where it is not negative.
+    /// The difference, if it is not negative.
     fn sub(self, other: U64) -> U64 {
         U64::new(self.value - other.value)
     }
@@ -257,7 +257,7 @@ impl Sub<u64> for U64 {
 
     ghost sub_gives = { λ a b number. number.value ≡ a.value - b };
 
-    /// The difference, where it is not negative.
+    /// The difference, if it is not negative.
     fn sub(self, other: u64) -> U64 {
         U64::new(self.value - other)
     }

@@ -16,7 +16,7 @@ use Rattle.std.proofs.NetLemmas.Texts.{AllSegments, IsColonHex-hex_groups_text}
 use Rattle.dns_wire.specs.Reading.{AreOctets}
 use Rattle.dns_plain.specs.AddressTexts.{IsHexText}
 
--- a dot (46) stands in the text
+-- a dot (46) is in the text
 abbrev pub has_dot : List ℕ → Bool
 has_dot text = list_any (λ b. b == 46) text
 
@@ -24,7 +24,7 @@ either_false : (a b : Bool) → (a || b) ≡ false → (a ≡ false) × (b ≡ f
 either_false false b e = (refl, e)
 either_false true b e = absurd (true≢false e)
 
--- a text has no dot exactly where neither part has one
+-- a text has no dot exactly if neither part has one
 parted : (prefix back : List ℕ) → has_dot (prefix ++ back) ≡ false → (has_dot prefix ≡ false) × (has_dot back ≡ false)
 parted prefix back e = either_false (has_dot prefix) (has_dot back) (sym (list_any-append (λ b. b == 46) prefix back) ∙ e)
 
@@ -110,7 +110,7 @@ pub grouped : (groups : List ℕ) → segments_of (octets_of groups) ≡ groups
 grouped [] = refl
 grouped (g ∷ groups) = ap₂ ◌∷◌ (omega arith) (grouped groups)
 
--- and where octets come in pairs, groups of two are of one list of octets
+-- and if octets come in pairs, groups of two are of one list of octets
 pub ungrouped : (pairs : ℕ) (octets : List ℕ) → length octets ≡ pairs * 2 → AreOctets octets → octets_of (segments_of octets) ≡ octets
 ungrouped pairs [] e all = refl
 ungrouped pairs (a ∷ []) e all = absurd (omega (arith, e))

@@ -11,7 +11,7 @@ use Rattle.dns_record.specs.CharStrHashing.{charstr_writes}
 use Rattle.dns_record.specs.CharStrs.{charstr_wire, same_charstr}
 use Rattle.dns_record.specs.FieldOrder.{field_eq, fields_eq, fields_writes}
 use Rattle.dns_record.specs.Fields.FieldOf.{Sized}
-use Rattle.dns_record.specs.CharacterStrings.{character_string, after_text, character_strings_within, is_character_strings, is_text_data, character_strings_octets}
+use Rattle.dns_record.specs.CharacterStrings.{character_string, after_string, character_strings_within, is_character_strings, is_txt_data, character_strings_octets}
 use Rattle.dns_record.proofs.Places.{text_spelled, text_read}
 use Rattle.dns_record.proofs.CharacterStringLemmas.{character_strings_are}
 use Rattle.dns_plain.specs.Strings.{then_strings, strings_within, strings_in, same_strings, strings_writes, lowered_from_same}
@@ -32,13 +32,13 @@ unfolding strings_in
 strings_read strings = strings_again (length (character_strings_octets strings)) strings (omega arith)
 
 -- TXT data are the octets of their strings
-pub character_strings_whole : (bytes : List ℕ) → is_text_data bytes ≡ true → character_strings_octets (strings_in bytes) ≡ bytes
+pub character_strings_whole : (bytes : List ℕ) → is_txt_data bytes ≡ true → character_strings_octets (strings_in bytes) ≡ bytes
 character_strings_whole bytes e =
     let t = character_strings_are bytes e in
     ap character_strings_octets (ap strings_in t.is ∙ strings_read (t.first ∷ t.others)) ∙ sym t.is
 
 -- of which there is one
-pub character_strings_some : (bytes : List ℕ) → is_text_data bytes ≡ true → (strings_in bytes ≡ []) → ⊥
+pub character_strings_some : (bytes : List ℕ) → is_txt_data bytes ≡ true → (strings_in bytes ≡ []) → ⊥
 character_strings_some bytes e none =
     let t = character_strings_are bytes e in
     let h : t.first ∷ t.others ≡ [] = sym (ap strings_in t.is ∙ strings_read (t.first ∷ t.others)) ∙ none in
@@ -49,7 +49,7 @@ many_octets : (strings : List (List ℕ)) → length strings ≤ length (charact
 many_octets [] = omega arith
 many_octets (found ∷ others) = omega (arith, many_octets others, length-append found (character_strings_octets others))
 
-pub character_strings_few : (bytes : List ℕ) → is_text_data bytes ≡ true → length (strings_in bytes) ≤ 65535
+pub character_strings_few : (bytes : List ℕ) → is_txt_data bytes ≡ true → length (strings_in bytes) ≤ 65535
 character_strings_few bytes e = omega (arith, many_octets (strings_in bytes), ap length (character_strings_whole bytes e), (character_strings_are bytes e).short)
 
 -- ---- the first of them
@@ -92,49 +92,49 @@ no_string (size ∷ more) e = ap (then_strings (λ (l : List ℕ). strings_withi
 pub record CharacterStringsLeft (bytes rest : List ℕ) : Type 0 where
   pub steps : ℕ
   pub enough : length rest < steps
-  pub same : character_strings_within steps rest ≡ is_text_data bytes
+  pub same : character_strings_within steps rest ≡ is_txt_data bytes
 
 pub character_strings_start : (bytes : List ℕ) → 0 < length bytes → length bytes ≤ 65535 → CharacterStringsLeft bytes bytes
-unfolding is_text_data is_character_strings
+unfolding is_txt_data is_character_strings
 character_strings_start [] some few = absurd (omega arith)
 character_strings_start (x ∷ bytes) some few =
     let short : ltb 65535 (length (x ∷ bytes)) ≡ false = le-ltb _ _ few in
     record { steps = suc (length (x ∷ bytes)); enough = omega arith; same = rw short refl }
 
-pub character_strings_done : (bytes rest : List ℕ) → CharacterStringsLeft bytes rest → length rest ≡ 0 → is_text_data bytes ≡ true
+pub character_strings_done : (bytes rest : List ℕ) → CharacterStringsLeft bytes rest → length rest ≡ 0 → is_txt_data bytes ≡ true
 unfolding character_strings_within
 character_strings_done bytes [] left e = by left.steps left.enough left.same where
-  by : (steps : ℕ) → 0 < steps → character_strings_within steps [] ≡ is_text_data bytes → is_text_data bytes ≡ true
+  by : (steps : ℕ) → 0 < steps → character_strings_within steps [] ≡ is_txt_data bytes → is_txt_data bytes ≡ true
   by zero some same = absurd (omega arith)
   by (suc steps) some same = sym same
 character_strings_done bytes (x ∷ rest) left e = absurd (omega arith)
 
-pub character_strings_bad : (bytes rest : List ℕ) → CharacterStringsLeft bytes rest → 0 < length rest → character_string rest ≡ None → is_text_data bytes ≡ false
+pub character_strings_bad : (bytes rest : List ℕ) → CharacterStringsLeft bytes rest → 0 < length rest → character_string rest ≡ None → is_txt_data bytes ≡ false
 unfolding character_strings_within
 character_strings_bad bytes [] left some e = absurd (omega arith)
 character_strings_bad bytes (x ∷ rest) left some e = by left.steps left.enough left.same where
-  by : (steps : ℕ) → length (x ∷ rest) < steps → character_strings_within steps (x ∷ rest) ≡ is_text_data bytes → is_text_data bytes ≡ false
+  by : (steps : ℕ) → length (x ∷ rest) < steps → character_strings_within steps (x ∷ rest) ≡ is_txt_data bytes → is_txt_data bytes ≡ false
   by zero enough same = absurd (omega arith)
-  by (suc steps) enough same = sym same ∙ ap (after_text (λ more. character_strings_within steps more)) e
+  by (suc steps) enough same = sym same ∙ ap (after_string (λ more. character_strings_within steps more)) e
 
 pub character_strings_step : (bytes rest found later : List ℕ) → CharacterStringsLeft bytes rest → 0 < length rest → character_string rest ≡ Some (found, later) → CharacterStringsLeft bytes later
 unfolding character_strings_within
 character_strings_step bytes [] found later left some e = absurd (omega arith)
 character_strings_step bytes (x ∷ rest) found later left some e = by left.steps left.enough left.same where
-  by : (steps : ℕ) → length (x ∷ rest) < steps → character_strings_within steps (x ∷ rest) ≡ is_text_data bytes → CharacterStringsLeft bytes later
+  by : (steps : ℕ) → length (x ∷ rest) < steps → character_strings_within steps (x ∷ rest) ≡ is_txt_data bytes → CharacterStringsLeft bytes later
   by zero enough same = absurd (omega arith)
   by (suc steps) enough same =
       let less = text_shorter (x ∷ rest) found later e in
-      record { steps = steps; enough = omega arith; same = sym (ap (after_text (λ more. character_strings_within steps more)) e) ∙ same }
+      record { steps = steps; enough = omega arith; same = sym (ap (after_string (λ more. character_strings_within steps more)) e) ∙ same }
 
 -- no string, and more octets than a size can say
-pub none_read : (bytes : List ℕ) → length bytes ≡ 0 → is_text_data bytes ≡ false
-unfolding is_text_data is_character_strings
+pub none_read : (bytes : List ℕ) → length bytes ≡ 0 → is_txt_data bytes ≡ false
+unfolding is_txt_data is_character_strings
 none_read [] e = refl
 none_read (x ∷ bytes) e = absurd (omega arith)
 
-pub many_read : (bytes : List ℕ) → 65535 < length bytes → is_text_data bytes ≡ false
-unfolding is_text_data
+pub many_read : (bytes : List ℕ) → 65535 < length bytes → is_txt_data bytes ≡ false
+unfolding is_txt_data
 many_read bytes many = rw (lt-ltb 65535 (length bytes) many) refl
 
 -- ---- equality

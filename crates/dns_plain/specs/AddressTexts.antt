@@ -20,7 +20,7 @@ ipv4_text v = Net.ipv4_text v.octets
 
 -- ---- IPv6
 
--- Groups of one to four hexadecimal digits with colons between them before and after `::`, at most seven in all. It stands for
+-- Groups of one to four hexadecimal digits with colons between them before and after `::`, at most seven in all. It represents
 -- the groups of zero that are missing.
 pub record IsShortened (text : Octets) (groups : List ℕ) : Type 0 where
   pub prefix_text : Octets
@@ -41,7 +41,7 @@ IsHexText text groups = (IsGroups false text groups × (length groups ≡ 8)) �
 abbrev pub SpellsIpv6 : Octets → Aaaa → Type 0
 SpellsIpv6 text v = IsHexText text (segments_of v.octets)
 
--- Hexadecimal digits in lowercase, with no zero before a group. Where two groups of zero or more stand together, `::` stands
--- for the longest such run, and for the first of those as long.
+-- Hexadecimal digits in lowercase, with no zero before a group. If two groups of zero or more come together, `::` represents
+-- the longest such run, and the first of those as long.
 abbrev pub ipv6_text : Aaaa → Octets
 ipv6_text v = Net.hex_groups_text (segments_of v.octets)

@@ -48,7 +48,7 @@ impl FromStr for A {
     ghost from_str_gives = { Parses SpellsIpv4 };
 
     /// Reads four numbers from 0 to 255 in decimal with dots between them, without leading zeros.
-    /// `AddrParseError` comes exactly where the text is anything else.
+    /// `AddrParseError` comes exactly if the text is anything else.
     fn from_str(s: &str) -> Result<A, AddrParseError> {
         match Ipv4Addr::from_str(s) {
             Ok(address) => Ok(A {

@@ -48,8 +48,8 @@ impl FromStr for Aaaa {
     ghost from_str_gives = { Parses SpellsIpv6 };
 
     /// Reads eight groups of one to four hexadecimal digits with colons between them, or at most seven with one
-    /// `::` for those that are missing (RFC 4291 section 2.2). `AddrParseError` comes exactly where the text is
-    /// anything else, as where an address of IPv4 with its dots ends it.
+    /// `::` for those that are missing (RFC 4291 section 2.2). `AddrParseError` comes exactly if the text is
+    /// anything else, as when an address of IPv4 with its dots ends it.
     fn from_str(s: &str) -> Result<Aaaa, AddrParseError> {
         if s.as_bytes().contains(&b'.') {
             return Err(AddrParseError);
@@ -143,7 +143,7 @@ impl CanonicalRecordData for Aaaa {
 impl fmt::Display for Aaaa {
     ghost output = { λ v. Some (ipv6_text v) };
 
-    /// Hexadecimal digits in lowercase, with no zero before a group. `::` stands for the longest run of two
+    /// Hexadecimal digits in lowercase, with no zero before a group. `::` represents the longest run of two
     /// groups of zero or more, and for the first of those as long (RFC 5952 section 4).
     fn fmt<W: fmt::Write>(&self, f: &mut fmt::Formatter<W>) -> fmt::Result {
         fmt::Display::fmt(&Ipv6Addr::from(self.octets).hex_groups(), f)

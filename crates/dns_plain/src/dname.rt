@@ -23,7 +23,7 @@ use dns_wire::{
 };
 use std::cmp::Ordering;
 
-/// The name under which what stands below the owner stands (RFC 6672 section 2.1).
+/// The name under which everything below the owner is (RFC 6672 section 2.1).
 #[derive(Clone, Copy, Debug, PartialEq, Eq, PartialOrd, Ord, Hash)]
 pub struct DName<'a> {
     /// The target, whose name is never compressed.

@@ -1,4 +1,4 @@
-//! Data are compared and fed to a hasher field by field, in the order in which the fields stand on the wire.
+//! Data are compared and fed to a hasher field by field, in the order in which the fields come on the wire.
 
 ghost use Rattle.std.specs.Prelude.{◌≡◌, map, ◌↔◌, IsTrue};
 ghost use Rattle.std.specs.Ordering.{eq_by_cmp, on};
@@ -29,7 +29,7 @@ pub fn data_are_ordered_by_fields()
     ensures dname { (a b : _) → ⟦<DName<'static> as Ord>⟧.cmp a b ≡ fields_cmp (on key key_cmp) (on key key_cmp) (dname_fields a) (dname_fields b) }
 {}
 
-/// Data are equal where all their fields are, names and strings without regard to ASCII case (RFC 1035 section
+/// Data are equal if all their fields are, names and strings without regard to ASCII case (RFC 1035 section
 /// 2.3.3).
 pub fn data_are_equal_by_fields()
     ensures a { (a b : _) → ⟦<A as PartialEq>⟧.eq a b ≡ fields_eq (eq_by_cmp (on key key_cmp)) (eq_by_cmp (on key key_cmp)) same_charstr (a_fields a) (a_fields b) }
@@ -50,7 +50,7 @@ pub fn data_are_hashed_by_fields()
     ensures txt { (v : _) → ⟦<Txt<'static> as Hash>⟧.hash_input v ≡ fields_writes name_writes name_writes charstr_writes (map Sized (strings_in v.slice.now)) }
 {}
 
-/// Errors are equal exactly where they are the same.
+/// Errors are equal exactly if they are the same.
 pub fn equal_errors()
     ensures address { (a b : _) → IsTrue (⟦<AddrParseError as PartialEq>⟧.eq a b) ↔ (a ≡ b) }
 {}

@@ -21,7 +21,7 @@ ghost use Rattle.dns_record.specs.Fields.{Field, canonical_octets};
 ghost use Rattle.dns_record.specs.Kinds.{fields_of, no_name};
 ghost use Rattle.dns_record.specs.DataLemmas.{uncompressed_leave, uncompressed_end};
 ghost use Rattle.dns_record.specs.Formats.{rdata_format};
-ghost use Rattle.dns_record.specs.CharacterStrings.{is_text_data, character_strings_octets};
+ghost use Rattle.dns_record.specs.CharacterStrings.{is_txt_data, character_strings_octets};
 ghost use Rattle.dns_record.proofs.Sizes.{canonical_long};
 ghost use Rattle.dns_plain.specs.Strings.{strings_in, same_strings, strings_writes, same_strings_alike};
 ghost use Rattle.dns_plain.specs.Types.{txt_fields};
@@ -40,7 +40,7 @@ use std::hash::{Hash, Hasher};
 pub struct Txt<'a> {
     /// The strings one after another, each after its length octet.
     pub slice: &'a [u8],
-    ghost is_txt: { is_text_data slice.now ≡ true } by { Prim.hlevel props },
+    ghost is_txt: { is_txt_data slice.now ≡ true } by { Prim.hlevel props },
 }
 
 impl<'a> Txt<'a> {
@@ -62,7 +62,7 @@ impl AsBytes for Txt<'_> {
 
 /// Whether the octets are one string or more, and at most 65,535.
 fn are_character_strings(bytes: &[u8]) -> bool
-    ensures { result ≡ is_text_data bytes.now }
+    ensures { result ≡ is_txt_data bytes.now }
 {
     if bytes.is_empty() || bytes.len() > 65_535 {
         return false;
@@ -77,7 +77,7 @@ fn are_character_strings(bytes: &[u8]) -> bool
     true
 }
 
-/// `ParseError` comes exactly where the octets are none, or more than 65,535, or strings don't fill them.
+/// `ParseError` comes exactly if the octets are none, or more than 65,535, or strings don't fill them.
 impl<'a> ParseBytes<'a> for Txt<'a> {
     ghost Seen = { List Field };
 

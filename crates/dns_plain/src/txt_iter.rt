@@ -18,10 +18,11 @@ pub struct TxtIter<'a> {
 }
 
 impl<'a> Model for TxtIter<'a> {
-    ghost use Rattle.std.specs.Prelude.{ℕ, List};
+    ghost use Rattle.std.specs.Prelude.{List};
     ghost use Rattle.dns_plain.specs.Strings.{strings_in};
+    ghost use Rattle.dns_wire.specs.Octets.{Octets};
 
-    ghost Value = { List (List ℕ) };
+    ghost Value = { List Octets };
 
     ghost view = { λ i. strings_in i.octets.now };
 }
@@ -42,7 +43,7 @@ impl<'a> Iterator for TxtIter<'a> {
 
     ghost remaining = { item_count (λ strings. strings) };
 
-    /// The next string. It is none where none is left, and then always.
+    /// The next string. It is `None` if none is left, and then always.
     fn next(&mut self) -> Option<CharStr<'a>> {
         match CharStr::split_bytes(self.octets) {
             Ok((string, rest)) => {

@@ -8,9 +8,9 @@ use Rattle.std.specs.Cmp.Lexicographic.{slice_cmp}
 use Rattle.std.specs.declared.cmp.Ordering.{Ordering}
 use Rattle.dns_record.specs.Canonical.{ranked_cmp}
 use Rattle.dns_record.specs.Types.{is_lowercased}
-use Rattle.dns_rdata.specs.Data.{as_plain}
+use Rattle.dns_rdata.specs.Data.{as_uncompressed}
 
-field_plain : {N : Type 0} (name : N → List (List ℕ)) (field : Field) → field_octets (named_by name (as_plain {N = N} field)) ≡ field_octets field
+field_plain : {N : Type 0} (name : N → List (List ℕ)) (field : Field) → field_octets (named_by name (as_uncompressed {N = N} field)) ≡ field_octets field
 field_plain name (Compressible labels) = refl
 field_plain name (Uncompressed labels) = refl
 field_plain name (Raw octets) = refl
@@ -18,7 +18,7 @@ field_plain name (Sized octets) = refl
 field_plain name (Byte b) = refl
 field_plain name (Number w n) = refl
 
-lowercased_uncompressed : {N : Type 0} (name : N → List (List ℕ)) (field : Field) → field_octets (lowercased_field (named_by name (as_plain {N = N} field))) ≡ field_octets (lowercased_field field)
+lowercased_uncompressed : {N : Type 0} (name : N → List (List ℕ)) (field : Field) → field_octets (lowercased_field (named_by name (as_uncompressed {N = N} field))) ≡ field_octets (lowercased_field field)
 lowercased_uncompressed name (Compressible labels) = refl
 lowercased_uncompressed name (Uncompressed labels) = refl
 lowercased_uncompressed name (Raw octets) = refl
@@ -26,25 +26,25 @@ lowercased_uncompressed name (Sized octets) = refl
 lowercased_uncompressed name (Byte b) = refl
 lowercased_uncompressed name (Number w n) = refl
 
-fields_plain : {N : Type 0} (name : N → List (List ℕ)) (fields : List Field) → fields_octets (map (named_by name) (map (as_plain {N = N}) fields)) ≡ fields_octets fields
+fields_plain : {N : Type 0} (name : N → List (List ℕ)) (fields : List Field) → fields_octets (map (named_by name) (map (as_uncompressed {N = N}) fields)) ≡ fields_octets fields
 fields_plain name [] = refl
 fields_plain {N} name (field ∷ fields) =
-    ap (λ (l : List ℕ). l ++ fields_octets (map (named_by name) (map (as_plain {N = N}) fields))) (field_plain name field)
+    ap (λ (l : List ℕ). l ++ fields_octets (map (named_by name) (map (as_uncompressed {N = N}) fields))) (field_plain name field)
     ∙ ap (λ (l : List ℕ). field_octets field ++ l) (fields_plain name fields)
 
-fields_lowercased_uncompressed : {N : Type 0} (name : N → List (List ℕ)) (fields : List Field) → fields_octets (map lowercased_field (map (named_by name) (map (as_plain {N = N}) fields))) ≡ fields_octets (map lowercased_field fields)
+fields_lowercased_uncompressed : {N : Type 0} (name : N → List (List ℕ)) (fields : List Field) → fields_octets (map lowercased_field (map (named_by name) (map (as_uncompressed {N = N}) fields))) ≡ fields_octets (map lowercased_field fields)
 fields_lowercased_uncompressed name [] = refl
 fields_lowercased_uncompressed {N} name (field ∷ fields) =
-    ap (λ (l : List ℕ). l ++ fields_octets (map lowercased_field (map (named_by name) (map (as_plain {N = N}) fields)))) (lowercased_uncompressed name field)
+    ap (λ (l : List ℕ). l ++ fields_octets (map lowercased_field (map (named_by name) (map (as_uncompressed {N = N}) fields)))) (lowercased_uncompressed name field)
     ∙ ap (λ (l : List ℕ). field_octets (lowercased_field field) ++ l) (fields_lowercased_uncompressed name fields)
 
-pub plain_canonical : {N : Type 0} (name : N → List (List ℕ)) (rtype : ℕ) (fields : List Field) → canonical_octets rtype (map (named_by name) (map (as_plain {N = N}) fields)) ≡ canonical_octets rtype fields
+pub plain_canonical : {N : Type 0} (name : N → List (List ℕ)) (rtype : ℕ) (fields : List Field) → canonical_octets rtype (map (named_by name) (map (as_uncompressed {N = N}) fields)) ≡ canonical_octets rtype fields
 plain_canonical {N} name rtype fields = by (is_lowercased rtype) where
-  by : (b : Bool) → fields_octets (cond b (map lowercased_field (map (named_by name) (map (as_plain {N = N}) fields))) (map (named_by name) (map (as_plain {N = N}) fields))) ≡ fields_octets (cond b (map lowercased_field fields) fields)
+  by : (b : Bool) → fields_octets (cond b (map lowercased_field (map (named_by name) (map (as_uncompressed {N = N}) fields))) (map (named_by name) (map (as_uncompressed {N = N}) fields))) ≡ fields_octets (cond b (map lowercased_field fields) fields)
   by true = fields_lowercased_uncompressed name fields
   by false = fields_plain name fields
 
--- and their order, where data of one type compare by it
+-- and their order, if data of one type compare by it
 pub plain_compared : {N : Type 0} (name : N → List (List ℕ)) (rtype : ℕ) (fields others : List Field) (found : Ordering) → found ≡ ranked_cmp 0 0 (canonical_octets rtype fields) (canonical_octets rtype others)
-    → found ≡ slice_cmp nat_cmp (canonical_octets rtype (map (named_by name) (map (as_plain {N = N}) fields))) (canonical_octets rtype (map (named_by name) (map (as_plain {N = N}) others)))
+    → found ≡ slice_cmp nat_cmp (canonical_octets rtype (map (named_by name) (map (as_uncompressed {N = N}) fields))) (canonical_octets rtype (map (named_by name) (map (as_uncompressed {N = N}) others)))
 plain_compared name rtype fields others found is = rw (plain_canonical name rtype fields, plain_canonical name rtype others) is

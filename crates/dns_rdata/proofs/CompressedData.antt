@@ -7,13 +7,13 @@ use Rattle.dns_wire.specs.Layout.{octets_writes}
 use Rattle.dns_record.specs.Fields.{FieldOf, Field, named_by, field_octets, fields_octets}
 use Rattle.dns_record.specs.Fields.FieldOf.{Compressible, Uncompressed, Raw, Sized, Byte, Number}
 use Rattle.dns_record.specs.InMessage.{of_field, fields_write, field_fits, fields_fit}
-use Rattle.dns_rdata.specs.Data.{as_plain}
+use Rattle.dns_rdata.specs.Data.{as_uncompressed}
 
--- the same, where what is prefixed fits in other words
+-- the same, if what is prefixed fits in other words
 builds_so : {E F G : Type 0} {compressed : List ℕ × List ℕ} {old new places after : List ℕ} {start : ℕ} {result : Result ℕ E} → (F → G) → (G → F) → BuildsIn F compressed old start places new after result → BuildsIn G compressed old start places new after result
 builds_so {result = Ok end} there back b = record {
   accepted = there b.accepted;
-  stands = b.stands;
+  occurs = b.occurs;
   after_is = b.after_is;
   grows = b.grows;
   leads = b.leads;
@@ -24,7 +24,7 @@ builds_so {result = Ok end} there back b = record {
 }
 builds_so {result = Err e} there back b = record {
   accepted = tt;
-  stands = tt;
+  occurs = tt;
   after_is = tt;
   grows = tt;
   leads = tt;
@@ -35,7 +35,7 @@ builds_so {result = Err e} there back b = record {
 }
 
 module _ {N : Type 0} (fits : N → List ℕ → List ℕ → Type 0) (writes : N → CompressedWrite) where
-  plain_field : (field : Field) → of_field writes octets_writes (as_plain field) ≡ octets_writes (field_octets field)
+  plain_field : (field : Field) → of_field writes octets_writes (as_uncompressed field) ≡ octets_writes (field_octets field)
   plain_field (Compressible labels) = refl
   plain_field (Uncompressed labels) = refl
   plain_field (Raw octets) = refl
@@ -44,13 +44,13 @@ module _ {N : Type 0} (fits : N → List ℕ → List ℕ → Type 0) (writes : 
   plain_field (Number w n) = refl
 
   -- their fields, whole
-  uncompressed_writes : (fields : List Field) (contents places : List ℕ) → fields_write writes (map as_plain fields) contents places ≡ (fields_octets fields, places)
+  uncompressed_writes : (fields : List Field) (contents places : List ℕ) → fields_write writes (map as_uncompressed fields) contents places ≡ (fields_octets fields, places)
   uncompressed_writes [] contents places = refl
   uncompressed_writes (field ∷ fields) contents places =
-      ap (λ (p : CompressedWrite). ((p contents places).0 ++ (fields_write writes (map as_plain fields) (contents ++ (p contents places).0) (p contents places).1).0, (fields_write writes (map as_plain fields) (contents ++ (p contents places).0) (p contents places).1).1)) (plain_field field)
+      ap (λ (p : CompressedWrite). ((p contents places).0 ++ (fields_write writes (map as_uncompressed fields) (contents ++ (p contents places).0) (p contents places).1).0, (fields_write writes (map as_uncompressed fields) (contents ++ (p contents places).0) (p contents places).1).1)) (plain_field field)
       ∙ ap (λ (r : List ℕ × List ℕ). (field_octets field ++ r.0, r.1)) (uncompressed_writes fields (contents ++ field_octets field) places)
 
-  field_fit : (field : Field) (contents places : List ℕ) → field_fits fits (as_plain field) contents places
+  field_fit : (field : Field) (contents places : List ℕ) → field_fits fits (as_uncompressed field) contents places
   field_fit (Compressible labels) contents places = tt
   field_fit (Uncompressed labels) contents places = tt
   field_fit (Raw octets) contents places = tt
@@ -59,16 +59,16 @@ module _ {N : Type 0} (fits : N → List ℕ → List ℕ → Type 0) (writes : 
   field_fit (Number w n) contents places = tt
 
   -- and nothing in them is prefixed
-  plain_fit : (fields : List Field) (contents places : List ℕ) → fields_fit fits writes (map as_plain fields) contents places
+  plain_fit : (fields : List Field) (contents places : List ℕ) → fields_fit fits writes (map as_uncompressed fields) contents places
   plain_fit [] contents places = tt
   plain_fit (field ∷ fields) contents places = (field_fit field contents places, plain_fit fields _ _)
 
   pub plain_built : {E : Type 0} {octets old new places after : List ℕ} {start : ℕ} {result : Result ℕ E} (fields : List Field) → octets ≡ fields_octets fields → BuildsIn ⊤ (octets, places) old start places new after result
-      → BuildsIn (fields_fit fits writes (map as_plain fields) (take start old) places) (fields_write writes (map as_plain fields) (take start old) places) old start places new after result
+      → BuildsIn (fields_fit fits writes (map as_uncompressed fields) (take start old) places) (fields_write writes (map as_uncompressed fields) (take start old) places) old start places new after result
   plain_built {octets = octets} {old} {new} {places} {after} {start} {result} fields same b =
       let all = plain_fit fields (take start old) places in
-      subst (λ (r : List ℕ × List ℕ). BuildsIn (fields_fit fits writes (map as_plain fields) (take start old) places) r old start places new after result) (sym (uncompressed_writes fields (take start old) places))
-      (subst (λ (o : List ℕ). BuildsIn (fields_fit fits writes (map as_plain fields) (take start old) places) (o, places) old start places new after result) same (builds_so (λ _. all) (λ _. tt) b))
+      subst (λ (r : List ℕ × List ℕ). BuildsIn (fields_fit fits writes (map as_uncompressed fields) (take start old) places) r old start places new after result) (sym (uncompressed_writes fields (take start old) places))
+      (subst (λ (o : List ℕ). BuildsIn (fields_fit fits writes (map as_uncompressed fields) (take start old) places) (o, places) old start places new after result) same (builds_so (λ _. all) (λ _. tt) b))
 
 -- ---- names by their labels
 

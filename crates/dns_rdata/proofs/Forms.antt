@@ -8,7 +8,7 @@ use Rattle.dns_rdata.specs.EdnsForms.{IsFormOf, edns_ttl, edns_in}
 use Rattle.dns_rdata.specs.declared.edns_record.EdnsRecord.{EdnsRecord}
 use Rattle.dns_rdata.specs.declared.record_data.RecordData.{RecordData}
 
--- the fields stand in the four octets apart
+-- the fields are in the four octets apart
 parts : (a b c : ℕ) → a < 2 ^ 8 → b < 2 ^ 8 → c < 2 ^ 16 → (edns_ttl a b c / 2 ^ 24 ≡ a) × ((edns_ttl a b c / 2 ^ 16) % 2 ^ 8 ≡ b) × (edns_ttl a b c % 2 ^ 16 ≡ c)
 parts a b c a-fits b-fits c-fits = (omega arith, omega arith, omega arith)
 

@@ -17,9 +17,9 @@ use Rattle.dns_record.specs.Options.{options}
 use Rattle.dns_record.specs.Formats.{rdata_format, rdata_formats, format_under, format_unknown, has_rdata_format}
 use Rattle.dns_record.specs.CharacterStrings.{character_string, character_strings}
 use Rattle.dns_record.specs.TypeBitMaps.{bitmap, some_bitmap}
-use Rattle.dns_record.proofs.UncompressedNames.{is_bare, all_uncompressed, is_uncompressed_format, all_placed}
-use Rattle.dns_rdata.specs.Data.{as_plain, data_fields, IsDataOf}
-use Rattle.dns_rdata.specs.Plain.{is_plain_type, no_compressible, ReadsPlain}
+use Rattle.dns_record.proofs.UncompressedNames.{is_uncompressed, all_uncompressed, is_uncompressed_format, all_placed}
+use Rattle.dns_rdata.specs.Data.{as_uncompressed, data_fields, IsDataOf}
+use Rattle.dns_rdata.specs.Plain.{is_uncompressed_type, no_compressible, ReadsPlain}
 use Rattle.dns_rdata.specs.declared.record_data.RecordData.{RecordData}
 
 -- ---- kinds that have no name with pointers
@@ -28,34 +28,34 @@ twice : {A B C S : Type 0} (f : A → B) (g : B → C) (o : Option (A × S)) →
 twice f g None = refl
 twice f g (Some (x, s)) = refl
 
-plain_kind : {N : Type 0} (name : List ℕ → Option (N × List ℕ)) (kind : Kind) (bytes : List ℕ) → is_bare kind ≡ true → field_of name kind bytes ≡ first_to as_plain (field_of no_name kind bytes)
-plain_kind name OneByte bytes uncompressed = twice Byte as_plain (octet bytes)
-plain_kind name (OneNumber w) bytes uncompressed = twice (Number w) as_plain (number w bytes)
-plain_kind name (SoMany n) bytes uncompressed = twice Raw as_plain (octets n bytes)
+plain_kind : {N : Type 0} (name : List ℕ → Option (N × List ℕ)) (kind : Kind) (bytes : List ℕ) → is_uncompressed kind ≡ true → field_of name kind bytes ≡ first_to as_uncompressed (field_of no_name kind bytes)
+plain_kind name OneByte bytes uncompressed = twice Byte as_uncompressed (octet bytes)
+plain_kind name (OneNumber w) bytes uncompressed = twice (Number w) as_uncompressed (number w bytes)
+plain_kind name (SoMany n) bytes uncompressed = twice Raw as_uncompressed (octets n bytes)
 plain_kind name CompressibleName bytes uncompressed = absurd cc
-plain_kind name UncompressedName bytes uncompressed = twice Uncompressed as_plain (plain_name bytes)
-plain_kind name CharacterString bytes uncompressed = twice Sized as_plain (character_string bytes)
-plain_kind name CharacterStrings bytes uncompressed = twice Raw as_plain (character_strings bytes)
-plain_kind name Options bytes uncompressed = twice Raw as_plain (options bytes)
-plain_kind name TypeBitMaps bytes uncompressed = twice Raw as_plain (bitmap bytes)
-plain_kind name NonEmptyTypeBitMaps bytes uncompressed = twice Raw as_plain (some_bitmap bytes)
+plain_kind name UncompressedName bytes uncompressed = twice Uncompressed as_uncompressed (plain_name bytes)
+plain_kind name CharacterString bytes uncompressed = twice Sized as_uncompressed (character_string bytes)
+plain_kind name CharacterStrings bytes uncompressed = twice Raw as_uncompressed (character_strings bytes)
+plain_kind name Options bytes uncompressed = twice Raw as_uncompressed (options bytes)
+plain_kind name TypeBitMaps bytes uncompressed = twice Raw as_uncompressed (bitmap bytes)
+plain_kind name NonEmptyTypeBitMaps bytes uncompressed = twice Raw as_uncompressed (some_bitmap bytes)
 plain_kind name Rest bytes uncompressed = refl
 
 abbrev put_first : {N : Type 0} → FieldOf N → Option (List (FieldOf N) × List ℕ) → Option (List (FieldOf N) × List ℕ)
 put_first {N} f read = ◌>>=◌ {A = List (FieldOf N) × List ℕ} {B = List (FieldOf N) × List ℕ} read (λ others. Some (f ∷ others.0, others.1))
 
-plain_first : {N : Type 0} (f : Field) (read : Option (List Field × List ℕ)) → put_first {N = N} (as_plain f) (first_to (map as_plain) read) ≡ first_to (map as_plain) (put_first f read)
+plain_first : {N : Type 0} (f : Field) (read : Option (List Field × List ℕ)) → put_first {N = N} (as_uncompressed f) (first_to (map as_uncompressed) read) ≡ first_to (map as_uncompressed) (put_first f read)
 plain_first f None = refl
 plain_first f (Some (others, rest)) = refl
 
 -- the kinds after a field that was read
-after_kind : {N : Type 0} (name : List ℕ → Option (N × List ℕ)) (kinds : List Kind) (read : Option (Field × List ℕ)) → ((rest : List ℕ) → fields_of name kinds rest ≡ first_to (map as_plain) (fields_of no_name kinds rest))
-    → ◌>>=◌ {A = FieldOf N × List ℕ} {B = List (FieldOf N) × List ℕ} (first_to as_plain read) (λ field. put_first field.0 (fields_of name kinds field.1))
-    ≡ first_to (map as_plain) (◌>>=◌ {A = Field × List ℕ} {B = List Field × List ℕ} read (λ field. put_first field.0 (fields_of no_name kinds field.1)))
+after_kind : {N : Type 0} (name : List ℕ → Option (N × List ℕ)) (kinds : List Kind) (read : Option (Field × List ℕ)) → ((rest : List ℕ) → fields_of name kinds rest ≡ first_to (map as_uncompressed) (fields_of no_name kinds rest))
+    → ◌>>=◌ {A = FieldOf N × List ℕ} {B = List (FieldOf N) × List ℕ} (first_to as_uncompressed read) (λ field. put_first field.0 (fields_of name kinds field.1))
+    ≡ first_to (map as_uncompressed) (◌>>=◌ {A = Field × List ℕ} {B = List Field × List ℕ} read (λ field. put_first field.0 (fields_of no_name kinds field.1)))
 after_kind name kinds None again = refl
-after_kind name kinds (Some (f, rest)) again = ap (put_first (as_plain f)) (again rest) ∙ plain_first f (fields_of no_name kinds rest)
+after_kind name kinds (Some (f, rest)) again = ap (put_first (as_uncompressed f)) (again rest) ∙ plain_first f (fields_of no_name kinds rest)
 
-plain_kinds : {N : Type 0} (name : List ℕ → Option (N × List ℕ)) (kinds : List Kind) (bytes : List ℕ) → all_uncompressed kinds ≡ true → fields_of name kinds bytes ≡ first_to (map as_plain) (fields_of no_name kinds bytes)
+plain_kinds : {N : Type 0} (name : List ℕ → Option (N × List ℕ)) (kinds : List Kind) (bytes : List ℕ) → all_uncompressed kinds ≡ true → fields_of name kinds bytes ≡ first_to (map as_uncompressed) (fields_of no_name kinds bytes)
 plain_kinds name [] bytes uncompressed = refl
 plain_kinds {N} name (kind ∷ kinds) bytes uncompressed =
     ap (λ (read : Option (FieldOf N × List ℕ)). ◌>>=◌ {A = FieldOf N × List ℕ} {B = List (FieldOf N) × List ℕ} read (λ field. put_first field.0 (fields_of name kinds field.1))) (plain_kind name kind bytes (first_so _ _ uncompressed))
@@ -91,29 +91,29 @@ nothing_left bytes labels rest e = absurd cc
 -- ---- data
 
 pub data_plain : {N : Type 0} (name : List ℕ → Option (N × List ℕ)) (number rtype : ℕ) (bytes : List ℕ) → rtype ≡ number → is_uncompressed_format (rdata_format number) ≡ true
-    → data_as name rtype bytes ≡ option_map (map as_plain) (all_of (fields_of no_name (rdata_format number) bytes))
+    → data_as name rtype bytes ≡ option_map (map as_uncompressed) (all_of (fields_of no_name (rdata_format number) bytes))
 unfolding data_as
-data_plain name number rtype bytes is uncompressed = rw is (ap all_of (plain_kinds name (rdata_format number) bytes (uncompressed_format (rdata_format number) uncompressed)) ∙ all_of_plain (map as_plain) (fields_of no_name (rdata_format number) bytes))
+data_plain name number rtype bytes is uncompressed = rw is (ap all_of (plain_kinds name (rdata_format number) bytes (uncompressed_format (rdata_format number) uncompressed)) ∙ all_of_plain (map as_uncompressed) (fields_of no_name (rdata_format number) bytes))
 
 pub data_placed : {N : Type 0} (place : List ℕ → ℕ → Option (N × ℕ)) (number rtype : ℕ) (contents : List ℕ) (at : ℕ) → rtype ≡ number → is_uncompressed_format (rdata_format number) ≡ true
-    → data_in place rtype contents at ≡ option_map (map as_plain) (all_at contents (plain_at (fields_of no_name (rdata_format number)) contents at))
+    → data_in place rtype contents at ≡ option_map (map as_uncompressed) (all_at contents (plain_at (fields_of no_name (rdata_format number)) contents at))
 unfolding data_in
 data_placed {N} place number rtype contents at is uncompressed =
     rw is (
     all_placed place none_at nothing_left (rdata_format number) contents at uncompressed
     ∙ ap (λ (read : Option (List (FieldOf N) × List ℕ)). all_at contents (cond (ltb (length contents) at) None (with_end contents read))) (plain_kinds none_at (rdata_format number) (drop at contents) (uncompressed_format (rdata_format number) uncompressed))
-    ∙ all_at_plain (map as_plain) contents (ltb (length contents) at) (fields_of no_name (rdata_format number) (drop at contents))
+    ∙ all_at_plain (map as_uncompressed) contents (ltb (length contents) at) (fields_of no_name (rdata_format number) (drop at contents))
     )
 
--- where no name with pointers is among the kinds, they are read of octets whatever such names are seen as
-pub seen_plain : {N S : Type 0} (seen : N → S) (name : List ℕ → Option (S × List ℕ)) (rtype : ℕ) (bytes : List ℕ) → is_plain_type rtype ≡ true
+-- if no name with pointers is among the kinds, they are read of octets whatever such names are seen as
+pub seen_plain : {N S : Type 0} (seen : N → S) (name : List ℕ → Option (S × List ℕ)) (rtype : ℕ) (bytes : List ℕ) → is_uncompressed_type rtype ≡ true
     → data_as name rtype bytes ≡ option_map (map (named_by seen)) (data_as {N = N} no_compressible rtype bytes)
-unfolding is_plain_type
+unfolding is_uncompressed_type
 seen_plain {N} {S} seen name rtype bytes plain =
     data_plain name rtype rtype bytes refl plain
     ∙ sym (ap (option_map (map (named_by seen))) (data_plain {N = N} no_compressible rtype rtype bytes refl plain) ∙ same (all_of (fields_of no_name (rdata_format rtype) bytes)))
   where
-    each : (fields : List Field) → map (named_by seen) (map as_plain fields) ≡ map as_plain fields
+    each : (fields : List Field) → map (named_by seen) (map as_uncompressed fields) ≡ map as_uncompressed fields
     each [] = refl
     each (Compressible labels ∷ fields) = ap (λ (l : List (FieldOf S)). Uncompressed labels ∷ l) (each fields)
     each (Uncompressed labels ∷ fields) = ap (λ (l : List (FieldOf S)). Uncompressed labels ∷ l) (each fields)
@@ -122,22 +122,22 @@ seen_plain {N} {S} seen name rtype bytes plain =
     each (Byte b ∷ fields) = ap (λ (l : List (FieldOf S)). Byte b ∷ l) (each fields)
     each (Number w n ∷ fields) = ap (λ (l : List (FieldOf S)). Number w n ∷ l) (each fields)
 
-    same : (read : Option (List Field)) → option_map (map (named_by seen)) (option_map (map as_plain) read) ≡ option_map (map as_plain) read
+    same : (read : Option (List Field)) → option_map (map (named_by seen)) (option_map (map as_uncompressed) read) ≡ option_map (map as_uncompressed) read
     same None = refl
     same (Some fields) = ap Some (each fields)
 
 -- and in a message of the octets from their place on
-pub seen_placed : {N : Type 0} (place : List ℕ → ℕ → Option (N × ℕ)) (name : List ℕ → Option (N × List ℕ)) (rtype : ℕ) (contents : List ℕ) (at : ℕ) → is_plain_type rtype ≡ true → at ≤ length contents
+pub seen_placed : {N : Type 0} (place : List ℕ → ℕ → Option (N × ℕ)) (name : List ℕ → Option (N × List ℕ)) (rtype : ℕ) (contents : List ℕ) (at : ℕ) → is_uncompressed_type rtype ≡ true → at ≤ length contents
     → data_in place rtype contents at ≡ data_as name rtype (drop at contents)
-unfolding is_plain_type
+unfolding is_uncompressed_type
 seen_placed place name rtype contents at plain within =
     data_placed place rtype rtype contents at refl plain
-    ∙ ap (option_map (map as_plain)) (all_from (fields_of no_name (rdata_format rtype)) contents at (uncompressed_leave (rdata_format rtype)) within)
+    ∙ ap (option_map (map as_uncompressed)) (all_from (fields_of no_name (rdata_format rtype)) contents at (uncompressed_leave (rdata_format rtype)) within)
     ∙ sym (data_plain name rtype rtype (drop at contents) refl plain)
 
 -- after the end there are none
-pub none_placed : {N : Type 0} (place : List ℕ → ℕ → Option (N × ℕ)) (rtype : ℕ) (contents : List ℕ) (at : ℕ) → is_plain_type rtype ≡ true → length contents < at → data_in place rtype contents at ≡ None
-unfolding is_plain_type
+pub none_placed : {N : Type 0} (place : List ℕ → ℕ → Option (N × ℕ)) (rtype : ℕ) (contents : List ℕ) (at : ℕ) → is_uncompressed_type rtype ≡ true → length contents < at → data_in place rtype contents at ≡ None
+unfolding is_uncompressed_type
 none_placed place rtype contents at plain trailing =
     let past : ltb (length contents) at ≡ true = lt-ltb _ _ trailing in
     data_placed place rtype rtype contents at refl plain ∙ rw past refl
@@ -163,19 +163,19 @@ found_uncompressed (first ∷ others) n all other = by (n == first.0) refl (foun
   by true is later = uncompressed_unless (is_compressible_type first.0) first.1 (ap is_compressible_type (sym (eqb-true n first.0 is)) ∙ other) (first_so _ _ all)
   by false is later = later
 
-pub uncompressed_unless_compressible : (n : ℕ) → is_compressible_type n ≡ false → is_plain_type n ≡ true
-unfolding is_plain_type
+pub uncompressed_unless_compressible : (n : ℕ) → is_compressible_type n ≡ false → is_uncompressed_type n ≡ true
+unfolding is_uncompressed_type
 uncompressed_unless_compressible n other = found_uncompressed rdata_formats n refl other
 
 -- a plain type is none of those
-pub plain_is_not : (n named : ℕ) → is_plain_type n ≡ true → is_plain_type named ≡ false → (n == named) ≡ false
+pub plain_is_not : (n named : ℕ) → is_uncompressed_type n ≡ true → is_uncompressed_type named ≡ false → (n == named) ≡ false
 plain_is_not n named plain not = by (n == named) refl where
   by : (b : Bool) → (n == named) ≡ b → b ≡ false
   by false is = refl
-  by true is = let both : is_plain_type n ≡ false = ap is_plain_type (eqb-true n named is) ∙ not in absurd cc
+  by true is = let both : is_uncompressed_type n ≡ false = ap is_uncompressed_type (eqb-true n named is) ∙ not in absurd cc
 
-pub compressible_types : (is_plain_type 2 ≡ false) × (is_plain_type 5 ≡ false) × (is_plain_type 6 ≡ false) × (is_plain_type 12 ≡ false) × (is_plain_type 15 ≡ false) × (is_plain_type 17 ≡ false)
-unfolding is_plain_type
+pub compressible_types : (is_uncompressed_type 2 ≡ false) × (is_uncompressed_type 5 ≡ false) × (is_uncompressed_type 6 ≡ false) × (is_uncompressed_type 12 ≡ false) × (is_uncompressed_type 15 ≡ false) × (is_uncompressed_type 17 ≡ false)
+unfolding is_uncompressed_type
 compressible_types = (refl, refl, refl, refl, refl, refl)
 
 -- ---- types without an RDATA format
@@ -193,15 +193,15 @@ unknown_read name rtype bytes none = rw (no_format rtype none) refl
 -- ---- what was read as data of one type, as data of any type
 
 pub plain_made : {N X E : Type 0} (make : X → RecordData N) (fields : X → List Field) (number rtype : ℕ) (bytes : List ℕ) (read : Result X E) (made : Result (RecordData N) E) → rtype ≡ number → is_uncompressed_format (rdata_format number) ≡ true
-    → ((v : X) → (data_fields (make v) ≡ map as_plain (fields v)) × IsDataOf (make v) number)
+    → ((v : X) → (data_fields (make v) ≡ map as_uncompressed (fields v)) × IsDataOf (make v) number)
     → Gives fields read (all_of (fields_of no_name (rdata_format number) bytes)) → MatchResult read (λ v. IsOkAnd made (λ w. w ≡ make v)) (λ e. made ≡ Err e) → ReadsPlain made rtype bytes
 plain_made make fields number rtype bytes (Ok v) (Ok w) is uncompressed so gives by = (
-  data_plain no_compressible number rtype bytes is uncompressed ∙ ap (option_map (map as_plain)) gives ∙ ap Some (sym (so v).0 ∙ sym (ap data_fields by)),
+  data_plain no_compressible number rtype bytes is uncompressed ∙ ap (option_map (map as_uncompressed)) gives ∙ ap Some (sym (so v).0 ∙ sym (ap data_fields by)),
   rw (by, is) (so v).1,
 )
 plain_made make fields number rtype bytes (Ok v) (Err e) is uncompressed so gives by = absurd by
 plain_made make fields number rtype bytes (Err e) made is uncompressed so gives by =
-    rw by (data_plain no_compressible number rtype bytes is uncompressed ∙ ap (option_map (map as_plain)) gives)
+    rw by (data_plain no_compressible number rtype bytes is uncompressed ∙ ap (option_map (map as_uncompressed)) gives)
 
 -- the clauses of reading
 abbrev IsRead : {N S E : Type 0} → (N → S) → Result (RecordData N) E → ℕ → Option (List (FieldOf S)) → Type 0
@@ -215,11 +215,11 @@ compressible_made {N} seen make fields number rtype reads found (Ok v) (Ok w) is
 compressible_made seen make fields number rtype reads found (Ok v) (Err e) is same so gives by = absurd by
 compressible_made seen make fields number rtype reads found (Err e) made is same so gives by = rw (is, by) (same ∙ gives, tt)
 
-pub plain_read : {N S E : Type 0} (seen : N → S) (name : List ℕ → Option (S × List ℕ)) (rtype : ℕ) (bytes : List ℕ) (made : Result (RecordData N) E) → is_plain_type rtype ≡ true → ReadsPlain made rtype bytes → IsRead seen made rtype (data_as name rtype bytes)
+pub plain_read : {N S E : Type 0} (seen : N → S) (name : List ℕ → Option (S × List ℕ)) (rtype : ℕ) (bytes : List ℕ) (made : Result (RecordData N) E) → is_uncompressed_type rtype ≡ true → ReadsPlain made rtype bytes → IsRead seen made rtype (data_as name rtype bytes)
 plain_read seen name rtype bytes (Ok v) plain reads = (seen_plain seen name rtype bytes plain ∙ ap (option_map (map (named_by seen))) reads.0, reads.1)
 plain_read seen name rtype bytes (Err e) plain reads = (seen_plain seen name rtype bytes plain ∙ ap (option_map (map (named_by seen))) reads, tt)
 
--- data with names are read by their RDATA format as it stands
+-- data with names are read by their RDATA format as it is
 pub compressible_read : {N : Type 0} (name : List ℕ → Option (N × List ℕ)) (number : ℕ) (bytes : List ℕ) → data_as name number bytes ≡ all_of (fields_of name (rdata_format number) bytes)
 unfolding data_as
 compressible_read name number bytes = refl

@@ -78,21 +78,21 @@ same_content names a b = beq a.known b.known && (nat_eq a.rtype b.rtype && same_
 abbrev pub choices : List ℕ
 choices = map (λ ((rtype, format) : ℕ × List Kind). rtype) rdata_formats
 
--- how many stand before the number
-abbrev pub place_among : List ℕ → ℕ → ℕ
-place_among [] n = 0
-place_among (first ∷ others) n = if n == first then 0 else suc (place_among others n)
+-- how many come before the number
+abbrev pub index_among : List ℕ → ℕ → ℕ
+index_among [] n = 0
+index_among (first ∷ others) n = if n == first then 0 else suc (index_among others n)
 
--- what stands for the type: its place in the choice, and of unknown octets their number too
+-- what represents the type: its place in the choice, and of unknown octets their number too
 abbrev pub type_writes : {N : Type 0} → Content N → List Octets
 type_writes c =
-    if c.known then le_bytes 8 (place_among choices c.rtype) ∷ []
+    if c.known then le_bytes 8 (index_among choices c.rtype) ∷ []
     else le_bytes 8 (length choices) ∷ le_bytes 2 c.rtype ∷ []
 
--- octets with their size: salts and hashes as they stand, strings in lowercase
+-- octets with their size: salts and hashes as they are, strings in lowercase
 abbrev pub sized_writes : ℕ → Octets → List Octets
 sized_writes rtype octets = if is_hashed rtype then slice u8 octets else charstr_writes octets
 
--- what stands for the type, and the fields one after another
+-- what represents the type, and the fields one after another
 abbrev pub content_writes : {N : Type 0} → (N → List Octets) → Content N → List Octets
 content_writes names c = type_writes c ++ fields_writes names name_writes (sized_writes c.rtype) (compared c)

@@ -16,7 +16,7 @@ use Rattle.dns_rdata.specs.declared.record_data.RecordData.{RecordData}
 abbrev pub is_readable : ℕ → Octets → Bool
 is_readable rtype octets = is_some (data_as plain_name rtype octets)
 
--- the fields that the octets spell, where the RDATA format reads them
+-- the fields that the octets spell, if the RDATA format reads them
 abbrev pub spelled_fields : ℕ → Octets → List Field
 spelled_fields rtype octets = unwrap_or (data_as plain_name rtype octets) []
 

@@ -1,4 +1,4 @@
--- What is seen of data that are kept in memory of their own.
+-- What is seen of data that are kept in their own memory.
 use Rattle.std.specs.Prelude.{ℕ}
 use Rattle.dns_wire.specs.Octets.{Octets}
 use Rattle.dns_rdata.specs.declared.boxed_record_data.BoxedRecordData.{BoxedRecordData}

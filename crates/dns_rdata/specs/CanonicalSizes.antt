@@ -16,7 +16,7 @@ field_written name octets are (Sized bytes) = refl
 field_written name octets are (Byte b) = refl
 field_written name octets are (Number w n) = refl
 
--- fields are written as their octets, where each name is written as its labels are
+-- fields are written as their octets, if each name is written as its labels are
 pub fields_written : {N : Type 0} (name : N → List (List ℕ)) (octets : N → List ℕ) → ((n : N) → octets n ≡ wire (name n)) → (fields : List (FieldOf N)) → fields_octets (map (named_by name) fields) ≡ written_fields octets fields
 fields_written name octets are [] = refl
 fields_written name octets are (field ∷ fields) =

@@ -22,7 +22,7 @@ use Rattle.dns_record.specs.Formats.{rdata_format, has_rdata_format}
 use Rattle.dns_plain.specs.Strings.{strings_in}
 use Rattle.dns_rdata.specs.Alike.{Content, each_string, compared, is_hashed, same_name, same_sized, same_fields, same_content, sized_writes, type_writes, content_writes}
 use Rattle.dns_rdata.specs.Boxed.{is_readable, spelled_fields, spelled_content}
-use Rattle.dns_rdata.specs.FieldShapes.{OfKinds, spelled_shaped, SameWidth, SameWidths, widths_of_format, widths_of_strings, text_shaped}
+use Rattle.dns_rdata.specs.FieldShapes.{OfKinds, spelled_shaped, SameWidth, SameWidths, widths_of_format, widths_of_strings, txt_shaped}
 
 -- ---- an equivalence
 
@@ -71,7 +71,7 @@ module _ {N : Type 0} (names : N → N → Bool) (uncompressed : List (List ℕ)
   field_equiv : IsEquivalence (field_eq names uncompressed sized)
   field_equiv = record { refl = itself; symm = either_way; congr = in_place }
 
--- a sameness that depends on a number, where the numbers are equal
+-- a sameness that depends on a number, if the numbers are equal
 module _ {A : Type 0} (k : A → ℕ) (E : ℕ → A → A → Bool) (equiv : (n : ℕ) → IsEquivalence (E n)) where
   either_way_under : (x y : A) → (nat_eq (k x) (k y) && E (k x) x y) ≡ (nat_eq (k y) (k x) && E (k y) y x)
   either_way_under x y = by (nat_eq (k x) (k y)) refl where
@@ -137,8 +137,8 @@ compared_widths rtype fs gs p q = by (has_rdata_format rtype && rtype == 16) ref
   by false e = widths_of_format (rdata_format rtype) fs gs p q
   by true e =
       let is : rtype ≡ 16 = eqb-true rtype 16 (second_so (has_rdata_format rtype) (rtype == 16) e) in
-      let o = text_shaped fs (subst (λ (n : ℕ). OfKinds (rdata_format n) fs) is p) in
-      let r = text_shaped gs (subst (λ (n : ℕ). OfKinds (rdata_format n) gs) is q) in
+      let o = txt_shaped fs (subst (λ (n : ℕ). OfKinds (rdata_format n) fs) is p) in
+      let r = txt_shaped gs (subst (λ (n : ℕ). OfKinds (rdata_format n) gs) is q) in
       subst (λ (l : List Field). SameWidths (flat_map each_string l) (flat_map each_string gs)) (sym o.1)
       (subst (λ (l : List Field). SameWidths (flat_map each_string (Raw o.0 ∷ [])) (flat_map each_string l)) (sym r.1) (widths_of_strings (strings_in o.0) (strings_in r.0)))
 

@@ -15,38 +15,38 @@ use Rattle.dns_rdata.specs.declared.record_data.RecordData.{RecordData}
 use Rattle.dns_rdata.specs.declared.record_data.RecordData.TheVariants.{A, Ns, CName, Soa, Ptr, HInfo, Mx, Txt, Rp, Srv, Aaaa, DName, Opt, Ds, Rrsig, Nsec, DNSKey, Nsec3, Nsec3Param, Cds, CDNSKey, ZoneMD, Unknown}
 
 -- a field of data in which no name may have pointers
-abbrev pub as_plain : {N : Type 0} → Field → FieldOf N
-as_plain (Compressible labels) = Uncompressed labels
-as_plain (Uncompressed labels) = Uncompressed labels
-as_plain (Raw octets) = Raw octets
-as_plain (Sized octets) = Sized octets
-as_plain (Byte b) = Byte b
-as_plain (Number w n) = Number w n
+abbrev pub as_uncompressed : {N : Type 0} → Field → FieldOf N
+as_uncompressed (Compressible labels) = Uncompressed labels
+as_uncompressed (Uncompressed labels) = Uncompressed labels
+as_uncompressed (Raw octets) = Raw octets
+as_uncompressed (Sized octets) = Sized octets
+as_uncompressed (Byte b) = Byte b
+as_uncompressed (Number w n) = Number w n
 
 -- the fields of data, with their names as they are
 abbrev pub data_fields : {N : Type 0} → RecordData N → List (FieldOf N)
-data_fields (A v) = map as_plain (a_fields v)
+data_fields (A v) = map as_uncompressed (a_fields v)
 data_fields (Ns v) = ns_fields v
 data_fields (CName v) = cname_fields v
 data_fields (Soa v) = soa_fields v
 data_fields (Ptr v) = ptr_fields v
-data_fields (HInfo v) = map as_plain (hinfo_fields v)
+data_fields (HInfo v) = map as_uncompressed (hinfo_fields v)
 data_fields (Mx v) = mx_fields v
-data_fields (Txt v) = map as_plain (txt_fields v.slice.now)
+data_fields (Txt v) = map as_uncompressed (txt_fields v.slice.now)
 data_fields (Rp v) = rp_fields v
-data_fields (Srv v) = map as_plain (srv_fields v)
-data_fields (Aaaa v) = map as_plain (aaaa_fields v)
-data_fields (DName v) = map as_plain (dname_fields v)
-data_fields (Opt v) = map as_plain (opt_fields v.slice.now)
-data_fields (Ds v) = map as_plain (ds_fields v)
-data_fields (Rrsig v) = map as_plain (rrsig_fields v)
-data_fields (Nsec v) = map as_plain (nsec_fields v)
-data_fields (DNSKey v) = map as_plain (dnskey_fields v)
-data_fields (Nsec3 v) = map as_plain (nsec3_fields v)
-data_fields (Nsec3Param v) = map as_plain (nsec3param_fields v)
-data_fields (Cds v) = map as_plain (cds_fields v)
-data_fields (CDNSKey v) = map as_plain (cdnskey_fields v)
-data_fields (ZoneMD v) = map as_plain (zonemd_fields (λ digest. digest.now) v)
+data_fields (Srv v) = map as_uncompressed (srv_fields v)
+data_fields (Aaaa v) = map as_uncompressed (aaaa_fields v)
+data_fields (DName v) = map as_uncompressed (dname_fields v)
+data_fields (Opt v) = map as_uncompressed (opt_fields v.slice.now)
+data_fields (Ds v) = map as_uncompressed (ds_fields v)
+data_fields (Rrsig v) = map as_uncompressed (rrsig_fields v)
+data_fields (Nsec v) = map as_uncompressed (nsec_fields v)
+data_fields (DNSKey v) = map as_uncompressed (dnskey_fields v)
+data_fields (Nsec3 v) = map as_uncompressed (nsec3_fields v)
+data_fields (Nsec3Param v) = map as_uncompressed (nsec3param_fields v)
+data_fields (Cds v) = map as_uncompressed (cds_fields v)
+data_fields (CDNSKey v) = map as_uncompressed (cdnskey_fields v)
+data_fields (ZoneMD v) = map as_uncompressed (zonemd_fields (λ digest. digest.now) v)
 data_fields (Unknown rtype v) = Raw v.octets.now ∷ []
 
 -- the number of the type of data
@@ -80,7 +80,7 @@ abbrev pub IsProper : {N : Type 0} → RecordData N → Type 0
 IsProper (Unknown rtype v) = has_rdata_format rtype.code.value ≡ false
 IsProper v = ⊤
 
--- the data are of this type, and not unknown where the type has an RDATA format
+-- the data are of this type, and not unknown if the type has an RDATA format
 abbrev pub IsDataOf : {N : Type 0} → RecordData N → ℕ → Type 0
 IsDataOf v rtype = (rtype ≡ type_number v) × IsProper v
 

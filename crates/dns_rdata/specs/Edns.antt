@@ -1,4 +1,4 @@
--- EDNS records: the root, the number of OPT, and what stands in place of class and time to live (RFC 6891 section 6.1.2).
+-- EDNS records: the root, the number of OPT, and what is in place of class and time to live (RFC 6891 section 6.1.2).
 use Rattle.dns_wire.specs.Octets.{Octets}
 use Rattle.dns_record.specs.Types.{opt_number}
 use Rattle.std.specs.Prelude.{◌≡◌, ℕ, [], ◌∷◌, ◌++◌, drop, take, Option, Some, None, Bool, nat_eq, if◌then◌else◌}
@@ -37,7 +37,7 @@ edns_seen content r = record {
 abbrev pub edns_fixed_header : Octets
 edns_fixed_header = 0 ∷ 0 ∷ opt_number ∷ []
 
--- the octets after the root and the number, where they begin with these
+-- the octets after the root and the number, if they begin with these
 abbrev pub after_fixed_header : Octets → Option Octets
 after_fixed_header bytes = if pointwise nat_eq (take 3 bytes) edns_fixed_header then Some (drop 3 bytes) else None
 
@@ -52,7 +52,7 @@ edns_at content bytes = do
   (body, after_body) ← prefixed w16 content after_flags
   Some (record { payload = payload; ext_rcode = ext_rcode; version = version; flags = flags; content = body }, after_body)
 
--- the octets, where these are those of the data
+-- the octets, if these are those of the data
 abbrev pub edns_octets : {D : Type 0} → EdnsRecord D → Octets → Octets
 edns_octets r octets =
     edns_fixed_header ++ (to_be_bytes w16 r.max_udp_payload.value ++ ((r.ext_rcode ∷ []) ++ ((r.version ∷ []) ++ (to_be_bytes w16 (flag_bits r.flags) ++ sized w16 octets))))

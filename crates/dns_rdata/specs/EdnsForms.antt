@@ -35,7 +35,7 @@ abbrev pub is_root : Labels → Bool
 is_root [] = true
 is_root (label ∷ labels) = false
 
--- the EDNS record whose fields stand as this class and this time to live
+-- the EDNS record whose fields are this class and this time to live
 abbrev pub edns_fields : ℕ → ℕ → Octets → EdnsOf Octets
 edns_fields class ttl octets = record { payload = class; ext_rcode = ttl / 2 ^ 24; version = (ttl / 2 ^ 16) % 2 ^ 8; flags = ttl % 2 ^ 16; content = octets }
 

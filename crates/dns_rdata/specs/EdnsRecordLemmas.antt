@@ -17,7 +17,7 @@ fixed_header_leaves_by true bytes rest is e =
     record { count = 3; within = omega (arith, as_long nat_eq (take 3 bytes) edns_fixed_header is, length-take 3 bytes); rest_is = sym same }
 fixed_header_leaves_by false bytes rest is e = absurd cc
 
--- what stands after the root and the number follows
+-- what comes after the root and the number follows
 fixed_header_leaves : (bytes rest : List ℕ) → after_fixed_header bytes ≡ Some rest → Follows rest bytes
 fixed_header_leaves bytes rest e = fixed_header_leaves_by (pointwise nat_eq (take 3 bytes) edns_fixed_header) bytes rest refl e
 

@@ -75,15 +75,15 @@ pub spelled_shaped : (rtype : ℕ) (bytes : List ℕ) → is_readable rtype byte
 spelled_shaped rtype bytes e = data_shaped rtype bytes (spelled_fields rtype bytes) (spelled_is rtype bytes e)
 
 -- TXT data are strings in one field
-pub text_shaped : (fields : List Field) → OfKinds format_txt fields → (octets : List ℕ) × (fields ≡ Raw octets ∷ [])
-text_shaped [] p = absurd p
-text_shaped (Raw octets ∷ []) p = (octets, refl)
-text_shaped (field ∷ []) p = absurd p.0
-text_shaped (field ∷ other ∷ fields) p = absurd p.1
+pub txt_shaped : (fields : List Field) → OfKinds format_txt fields → (octets : List ℕ) × (fields ≡ Raw octets ∷ [])
+txt_shaped [] p = absurd p
+txt_shaped (Raw octets ∷ []) p = (octets, refl)
+txt_shaped (field ∷ []) p = absurd p.0
+txt_shaped (field ∷ other ∷ fields) p = absurd p.1
 
 -- ---- widths
 
--- where both are numbers, they have as many bits
+-- if both are numbers, they have as many bits
 abbrev pub SameWidth : Field → Field → Type 0
 SameWidth (Number v a) (Number w b) = v ≡ w
 SameWidth f g = Unit {0}

@@ -21,7 +21,7 @@ use Rattle.dns_record.specs.Kinds.Kind.{OneByte, OneNumber, SoMany, Compressible
 use Rattle.dns_record.specs.DataLemmas.{field_leaves}
 use Rattle.dns_record.specs.Options.{options, is_option_data}
 use Rattle.dns_record.specs.Formats.{rdata_format}
-use Rattle.dns_record.specs.CharacterStrings.{character_string, character_strings, is_text_data}
+use Rattle.dns_record.specs.CharacterStrings.{character_string, character_strings, is_txt_data}
 use Rattle.dns_record.specs.TypeBitMaps.{bitmap, some_bitmap, is_bitmap}
 use Rattle.dns_record.proofs.EachFormat.{of_each_format}
 use Rattle.dns_record.proofs.Places.{octet_spelled, octets_spelled, text_spelled}
@@ -64,7 +64,7 @@ some_tested : (bytes found rest : List ℕ) → some_bitmap bytes ≡ Some (foun
 some_tested [] found rest e = absurd cc
 some_tested (number ∷ more) found rest e = tested_spelled is_bitmap (number ∷ more) found rest e
 
--- a number, where its octets are written back
+-- a number, if its octets are written back
 number_spelled : (w : Width) (bytes : List ℕ) (n : ℕ) (rest : List ℕ) → ((bs : List ℕ) (m : ℕ) → length bs ≡ byte_len w → ((i : ℕ) → get_or bs i 0 < 256) → m ≡ from_be_bytes w bs → to_be_bytes w m ≡ bs)
     → AreOctets bytes → number w bytes ≡ Some (n, rest) → bytes ≡ to_be_bytes w n ++ rest
 number_spelled w bytes n rest back are e = by (ltb (length bytes) (byte_len w)) refl e where
@@ -91,7 +91,7 @@ field_spelled (SoMany n) bytes field rest usual are e = put_spelled Raw (octets 
 field_spelled CompressibleName bytes field rest usual are e = put_spelled Compressible (plain_name bytes) bytes field rest (λ labels read. (plain_name_takes bytes labels rest read).1) e
 field_spelled UncompressedName bytes field rest usual are e = put_spelled Uncompressed (plain_name bytes) bytes field rest (λ labels read. (plain_name_takes bytes labels rest read).1) e
 field_spelled CharacterString bytes field rest usual are e = put_spelled Sized (character_string bytes) bytes field rest (λ o read. text_spelled bytes o rest read) e
-field_spelled CharacterStrings bytes field rest usual are e = put_spelled Raw (character_strings bytes) bytes field rest (λ o read. tested_spelled is_text_data bytes o rest read) e
+field_spelled CharacterStrings bytes field rest usual are e = put_spelled Raw (character_strings bytes) bytes field rest (λ o read. tested_spelled is_txt_data bytes o rest read) e
 field_spelled Options bytes field rest usual are e = put_spelled Raw (options bytes) bytes field rest (λ o read. tested_spelled is_option_data bytes o rest read) e
 field_spelled TypeBitMaps bytes field rest usual are e = put_spelled Raw (bitmap bytes) bytes field rest (λ o read. tested_spelled is_bitmap bytes o rest read) e
 field_spelled NonEmptyTypeBitMaps bytes field rest usual are e = put_spelled Raw (some_bitmap bytes) bytes field rest (λ o read. some_tested bytes o rest read) e

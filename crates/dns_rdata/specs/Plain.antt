@@ -8,14 +8,14 @@ use Rattle.dns_rdata.specs.Data.{data_fields, IsDataOf}
 use Rattle.dns_rdata.specs.declared.record_data.RecordData.{RecordData}
 
 -- the RDATA format of the type has no such name
-unfoldable pub is_plain_type : ℕ → Bool
-is_plain_type rtype = is_uncompressed_format (rdata_format rtype)
+unfoldable pub is_uncompressed_type : ℕ → Bool
+is_uncompressed_type rtype = is_uncompressed_format (rdata_format rtype)
 
 -- no such name is read
 abbrev pub no_compressible : {N : Type 0} → Octets → Option (N × Octets)
 no_compressible bytes = None
 
--- What is answered where octets are read for such a type: `Ok` exactly where its RDATA format reads all of them, with data of the type
+-- What is answered when octets are read for such a type: `Ok` exactly if its RDATA format reads all of them, with data of the type
 -- that have these fields.
 abbrev pub ReadsPlain : {N E : Type 0} → Result (RecordData N) E → ℕ → Octets → Type 0
 ReadsPlain {N} (Ok v) rtype bytes = (data_as {N = N} no_compressible rtype bytes ≡ Some (data_fields v)) × IsDataOf v rtype

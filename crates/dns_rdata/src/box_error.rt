@@ -1,4 +1,4 @@
-//! Why record data are not kept in memory of their own.
+//! Why record data are not kept in their own memory.
 
 ghost use Rattle.std.specs.Prelude.{◌≡◌};
 

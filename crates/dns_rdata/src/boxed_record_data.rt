@@ -53,7 +53,7 @@ impl BoxedRecordData {
     ghost use Rattle.dns_rdata.specs.BoxedValue.{boxed_type, boxed_octets};
 
     /// Keeps the octets of these data, names whole. `TooLong` comes exactly above 65,535 octets, before memory is taken.
-    /// `Unreadable` comes where the RDATA format of the type doesn't read the octets, as those of NSEC without a type (RFC 4034 section
+    /// `Unreadable` comes if the RDATA format of the type doesn't read the octets, as those of NSEC without a type (RFC 4034 section
     /// 4.1.2), or unknown octets under the number of a type that has others. `Memory` is out of memory.
     pub fn make<N: BuildBytes>(
         alloc: Global,
@@ -81,7 +81,7 @@ impl BoxedRecordData {
     }
 
     /// Keeps these octets under this type. `TooLong` comes exactly above 65,535 octets, before memory is taken. `Unreadable`
-    /// comes where the RDATA format of the type doesn't read them. `Memory` is out of memory.
+    /// comes if the RDATA format of the type doesn't read them. `Memory` is out of memory.
     pub fn parse(alloc: Global, bytes: &[u8], rtype: RType) -> Result<BoxedRecordData, BoxError>
         ensures octets { IfOk result (λ boxed. boxed_octets boxed ≡ bytes.now) }
         ensures typed { IfOk result (λ boxed. boxed_type boxed ≡ rtype.code.value) }
@@ -99,7 +99,7 @@ impl BoxedRecordData {
         Ok(BoxedRecordData { rtype, octets })
     }
 
-    /// The same data in memory of their own, from where theirs is.
+    /// The same data in their own memory, from where theirs is.
     pub fn try_clone(&self) -> Result<BoxedRecordData, AllocError>
         ensures octets { IfOk result (λ copy. boxed_octets copy ≡ boxed_octets self.now) }
         ensures typed { IfOk result (λ copy. boxed_type copy ≡ boxed_type self.now) }

@@ -14,7 +14,7 @@ use dns_num::SizePrefixed;
 use dns_record::{RClass, RType, Record, TTL};
 use dns_wire::{ParseBytes, ParseError};
 
-/// The record with this owner: the payload stands as its class, and the other fields as its time to live.
+/// The record with this owner: the payload is its class, and the other fields are its time to live.
 fn form_of<'a, O, N>(root: O, edns: EdnsRecord<Opt<'a>>) -> Record<O, RecordData<'a, N>>
     ensures { IsFormOf root edns.entry result }
 {
@@ -44,7 +44,7 @@ impl<'a, N> From<EdnsRecord<Opt<'a>>> for Record<RevNameBuf, RecordData<'a, N>> 
     }
 }
 
-/// The options that the data have. `ParseError` comes exactly where they are neither OPT data nor unknown data with the
+/// The options that the data have. `ParseError` comes exactly if they are neither OPT data nor unknown data with the
 /// number of OPT that are options of at most 65,535 octets in all.
 fn options_of<'a, N: Drop>(rdata: RecordData<'a, N>) -> Result<Opt<'a>, ParseError>
     ensures { Gives (λ options. options.slice.now) result (octets_of_options rdata.entry) }
@@ -77,7 +77,7 @@ fn edns_of<'a>(rclass: RClass, ttl: TTL, options: Opt<'a>) -> EdnsRecord<Opt<'a>
     }
 }
 
-/// `ParseError` comes exactly where the owner is not the root, the type is not OPT, or the data are neither OPT data nor unknown
+/// `ParseError` comes exactly if the owner is not the root, the type is not OPT, or the data are neither OPT data nor unknown
 /// data with the number of OPT that are options of at most 65,535 octets in all.
 impl<'a, N: Drop> TryFrom<Record<NameBuf, RecordData<'a, N>>> for EdnsRecord<Opt<'a>> {
     type Error = ParseError;
@@ -95,7 +95,7 @@ impl<'a, N: Drop> TryFrom<Record<NameBuf, RecordData<'a, N>>> for EdnsRecord<Opt
     }
 }
 
-/// `ParseError` comes exactly where the owner is not the root, the type is not OPT, or the data are neither OPT data nor unknown
+/// `ParseError` comes exactly if the owner is not the root, the type is not OPT, or the data are neither OPT data nor unknown
 /// data with the number of OPT that are options of at most 65,535 octets in all.
 impl<'a, N: Drop> TryFrom<Record<RevNameBuf, RecordData<'a, N>>> for EdnsRecord<Opt<'a>> {
     type Error = ParseError;

@@ -18,7 +18,7 @@ use dns_wire::{
 const FIXED_HEADER: [u8; 3] = [0, 0, 41];
 
 /// What a message says of its sender, and of the message as a whole: an OPT record, whose owner is the root, and which has
-/// fields of its own where others have a class and a time to live (RFC 6891 section 6.1.2).
+/// its own fields where others have a class and a time to live (RFC 6891 section 6.1.2).
 #[derive(Clone, Debug, PartialEq, Eq, Drop)]
 pub struct EdnsRecord<D> {
     /// How many octets of a UDP payload the sender takes.
@@ -65,7 +65,7 @@ impl<D> EdnsRecord<D> {
     }
 }
 
-/// `ParseError` comes exactly where the octets don't begin with the root and the number of OPT, or the fields or the data
+/// `ParseError` comes exactly if the octets don't begin with the root and the number of OPT, or the fields or the data
 /// after them are not read.
 impl<'a, D: ParseBytes<'a>> ReadPlainValue<'a> for EdnsRecord<D> {
     ghost Seen = { EdnsOf D.Seen };
@@ -98,7 +98,7 @@ impl<'a, D: ParseBytes<'a>> ReadPlainValue<'a> for EdnsRecord<D> {
     }
 }
 
-/// The octets after the root and the type of an EDNS record. `ParseError` comes exactly where they don't begin with these.
+/// The octets after the root and the type of an EDNS record. `ParseError` comes exactly if they don't begin with these.
 fn split_fixed_header(bytes: &[u8]) -> Result<&[u8], ParseError>
     ensures exact { Gives (λ rest. rest.now) result (after_fixed_header bytes.now) }
     ensures within { IfOk result (λ rest. length rest.now ≤ length bytes.now) }

@@ -1,6 +1,6 @@
 //! The definitions of this crate in other words.
 
-ghost use Rattle.std.specs.Prelude.{◌≡◌, ◌&&◌, ℕ, List, nat_eq, ◌↔◌, IsTrue};
+ghost use Rattle.std.specs.Prelude.{◌≡◌, ◌&&◌, nat_eq, ◌↔◌, IsTrue};
 ghost use Rattle.std.specs.Cmp.Lexicographic.{pointwise};
 ghost use Rattle.std.specs.Hash.{slice, u8};
 ghost use Rattle.dns_edns.specs.Flags.{flag_bits};
@@ -10,6 +10,7 @@ ghost use Rattle.dns_rdata.specs.Boxed.{AreReadAs};
 ghost use Rattle.dns_rdata.specs.BoxedValue.{boxed_type, boxed_octets};
 ghost use Rattle.dns_rdata.specs.declared.boxed_record_data.BoxedRecordData.{BoxedRecordData};
 ghost use Rattle.dns_rdata.specs.declared.record_data.RecordData.{RecordData};
+ghost use Rattle.dns_wire.specs.Octets.{Octets, Places};
 
 use crate::box_error::BoxError;
 use crate::boxed_record_data::BoxedRecordData;
@@ -21,19 +22,19 @@ use dns_record::CanonicalRecordData;
 use dns_wire::BuildInMessage;
 use std::hash::Hash;
 
-/// Data are equal where they are of the same type, both read as it says or both unknown octets, and all their fields are
+/// Data are equal if they are of the same type, both read as it says or both unknown octets, and all their fields are
 /// the same: names as their type says, character strings without regard to ASCII case (RFC 1035 section 2.3.3), and all
 /// else octet by octet.
 pub fn data_of_any_type_are_equal_by_fields<N: PartialEq>()
     ensures { (a b : _) → ⟦<RecordData<'static, N> as PartialEq>⟧.eq a b ≡ same_content N.eq (content_of a) (content_of b) }
 {}
 
-/// Data feed a hasher what stands for their type, and their fields one after another, names as their type says.
+/// Data feed a hasher what represents their type, and their fields one after another, names as their type says.
 pub fn data_of_any_type_are_hashed_by_fields<N: Hash>()
     ensures { (v : _) → ⟦<RecordData<'static, N> as Hash>⟧.hash_input v ≡ content_writes N.hash_input (content_of v) }
 {}
 
-/// EDNS records are equal where payload size, the part of the response code, version, flags and data are.
+/// EDNS records are equal if payload size, the part of the response code, version, flags and data are.
 pub fn edns_records_are_equal_by_fields<D: PartialEq>()
     ensures { (a b : _) → ⟦<EdnsRecord<D> as PartialEq>⟧.eq a b
         ≡ (nat_eq a.max_udp_payload.value b.max_udp_payload.value && (nat_eq a.ext_rcode b.ext_rcode && (nat_eq a.version b.version
@@ -59,14 +60,14 @@ pub fn boxed_data_are_as_read()
         ⟦<BoxedRecordData as PartialEq>⟧.eq boxed other ≡ ⟦<RecordData<'static, Name<'static>> as PartialEq>⟧.eq read also }
     ensures fed { (boxed : BoxedRecordData) (read : RecordData Name) → AreReadAs (boxed_type boxed) (boxed_octets boxed) read →
         ⟦<BoxedRecordData as Hash>⟧.hash_input boxed ≡ ⟦<RecordData<'static, Name<'static>> as Hash>⟧.hash_input read }
-    ensures built { (boxed : BoxedRecordData) (read : RecordData Name) (contents places : List ℕ) → AreReadAs (boxed_type boxed) (boxed_octets boxed) read →
+    ensures built { (boxed : BoxedRecordData) (read : RecordData Name) (contents : Octets) (places : Places) → AreReadAs (boxed_type boxed) (boxed_octets boxed) read →
         ⟦<BoxedRecordData as BuildInMessage>⟧.writes boxed contents places ≡ ⟦<RecordData<'static, Name<'static>> as BuildInMessage>⟧.writes read contents places }
 {
     data_of_any_type_are_equal_by_fields::<Name<'_>>();
     data_of_any_type_are_hashed_by_fields::<Name<'_>>();
 }
 
-/// Errors are equal exactly where they are the same.
+/// Errors are equal exactly if they are the same.
 pub fn equal_errors()
     ensures boxed { (a b : _) → IsTrue (⟦<BoxError as PartialEq>⟧.eq a b) ↔ (a ≡ b) }
 {}

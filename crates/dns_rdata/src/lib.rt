@@ -1,4 +1,4 @@
-//! Record data of any type in one value, in memory of their own, and EDNS records.
+//! Record data of any type in one value, in their own memory, and EDNS records.
 #![tactic(auto)]
 
 mod box_error;

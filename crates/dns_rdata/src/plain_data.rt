@@ -1,7 +1,7 @@
 //! Reading data whose type has no name that pointers may lead through.
 
 ghost use Rattle.std.specs.Prelude.{◌≡◌, true, Err, MatchResult, IsOkAnd};
-ghost use Rattle.dns_rdata.specs.Plain.{is_plain_type, ReadsPlain};
+ghost use Rattle.dns_rdata.specs.Plain.{is_uncompressed_type, ReadsPlain};
 
 use crate::record_data::RecordData;
 use crate::unknown::UnknownRecordData;
@@ -24,12 +24,12 @@ pub(crate) fn as_data<'a, N, T: Into<RecordData<'a, N>>>(
     }
 }
 
-/// Reads the data of such a type that all the octets spell. `ParseError` comes exactly where they spell none.
+/// Reads the data of such a type that all the octets spell. `ParseError` comes exactly if they spell none.
 pub(crate) fn read_plain<'a, N>(
     bytes: &'a [u8],
     rtype: RType,
 ) -> Result<RecordData<'a, N>, ParseError>
-    requires { is_plain_type rtype.code.value ≡ true }
+    requires { is_uncompressed_type rtype.code.value ≡ true }
     ensures { ReadsPlain result rtype.code.value bytes.now }
 {
     match rtype {

@@ -32,7 +32,7 @@ use dns_wire::{
 use std::alloc::AllocError;
 use std::cmp::Ordering;
 
-/// Whether the type has an RDATA format of its own.
+/// Whether the type has its own RDATA format.
 fn has_rdata_format(rtype: RType) -> bool
     ensures { result ≡ has_rdata_format rtype.code.value }
 {
@@ -110,7 +110,7 @@ pub enum RecordData<'a, N> {
     CDNSKey(CDNSKey<'a>),
     /// The digest of a zone (RFC 8976 section 2.2).
     ZoneMD(ZoneMD<&'a [u8]>),
-    /// Data of a type that has no RDATA format of its own (RFC 3597).
+    /// Data of a type that has no RDATA format (RFC 3597).
     Unknown(RType, UnknownRecordData<'a>),
 }
 
@@ -175,7 +175,7 @@ impl<'a, N> RecordData<'a, N> {
         }
     }
 
-    /// The data as data with names of another type, where they have none that pointers may lead through.
+    /// The data as data with names of another type, if they have none that pointers may lead through.
     fn without_names<R>(&self) -> Option<RecordData<'a, R>>
         ensures { result ≡ without_names self.now }
     {
@@ -439,7 +439,7 @@ impl<N: CanonicalName> RecordData<'_, N> {
     }
 }
 
-/// The fields in order, names in lowercase where the type is one of the nine.
+/// The fields in order, names in lowercase if the type is one of the nine.
 impl<N: CanonicalName> CanonicalRecordData for RecordData<'_, N> {
     ghost canonical = { λ v. canonical_octets (type_number v) (map (named_by N.name) (data_fields v)) };
 

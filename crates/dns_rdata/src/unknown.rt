@@ -17,7 +17,7 @@ use dns_wire::{
 };
 use std::cmp::Ordering;
 
-/// The data of a record whose type has no RDATA format here, as they stand (RFC 3597 section 3).
+/// The data of a record whose type has no RDATA format here, as they are (RFC 3597 section 3).
 #[derive(Clone, Copy, Debug, PartialEq, Eq, Hash)]
 pub struct UnknownRecordData<'a> {
     /// The octets, of any number.
@@ -79,7 +79,7 @@ impl BuildInMessage for UnknownRecordData<'_> {
     }
 }
 
-/// The octets as they stand (RFC 3597 section 7).
+/// The octets as they are (RFC 3597 section 7).
 impl CanonicalRecordData for UnknownRecordData<'_> {
     ghost canonical = { λ v. v.octets.now };
 

@@ -4,7 +4,7 @@ use Rattle.std.specs.Prelude.{◌&&◌}
 use Rattle.std.proofs.lemmas.Bool.{le-ltb, ltb-false}
 use Rattle.std.proofs.lemmas.List.{length-append}
 use Rattle.dns_record.specs.InPlace.{AreCharacterStrings}
-use Rattle.dns_record.specs.CharacterStrings.{character_string, after_text, character_strings_within, is_character_strings, is_text_data, character_strings_octets}
+use Rattle.dns_record.specs.CharacterStrings.{character_string, after_string, character_strings_within, is_character_strings, is_txt_data, character_strings_octets}
 use Rattle.dns_record.proofs.Places.{text_spelled, text_read}
 
 record Within (bytes : List ℕ) : Type 0 where
@@ -18,7 +18,7 @@ unfolding character_strings_within
 within_is zero bytes e = absurd cc
 within_is (suc steps) [] e = record { strings = []; is = refl }
 within_is (suc steps) (size ∷ rest) e = by (character_string (size ∷ rest)) refl e (λ more h. within_is steps more h) where
-  by : (read : Option (List ℕ × List ℕ)) → character_string (size ∷ rest) ≡ read → after_text (λ more. character_strings_within steps more) read ≡ true → ((more : List ℕ) → character_strings_within steps more ≡ true → Within more) → Within (size ∷ rest)
+  by : (read : Option (List ℕ × List ℕ)) → character_string (size ∷ rest) ≡ read → after_string (λ more. character_strings_within steps more) read ≡ true → ((more : List ℕ) → character_strings_within steps more ≡ true → Within more) → Within (size ∷ rest)
   by None read h later = absurd cc
   by (Some (found, more)) read h later =
       let w = later more h in
@@ -36,8 +36,8 @@ first_is (size ∷ rest) e = by w.strings w.is where
   by [] is = absurd cc
   by (first ∷ others) is = (first, others, is)
 
-pub character_strings_are : (bytes : List ℕ) → is_text_data bytes ≡ true → AreCharacterStrings bytes
-unfolding is_text_data
+pub character_strings_are : (bytes : List ℕ) → is_txt_data bytes ≡ true → AreCharacterStrings bytes
+unfolding is_txt_data
 character_strings_are bytes e =
     let parts = and_parts (not (ltb 65535 (length bytes))) (is_character_strings bytes) e in
     let found = first_is bytes parts.1 in
@@ -58,10 +58,10 @@ strings_within strings zero enough = absurd (omega arith)
 strings_within [] (suc steps) enough = refl
 strings_within (found ∷ others) (suc steps) enough =
     let read = text_read found (character_strings_octets others) in
-    ap (after_text (λ more. character_strings_within steps more)) read ∙ strings_within others steps (omega (arith, enough, length-append found (character_strings_octets others)))
+    ap (after_string (λ more. character_strings_within steps more)) read ∙ strings_within others steps (omega (arith, enough, length-append found (character_strings_octets others)))
 
-pub are_character_strings : (bytes : List ℕ) → AreCharacterStrings bytes → is_text_data bytes ≡ true
-unfolding is_text_data is_character_strings
+pub are_character_strings : (bytes : List ℕ) → AreCharacterStrings bytes → is_txt_data bytes ≡ true
+unfolding is_txt_data is_character_strings
 are_character_strings bytes t =
     let few : ltb 65535 (length bytes) ≡ false = le-ltb _ _ (omega (arith, t.short)) in
     let good : is_character_strings bytes ≡ true = ap is_character_strings t.is ∙ strings_within (t.first ∷ t.others) (suc (length (character_strings_octets (t.first ∷ t.others)))) (omega arith) in

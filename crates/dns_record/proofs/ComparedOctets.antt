@@ -1,4 +1,4 @@
--- The order of octets that stand one after another.
+-- The order of octets that come one after another.
 use Rattle.std.proofs.Common.{◌≡◌, ℕ, ◌+◌, ◌*◌, ◌/◌, ◌%◌, ◌^◌, ◌<◌, ◌≤◌, ◌⊎◌, inl, inr, List, [], ◌∷◌, ◌++◌, length, refl, sym, ap, ◌∙◌, append_assoc, append-nil, arith, nat_cmp, Bool, true, false, cond}
 use Rattle.std.specs.Prelude.{map}
 use Rattle.std.specs.Int.{Width, w16, w32, to_be_bytes}
@@ -193,19 +193,19 @@ fields_compared lowercase fs gs is = absurd is
 
 -- ---- field by field
 
--- the first order decides, where it is not Equal
+-- the first order decides, if it is not Equal
 pub decided : (first later : Ordering) → is_ne first ≡ true → first ≡ ordering_then first later
 decided Less later e = refl
 decided Equal later e = absurd cc
 decided Greater later e = refl
 
--- and where it is Equal, the later one does
+-- and if it is Equal, the later one does
 pub undecided : (first later : Ordering) → is_ne first ≡ false → later ≡ ordering_then first later
 undecided Less later e = absurd cc
 undecided Equal later e = refl
 undecided Greater later e = absurd cc
 
--- where the first fields are alike, the others decide
+-- if the first fields are alike, the others decide
 pub first_ties : (lowercase : Bool) (f g : Field) (fs gs : List Field) (r : Ordering) → FieldsMeet f g → field_cmp lowercase f g ≡ Equal → r ≡ slice_cmp nat_cmp (fields_octets (map (lowercased_where lowercase) fs)) (fields_octets (map (lowercased_where lowercase) gs)) → r ≡ slice_cmp nat_cmp (fields_octets (map (lowercased_where lowercase) (f ∷ fs))) (fields_octets (map (lowercased_where lowercase) (g ∷ gs)))
 first_ties lowercase f g fs gs r is e later =
     let rest : Ordering = slice_cmp nat_cmp (fields_octets (map (lowercased_where lowercase) fs)) (fields_octets (map (lowercased_where lowercase) gs)) in
@@ -216,7 +216,7 @@ unequal Less rest n = refl
 unequal Equal rest n = absurd (n refl)
 unequal Greater rest n = refl
 
--- and where they are not, they do
+-- and if they are not, they do
 pub first_decides : (lowercase : Bool) (f g : Field) (fs gs : List Field) (o : Ordering) → FieldsMeet f g → o ≡ field_cmp lowercase f g → (o ≡ Equal → ⊥) → o ≡ slice_cmp nat_cmp (fields_octets (map (lowercased_where lowercase) (f ∷ fs))) (fields_octets (map (lowercased_where lowercase) (g ∷ gs)))
 first_decides lowercase f g fs gs o is e n =
     let rest : Ordering = slice_cmp nat_cmp (fields_octets (map (lowercased_where lowercase) fs)) (fields_octets (map (lowercased_where lowercase) gs)) in

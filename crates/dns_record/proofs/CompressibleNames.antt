@@ -18,7 +18,7 @@ use Rattle.dns_record.specs.Formats.{rdata_format}
 use Rattle.dns_record.specs.Options.{options}
 use Rattle.dns_record.specs.CharacterStrings.{character_string, character_strings}
 use Rattle.dns_record.specs.TypeBitMaps.{bitmap, some_bitmap}
-use Rattle.dns_record.proofs.UncompressedNames.{is_bare, all_uncompressed, is_uncompressed_format, all_placed}
+use Rattle.dns_record.proofs.UncompressedNames.{is_uncompressed, all_uncompressed, is_uncompressed_format, all_placed}
 
 module _ {V S L : Type 0} (seen : V → S) (name : V → L) where
   -- ---- fields that are no names with pointers
@@ -158,9 +158,9 @@ unfolding data_in
 data_again_in seen name reads placed agree rtype c at fields e =
     all_again_in c (fields_in reads (rdata_format rtype) c at) (fields_in placed (rdata_format rtype) c at) (map (named_by seen) fields) (map (named_by name) fields) (λ end h. fields_again_in seen name reads placed agree (rdata_format rtype) c at fields end h) e
 
--- ---- where no name with pointers is among the kinds, the grammar of names is never asked
+-- ---- if no name with pointers is among the kinds, the grammar of names is never asked
 
-field_same : {N : Type 0} (name other : List ℕ → Option (N × List ℕ)) (kind : Kind) (bytes : List ℕ) → is_bare kind ≡ true → field_of name kind bytes ≡ field_of other kind bytes
+field_same : {N : Type 0} (name other : List ℕ → Option (N × List ℕ)) (kind : Kind) (bytes : List ℕ) → is_uncompressed kind ≡ true → field_of name kind bytes ≡ field_of other kind bytes
 field_same name other CompressibleName bytes uncompressed = absurd cc
 field_same name other kind bytes uncompressed = refl
 

@@ -1,4 +1,4 @@
--- What is read at a place, in words: octets that stand there.
+-- What is read at a place, in words: octets that are there.
 use Rattle.std.proofs.Common.{◌≡◌, ℕ, ◌+◌, ◌-◌, ◌≤◌, Bool, true, false, cond, ltb, List, [], ◌∷◌, ◌++◌, length, take, drop, Option, Some, None, refl, sym, ap, ◌∙◌, arith}
 use Rattle.std.specs.Int.{Width, byte_len, from_be_bytes}
 use Rattle.std.proofs.lemmas.Bool.{le-ltb, ltb-false}
@@ -41,7 +41,7 @@ octets_stand contents at found rest end within is end_is =
     record {
       end_is = omega (arith, long, within, end_is);
       within = omega (arith, long, within, end_is);
-      stand = sym (ap (take (length found)) is ∙ take_at found rest (length found) refl);
+      occur = sym (ap (take (length found)) is ∙ take_at found rest (length found) refl);
     }
 
 pub record InPrefix (contents : List ℕ) (at : ℕ) (found : List ℕ) (end : ℕ) : Type 0 where
@@ -52,16 +52,16 @@ pub record InPrefix (contents : List ℕ) (at : ℕ) (found : List ℕ) (end : �
 pub in_prefix : (contents : List ℕ) (at : ℕ) (found : List ℕ) (end : ℕ) → OctetsAt contents at found end → InPrefix contents at found end
 in_prefix contents at found end o = record {
   within = omega (arith, o.end_is, o.within);
-  is = sym (take-append-drop (length found) (drop at contents)) ∙ ap (λ (l : List ℕ). l ++ drop (length found) (drop at contents)) (sym o.stand)
+  is = sym (take-append-drop (length found) (drop at contents)) ∙ ap (λ (l : List ℕ). l ++ drop (length found) (drop at contents)) (sym o.occur)
       ∙ ap (λ (l : List ℕ). found ++ l) (drop-drop (length found) at contents ∙ ap (λ (n : ℕ). drop n contents) (sym o.end_is));
   end_is = omega (arith, o.within, length-drop end contents);
 }
 
--- what a grammar reads that stands for its octets
-pub stands_at : {Y : Type 0} (grammar : List ℕ → Option (Y × List ℕ)) (write : Y → List ℕ) (contents : List ℕ) (at : ℕ) (y : Y) (end : ℕ)
+-- what a grammar reads that represents its octets
+pub occurs_at : {Y : Type 0} (grammar : List ℕ → Option (Y × List ℕ)) (write : Y → List ℕ) (contents : List ℕ) (at : ℕ) (y : Y) (end : ℕ)
     → ((rest : List ℕ) → grammar (drop at contents) ≡ Some (y, rest) → drop at contents ≡ write y ++ rest)
     → plain_at grammar contents at ≡ Some (y, end) → OctetsAt contents at (write y) end
-stands_at grammar write contents at y end spelled e =
+occurs_at grammar write contents at y end spelled e =
     let p = placed grammar contents at y end e in
     octets_stand contents at (write y) p.rest end p.within (spelled p.rest p.read) p.end_is
 

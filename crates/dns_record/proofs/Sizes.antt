@@ -15,7 +15,7 @@ use Rattle.dns_record.specs.Kinds.Kind.{OneByte, OneNumber, SoMany, Compressible
 use Rattle.dns_record.specs.Formats.{rdata_format}
 use Rattle.dns_record.specs.Types.{is_lowercased}
 use Rattle.dns_record.proofs.EachFormat.{of_each_format}
-use Rattle.dns_record.proofs.UncompressedNames.{is_bare, all_uncompressed}
+use Rattle.dns_record.proofs.UncompressedNames.{is_uncompressed, all_uncompressed}
 use Rattle.dns_wire.specs.Pointers.{name_at}
 use Rattle.dns_record.proofs.Worded.{data_is}
 
@@ -46,12 +46,12 @@ digits_long w32 n = refl
 digits_long w64 n = refl
 digits_long w128 n = refl
 
-field_long : (kind : Kind) (contents : List ℕ) (at : ℕ) (field : Field) (end : ℕ) → is_bare kind ≡ true → FieldAt kind contents at field end → end ≡ at + length (field_octets field)
+field_long : (kind : Kind) (contents : List ℕ) (at : ℕ) (field : Field) (end : ℕ) → is_uncompressed kind ≡ true → FieldAt kind contents at field end → end ≡ at + length (field_octets field)
 field_long OneByte contents at (Byte b) end uncompressed is = is.end_is
 field_long (OneNumber w) contents at (Number v n) end uncompressed is = omega (arith, is.1.end_is, digits_long v n, ap byte_len is.0)
 field_long (SoMany n) contents at (Raw octets) end uncompressed is = is.1.end_is
 field_long CompressibleName contents at field end uncompressed is = absurd cc
-field_long UncompressedName contents at (Uncompressed labels) end uncompressed is = is.stands.end_is
+field_long UncompressedName contents at (Uncompressed labels) end uncompressed is = is.occurs.end_is
 field_long CharacterString contents at (Sized octets) end uncompressed is = is.end_is
 field_long CharacterStrings contents at (Raw octets) end uncompressed is = is.1.end_is
 field_long Options contents at (Raw octets) end uncompressed is = is.1.end_is

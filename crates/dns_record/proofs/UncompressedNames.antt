@@ -1,4 +1,4 @@
--- Where no name with pointers is among the kinds, a place in a message is read as the octets from there on.
+-- If no name with pointers is among the kinds, a place in a message is read as the octets from there on.
 use Rattle.std.proofs.Common.{◌≡◌, ℕ, ◌-◌, ◌≤◌, Bool, true, false, cond, ltb, List, [], ◌∷◌, length, drop, Option, Some, None, refl, sym, ap, ◌∙◌, arith}
 use Rattle.std.specs.Prelude.{◌&&◌}
 use Rattle.std.specs.Cmp.{first_so, second_so}
@@ -17,19 +17,19 @@ use Rattle.dns_record.specs.Options.{options}
 use Rattle.dns_record.specs.CharacterStrings.{character_string, character_strings}
 use Rattle.dns_record.specs.TypeBitMaps.{bitmap, some_bitmap}
 
-abbrev pub is_bare : Kind → Bool
-is_bare CompressibleName = false
-is_bare kind = true
+abbrev pub is_uncompressed : Kind → Bool
+is_uncompressed CompressibleName = false
+is_uncompressed kind = true
 
 -- no name with pointers among the kinds
 abbrev pub all_uncompressed : List Kind → Bool
 all_uncompressed [] = true
-all_uncompressed (kind ∷ kinds) = is_bare kind && all_uncompressed kinds
+all_uncompressed (kind ∷ kinds) = is_uncompressed kind && all_uncompressed kinds
 
 -- the same of an RDATA format, which has a kind
 abbrev pub is_uncompressed_format : List Kind → Bool
 is_uncompressed_format [] = false
-is_uncompressed_format (kind ∷ kinds) = is_bare kind && all_uncompressed kinds
+is_uncompressed_format (kind ∷ kinds) = is_uncompressed kind && all_uncompressed kinds
 
 -- ---- kinds at a place
 
@@ -48,7 +48,7 @@ plain_first : {A B : Type 0} (g : List ℕ → Option (A × List ℕ)) (to : A �
 plain_first g to c at = first_at to c (ltb (length c) at) (g (drop at c))
 
 module _ {N : Type 0} (place : List ℕ → ℕ → Option (N × ℕ)) (name : List ℕ → Option (N × List ℕ)) (leaves : LeavesRest name) where
-  pub field_placed : (kind : Kind) (c : List ℕ) (at : ℕ) → is_bare kind ≡ true → field_in place kind c at ≡ plain_at (field_of name kind) c at
+  pub field_placed : (kind : Kind) (c : List ℕ) (at : ℕ) → is_uncompressed kind ≡ true → field_in place kind c at ≡ plain_at (field_of name kind) c at
   field_placed OneByte c at uncompressed = plain_first octet Byte c at
   field_placed (OneNumber w) c at uncompressed = plain_first (number w) (Number w) c at
   field_placed (SoMany n) c at uncompressed = plain_first (octets n) Raw c at
@@ -65,7 +65,7 @@ module _ {N : Type 0} (place : List ℕ → ℕ → Option (N × ℕ)) (name : L
   in_prefix f c None = refl
   in_prefix f c (Some (others, rest)) = refl
 
-  -- the kinds after the first, where the first has been read
+  -- the kinds after the first, if the first has been read
   after_first : (kinds : List Kind) (c bytes : List ℕ) (read : Option (FieldOf N × List ℕ)) → ((f : FieldOf N) (rest : List ℕ) → read ≡ Some (f, rest) → Follows rest c) → ((later : ℕ) → later ≤ length c → fields_in place kinds c later ≡ plain_at (fields_of name kinds) c later) → then_rest (fields_in place kinds c) (with_end c read) ≡ with_end c (then_rest (fields_of name kinds) read)
   after_first kinds c bytes None ends again = refl
   after_first kinds c bytes (Some (f, rest)) ends again =
@@ -76,7 +76,7 @@ module _ {N : Type 0} (place : List ℕ → ℕ → Option (N × ℕ)) (name : L
       let found : fields_in place kinds c (length c - length rest) ≡ with_end c (fields_of name kinds rest) = again (length c - length rest) (omega arith) ∙ rw (fits, same) refl in
       ap (put_first f) found ∙ in_prefix f c (fields_of name kinds rest)
 
-  from_place : (kind : Kind) (kinds : List Kind) (c : List ℕ) (at : ℕ) (b : Bool) → ltb (length c) at ≡ b → is_bare kind ≡ true → ((later : ℕ) → later ≤ length c → fields_in place kinds c later ≡ plain_at (fields_of name kinds) c later) → fields_in place (kind ∷ kinds) c at ≡ cond b None (with_end c (fields_of name (kind ∷ kinds) (drop at c)))
+  from_place : (kind : Kind) (kinds : List Kind) (c : List ℕ) (at : ℕ) (b : Bool) → ltb (length c) at ≡ b → is_uncompressed kind ≡ true → ((later : ℕ) → later ≤ length c → fields_in place kinds c later ≡ plain_at (fields_of name kinds) c later) → fields_in place (kind ∷ kinds) c at ≡ cond b None (with_end c (fields_of name (kind ∷ kinds) (drop at c)))
   from_place kind kinds c at true is uncompressed again = rw (field_placed kind c at uncompressed, is) refl
   from_place kind kinds c at false is uncompressed again =
       let here : Follows (drop at c) c = record { count = at; within = ltb-false _ _ is; rest_is = refl } in

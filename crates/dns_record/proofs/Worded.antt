@@ -22,12 +22,12 @@ use Rattle.dns_record.specs.Questions.{QuestionOf, question_in}
 use Rattle.dns_record.specs.Records.{RecordOf, record_in, end_of}
 use Rattle.dns_record.specs.Formats.{rdata_format}
 use Rattle.dns_record.specs.Options.{options, is_option_data}
-use Rattle.dns_record.specs.CharacterStrings.{character_string, character_strings, is_text_data}
+use Rattle.dns_record.specs.CharacterStrings.{character_string, character_strings, is_txt_data}
 use Rattle.dns_record.specs.TypeBitMaps.{bitmap, some_bitmap, is_bitmap}
 use Rattle.dns_record.proofs.Bitmaps.{bitmap_is, is_this_bitmap}
 use Rattle.dns_record.proofs.Opted.{options_are, are_these_options}
 use Rattle.dns_record.proofs.CharacterStringLemmas.{are_character_strings, character_strings_are}
-use Rattle.dns_record.proofs.Places.{placed, stands_at, read_at, read_placed, octet_spelled, octets_spelled, octets_read, text_spelled, text_read, number_at, read_number}
+use Rattle.dns_record.proofs.Places.{placed, occurs_at, read_at, read_placed, octet_spelled, octets_spelled, octets_read, text_spelled, text_read, number_at, read_number}
 
 -- ---- steps
 
@@ -59,10 +59,10 @@ rest_spelled contents at found end e =
     let p = placed (λ bytes. Some (bytes, [])) contents at found end e in
     let same = some_pair_parts (drop at contents) found [] p.rest p.read in (
       omega (arith, p.end_is, ap length same.1),
-      stands_at (λ bytes. Some (bytes, [])) (λ o. o) contents at found end (λ rest read. let both = some_pair_parts (drop at contents) found [] rest read in both.0 ∙ sym (append-nil found) ∙ ap (λ (l : List ℕ). found ++ l) both.1) e,
+      occurs_at (λ bytes. Some (bytes, [])) (λ o. o) contents at found end (λ rest read. let both = some_pair_parts (drop at contents) found [] rest read in both.0 ∙ sym (append-nil found) ∙ ap (λ (l : List ℕ). found ++ l) both.1) e,
     )
 
--- all the octets, where they pass a test
+-- all the octets, if they pass a test
 abbrev tested : (List ℕ → Bool) → List ℕ → Option (List ℕ × List ℕ)
 tested good bytes = cond (good bytes) (Some (bytes, [])) None
 
@@ -83,14 +83,14 @@ module _ (good : List ℕ → Bool) (Is : List ℕ → Type 0) where
         by true is rest end_is h =
             let same = some_pair_parts (drop at contents) found [] rest h in (
               omega (arith, end_is, ap length same.1),
-              stands_at (tested good) (λ o. o) contents at found end (λ left read. tested_whole (drop at contents) found left read) e,
+              occurs_at (tested good) (λ o. o) contents at found end (λ left read. tested_whole (drop at contents) found left read) e,
               subst Is same.0 (is_so (drop at contents) is),
             )
 
   tested_read : (contents : List ℕ) (at : ℕ) (found : List ℕ) (end : ℕ) → end ≡ length contents → OctetsAt contents at found end → good found ≡ true → plain_at (tested good) contents at ≡ Some (found, end)
   tested_read contents at found end whole o is =
       let fits : ltb (length contents) at ≡ false = le-ltb _ _ (omega (arith, o.end_is, o.within)) in
-      let all : drop at contents ≡ found = sym (take_all (length found) (drop at contents) (omega (arith, o.end_is, whole, length-drop at contents))) ∙ sym o.stand in
+      let all : drop at contents ≡ found = sym (take_all (length found) (drop at contents) (omega (arith, o.end_is, whole, length-drop at contents))) ∙ sym o.occur in
       let here : tested good (drop at contents) ≡ Some (found, []) = ap (tested good) all ∙ rw is refl in
       let last : length contents - 0 ≡ end = omega (arith, whole) in
       rw (fits, here) (ap (λ (n : ℕ). Some (found, n)) last)
@@ -119,7 +119,7 @@ some_found contents at found end whole o is some =
 field_is : (kind : Kind) (contents : List ℕ) (at : ℕ) (field : Field) (end : ℕ) → field_in name_at kind contents at ≡ Some (field, end) → FieldAt kind contents at field end
 field_is OneByte contents at field end e =
     let p = put_in Byte (plain_at octet contents at) field end e in
-    subst (λ (f : Field). FieldAt OneByte contents at f end) p.is (stands_at octet (λ b. b ∷ []) contents at p.value end (λ rest read. octet_spelled (drop at contents) p.value rest read) p.first)
+    subst (λ (f : Field). FieldAt OneByte contents at f end) p.is (occurs_at octet (λ b. b ∷ []) contents at p.value end (λ rest read. octet_spelled (drop at contents) p.value rest read) p.first)
 field_is (OneNumber w) contents at field end e =
     let p = put_in (Number w) (plain_at (number w) contents at) field end e in
     subst (λ (f : Field). FieldAt (OneNumber w) contents at f end) p.is (refl, number_at w contents at p.value end p.first)
@@ -127,7 +127,7 @@ field_is (SoMany n) contents at field end e =
     let p = put_in Raw (plain_at (octets n) contents at) field end e in
     let q = placed (octets n) contents at p.value end p.first in
     subst (λ (f : Field). FieldAt (SoMany n) contents at f end) p.is
-    ((octets_spelled n (drop at contents) p.value q.rest q.read).0, stands_at (octets n) (λ o. o) contents at p.value end (λ rest read. (octets_spelled n (drop at contents) p.value rest read).1) p.first)
+    ((octets_spelled n (drop at contents) p.value q.rest q.read).0, occurs_at (octets n) (λ o. o) contents at p.value end (λ rest read. (octets_spelled n (drop at contents) p.value rest read).1) p.first)
 field_is CompressibleName contents at field end e =
     let p = put_in Compressible (name_at contents at) field end e in
     subst (λ (f : Field). FieldAt CompressibleName contents at f end) p.is (name_at_is contents at p.value end p.first)
@@ -137,14 +137,14 @@ field_is UncompressedName contents at field end e =
     subst (λ (f : Field). FieldAt UncompressedName contents at f end) p.is
     (record {
       name = (plain_name_takes (drop at contents) p.value q.rest q.read).0;
-      stands = stands_at plain_name wire contents at p.value end (λ rest read. (plain_name_takes (drop at contents) p.value rest read).1) p.first;
+      occurs = occurs_at plain_name wire contents at p.value end (λ rest read. (plain_name_takes (drop at contents) p.value rest read).1) p.first;
     })
 field_is CharacterString contents at field end e =
     let p = put_in Sized (plain_at character_string contents at) field end e in
-    subst (λ (f : Field). FieldAt CharacterString contents at f end) p.is (stands_at character_string (λ o. length o ∷ o) contents at p.value end (λ rest read. text_spelled (drop at contents) p.value rest read) p.first)
+    subst (λ (f : Field). FieldAt CharacterString contents at f end) p.is (occurs_at character_string (λ o. length o ∷ o) contents at p.value end (λ rest read. text_spelled (drop at contents) p.value rest read) p.first)
 field_is CharacterStrings contents at field end e =
     let p = put_in Raw (plain_at character_strings contents at) field end e in
-    subst (λ (f : Field). FieldAt CharacterStrings contents at f end) p.is (tested_spelled is_text_data AreCharacterStrings character_strings_are contents at p.value end p.first)
+    subst (λ (f : Field). FieldAt CharacterStrings contents at f end) p.is (tested_spelled is_txt_data AreCharacterStrings character_strings_are contents at p.value end p.first)
 field_is Options contents at field end e =
     let p = put_in Raw (plain_at options contents at) field end e in
     subst (λ (f : Field). FieldAt Options contents at f end) p.is (tested_spelled is_option_data AreOptions options_are contents at p.value end p.first)
@@ -161,7 +161,7 @@ field_is Rest contents at field end e =
 rest_read : (contents : List ℕ) (at : ℕ) (found : List ℕ) (end : ℕ) → end ≡ length contents → OctetsAt contents at found end → plain_at (λ bytes. Some (bytes, [])) contents at ≡ Some (found, end)
 rest_read contents at found end whole o =
     let fits : ltb (length contents) at ≡ false = le-ltb _ _ (omega (arith, o.end_is, o.within)) in
-    let all : drop at contents ≡ found = sym (take_all (length found) (drop at contents) (omega (arith, o.end_is, whole, length-drop at contents))) ∙ sym o.stand in
+    let all : drop at contents ≡ found = sym (take_all (length found) (drop at contents) (omega (arith, o.end_is, whole, length-drop at contents))) ∙ sym o.occur in
     let last : length contents - 0 ≡ end = omega (arith, whole) in
     rw fits (ap (λ (l : List ℕ). Some (l, length contents - 0)) all ∙ ap (λ (n : ℕ). Some (found, n)) last)
 
@@ -172,9 +172,9 @@ field_found (OneNumber w) contents at (Number v n) end h =
     read ∙ ap (λ (u : Width). Some (Number u n, end)) (sym h.0)
 field_found (SoMany n) contents at (Raw found) end h = ap (first_to Raw) (read_at (octets n) (λ o. o) contents at found end (λ rest. octets_read n found rest h.0) h.1)
 field_found CompressibleName contents at (Compressible labels) end h = ap (first_to Compressible) (name_at_finds contents at labels end h)
-field_found UncompressedName contents at (Uncompressed labels) end h = ap (first_to Uncompressed) (read_at plain_name wire contents at labels end (λ rest. plain_name_again (wire labels ++ rest) labels rest h.name refl) h.stands)
+field_found UncompressedName contents at (Uncompressed labels) end h = ap (first_to Uncompressed) (read_at plain_name wire contents at labels end (λ rest. plain_name_again (wire labels ++ rest) labels rest h.name refl) h.occurs)
 field_found CharacterString contents at (Sized found) end h = ap (first_to Sized) (read_at character_string (λ o. length o ∷ o) contents at found end (λ rest. text_read found rest) h)
-field_found CharacterStrings contents at (Raw found) end h = ap (first_to Raw) (tested_read is_text_data AreCharacterStrings contents at found end h.0 h.1 (are_character_strings found h.2))
+field_found CharacterStrings contents at (Raw found) end h = ap (first_to Raw) (tested_read is_txt_data AreCharacterStrings contents at found end h.0 h.1 (are_character_strings found h.2))
 field_found Options contents at (Raw found) end h = ap (first_to Raw) (tested_read is_option_data AreOptions contents at found end h.0 h.1 (are_these_options found h.2))
 field_found TypeBitMaps contents at (Raw found) end h = ap (first_to Raw) (tested_read is_bitmap AreWindows contents at found end h.0 h.1 (is_this_bitmap found h.2))
 field_found NonEmptyTypeBitMaps contents at (Raw found) end h = ap (first_to Raw) (some_found contents at found end h.0 h.1 h.2 h.3)

@@ -5,7 +5,7 @@ use Rattle.dns_wire.specs.Octets.{Octets}
 use Rattle.dns_record.specs.declared.charstr_error.CharStrParseError.{CharStrParseError}
 use Rattle.dns_record.specs.declared.charstr_error.CharStrParseError.TheVariants.{Overlong, InvalidChar}
 
--- the text's octets, unless a backslash (92) stands among them, or else they are more than 255
+-- the text's octets, unless a backslash (92) is among them, or else they are more than 255
 abbrev pub charstr_of : Octets → Result Octets CharStrParseError
 charstr_of text =
     if list_any (λ b. b == 92) text then Err InvalidChar

@@ -1,4 +1,4 @@
--- Character strings: at most 255 octets, which stand on the wire after an octet with their number (RFC 1035 section 3.3).
+-- Character strings: at most 255 octets, which come on the wire after an octet with their number (RFC 1035 section 3.3).
 -- `text` of `Kinds` reads them.
 use Rattle.std.specs.Prelude.{◌<◌, Bool, ◌∷◌, length, drop, nat_eq}
 use Rattle.std.specs.Cmp.Lexicographic.{pointwise}
@@ -13,7 +13,7 @@ FitsCharacterString octets = length octets < 256
 abbrev pub charstr_wire : Octets → Octets
 charstr_wire octets = length octets ∷ octets
 
--- the octets of a string that stands on the wire
+-- the octets of a string that is on the wire
 abbrev pub octets_of : Octets → Octets
 octets_of wire = drop 1 wire
 

@@ -7,15 +7,15 @@ abbrev pub character_string : Octets → Option (Octets × Octets)
 character_string [] = None
 character_string (size ∷ rest) = if nat_lt (length rest) size then None else Some (take size rest, drop size rest)
 
-abbrev pub after_text : (Octets → Bool) → Option (Octets × Octets) → Bool
-after_text more None = false
-after_text more (Some (found, rest)) = more rest
+abbrev pub after_string : (Octets → Bool) → Option (Octets × Octets) → Bool
+after_string more None = false
+after_string more (Some (found, rest)) = more rest
 
--- any number of strings and nothing else, where fewer than steps are read
+-- any number of strings and nothing else, if fewer than steps are read
 unfoldable pub character_strings_within : ℕ → Octets → Bool
 character_strings_within zero bytes = false
 character_strings_within (suc steps) [] = true
-character_strings_within (suc steps) (size ∷ rest) = after_text (λ more. character_strings_within steps more) (character_string (size ∷ rest))
+character_strings_within (suc steps) (size ∷ rest) = after_string (λ more. character_strings_within steps more) (character_string (size ∷ rest))
 
 -- One string or more, and nothing else. `AreCharacterStrings` says it in other words.
 unfoldable pub is_character_strings : Octets → Bool
@@ -23,12 +23,12 @@ is_character_strings [] = false
 is_character_strings (size ∷ rest) = character_strings_within (suc (length (size ∷ rest))) (size ∷ rest)
 
 -- the same, of no more octets than the size of a record can say
-unfoldable pub is_text_data : Octets → Bool
-is_text_data bytes = not (nat_lt 65535 (length bytes)) && is_character_strings bytes
+unfoldable pub is_txt_data : Octets → Bool
+is_txt_data bytes = not (nat_lt 65535 (length bytes)) && is_character_strings bytes
 
--- all the octets, where they are such
+-- all the octets, if they are such
 abbrev pub character_strings : Octets → Option (Octets × Octets)
-character_strings bytes = if is_text_data bytes then Some (bytes, []) else None
+character_strings bytes = if is_txt_data bytes then Some (bytes, []) else None
 
 -- ---- in other words
 

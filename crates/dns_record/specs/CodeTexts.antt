@@ -2,7 +2,7 @@
 use Rattle.std.specs.Prelude.{ℕ, List, [], ◌∷◌, ◌++◌, ◌==◌, codes, decimal, if◌then◌else◌}
 use Rattle.dns_wire.specs.Octets.{Octets}
 
--- the text that a table has for a number, and where it has none another
+-- the text that a table has for a number, and if it has none another
 abbrev pub text_in : List (ℕ × Octets) → Octets → ℕ → Octets
 text_in [] other number = other
 text_in ((known, text) ∷ more) other number = if number == known then text else text_in more other number

@@ -11,7 +11,7 @@ use Rattle.dns_record.specs.Formats.{rdata_format}
 unfoldable pub data_as : {N : Type 0} → (Octets → Option (N × Octets)) → ℕ → Octets → Option (List (FieldOf N))
 data_as name rtype bytes = all_of (fields_of name (rdata_format rtype) bytes)
 
--- the fields that stand from a place to the end of the contents, for a type number
+-- the fields from a place to the end of the contents, for a type number
 unfoldable pub data_in : {N : Type 0} → (Octets → ℕ → Option (N × ℕ)) → ℕ → Octets → ℕ → Option (List (FieldOf N))
 data_in name rtype contents at = all_at contents (fields_in name (rdata_format rtype) contents at)
 

@@ -14,18 +14,18 @@ use Rattle.dns_record.specs.Kinds.Kind.{OneByte, OneNumber, SoMany, Compressible
 use Rattle.dns_record.specs.Options.{options, is_option_data}
 use Rattle.dns_record.specs.Questions.{question_at, question_in}
 use Rattle.dns_record.specs.Records.{record_at, record_in, end_of}
-use Rattle.dns_record.specs.CharacterStrings.{character_string, character_strings, is_text_data}
+use Rattle.dns_record.specs.CharacterStrings.{character_string, character_strings, is_txt_data}
 use Rattle.dns_record.specs.TypeBitMaps.{bitmap, some_bitmap, is_bitmap}
 
 -- ---- strings and bitmaps
 
-pub text_leaves : LeavesRest character_string
-text_leaves [] octets rest e = absurd cc
-text_leaves (size ∷ bytes) octets rest e =
+pub character_string_leaves : LeavesRest character_string
+character_string_leaves [] octets rest e = absurd cc
+character_string_leaves (size ∷ bytes) octets rest e =
     follows_both (size ∷ bytes) bytes rest (record { count = 1; within = omega arith; rest_is = refl }) (counted_leaves (ltb (length bytes) size) size bytes (take size bytes) octets rest refl e)
 
 pub character_strings_leave : LeavesRest character_strings
-character_strings_leave bytes octets rest e = tested_leaves (is_text_data bytes) bytes octets rest e
+character_strings_leave bytes octets rest e = tested_leaves (is_txt_data bytes) bytes octets rest e
 
 pub options_leave : LeavesRest options
 options_leave bytes octets rest e = tested_leaves (is_option_data bytes) bytes octets rest e
@@ -45,7 +45,7 @@ field_leaves name leaves (OneNumber w) = put_leaves (Number w) (number w) (numbe
 field_leaves name leaves (SoMany n) = put_leaves Raw (octets n) (octets_leave n)
 field_leaves name leaves CompressibleName = put_leaves Compressible name leaves
 field_leaves name leaves UncompressedName = put_leaves Uncompressed plain_name plain_name_leaves
-field_leaves name leaves CharacterString = put_leaves Sized character_string text_leaves
+field_leaves name leaves CharacterString = put_leaves Sized character_string character_string_leaves
 field_leaves name leaves CharacterStrings = put_leaves Raw character_strings character_strings_leave
 field_leaves name leaves Options = put_leaves Raw options options_leave
 field_leaves name leaves TypeBitMaps = put_leaves Raw bitmap bitmap_leaves
@@ -68,7 +68,7 @@ field_ends name ends (OneNumber w) = put_ends (Number w) (plain_at (number w)) (
 field_ends name ends (SoMany n) = put_ends Raw (plain_at (octets n)) (plain_ends (octets n) (octets_leave n))
 field_ends name ends CompressibleName = put_ends Compressible name ends
 field_ends name ends UncompressedName = put_ends Uncompressed (plain_at plain_name) (plain_ends plain_name plain_name_leaves)
-field_ends name ends CharacterString = put_ends Sized (plain_at character_string) (plain_ends character_string text_leaves)
+field_ends name ends CharacterString = put_ends Sized (plain_at character_string) (plain_ends character_string character_string_leaves)
 field_ends name ends CharacterStrings = put_ends Raw (plain_at character_strings) (plain_ends character_strings character_strings_leave)
 field_ends name ends Options = put_ends Raw (plain_at options) (plain_ends options options_leave)
 field_ends name ends TypeBitMaps = put_ends Raw (plain_at bitmap) (plain_ends bitmap bitmap_leaves)

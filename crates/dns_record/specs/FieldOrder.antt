@@ -1,4 +1,4 @@
--- How data are compared and fed to a hasher: field by field, in the order in which the fields stand on the wire.
+-- How data are compared and fed to a hasher: field by field, in the order in which the fields come on the wire.
 use Rattle.std.specs.Prelude.{List, [], ◌∷◌, Bool, false, nat_eq}
 use Rattle.std.specs.List.{flat_map}
 use Rattle.std.specs.declared.cmp.Ordering.{Ordering}
@@ -13,7 +13,7 @@ use Rattle.dns_record.specs.Fields.FieldOf.{Compressible, Uncompressed, Raw, Siz
 
 -- ---- order
 
--- two fields: names as given, for those that may have pointers and for those without; octets as they stand; numbers as
+-- two fields: names as given, for those that may have pointers and for those without; octets as they are; numbers as
 -- numbers
 abbrev pub field_cmp : {N : Type 0} → (N → N → Ordering) → (Labels → Labels → Ordering) → FieldOf N → FieldOf N → Ordering
 field_cmp named uncompressed (Compressible a) (Compressible b) = named a b
@@ -30,7 +30,7 @@ fields_cmp named uncompressed = slice_cmp (field_cmp named uncompressed)
 
 -- ---- equality
 
--- two fields: names and strings with their size as given; octets as they stand; numbers as numbers
+-- two fields: names and strings with their size as given; octets as they are; numbers as numbers
 abbrev pub field_eq : {N : Type 0} → (N → N → Bool) → (Labels → Labels → Bool) → (Octets → Octets → Bool) → FieldOf N → FieldOf N → Bool
 field_eq named uncompressed sized (Compressible a) (Compressible b) = named a b
 field_eq named uncompressed sized (Uncompressed a) (Uncompressed b) = uncompressed a b

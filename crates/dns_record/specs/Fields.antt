@@ -55,7 +55,7 @@ lowercased_field (Sized octets) = Sized octets
 lowercased_field (Byte b) = Byte b
 lowercased_field (Number w n) = Number w n
 
--- the fields, with names in lowercase where the type is one of the nine
+-- the fields, with names in lowercase if the type is one of the nine
 abbrev pub canonical_fields : ℕ → List Field → List Field
 canonical_fields rtype fields = if is_lowercased rtype then map lowercased_field fields else fields
 

@@ -77,7 +77,7 @@ format_nsec3param = OneByte ∷ OneByte ∷ OneNumber w16 ∷ CharacterString �
 abbrev pub format_zonemd : List Kind
 format_zonemd = OneNumber w32 ∷ OneByte ∷ OneByte ∷ Rest ∷ []
 
--- the data of a type that has no RDATA format of its own are octets (RFC 3597 section 3)
+-- the data of a type without its own RDATA format are octets (RFC 3597 section 3)
 abbrev pub format_unknown : List Kind
 format_unknown = Rest ∷ []
 
@@ -109,7 +109,7 @@ rdata_formats =
     ∷ (63, format_zonemd)
     ∷ []
 
--- the RDATA format that stands under a number
+-- the RDATA format of a number
 abbrev pub format_under : List (ℕ × List Kind) → ℕ → Option (List Kind)
 format_under [] rtype = None
 format_under ((number, format) ∷ others) rtype = if rtype == number then Some format else format_under others rtype

@@ -20,8 +20,8 @@ question_writes name qtype class = then_writes name (octets_writes (to_be_bytes 
 -- ---- records
 
 -- the octets between a record's owner and the size of its data
-abbrev pub record_numbers : ℕ → ℕ → ℕ → Octets
-record_numbers rtype class ttl = to_be_bytes w16 rtype ++ (to_be_bytes w16 class ++ to_be_bytes w32 ttl)
+abbrev pub fixed_header : ℕ → ℕ → ℕ → Octets
+fixed_header rtype class ttl = to_be_bytes w16 rtype ++ (to_be_bytes w16 class ++ to_be_bytes w32 ttl)
 
 -- an owner, these octets, and data after their size
 abbrev pub record_writes : CompressedWrite → Octets → CompressedWrite → CompressedWrite
@@ -73,7 +73,7 @@ one_name (Some (NamePart labels ∷ [])) = Some (NamePart labels ∷ [])
 one_name (Some (NamePart labels ∷ part ∷ layout)) = None
 one_name (Some (OctetsPart octets ∷ layout)) = None
 
--- a part for each field, where each name is one part
+-- a part for each field, if each name is one part
 abbrev pub fields_layout : {N : Type 0} → (N → Option (List LayoutPart)) → List (FieldOf N) → Option (List LayoutPart)
 fields_layout name [] = Some []
 fields_layout name (field ∷ fields) = both_layouts (of_field (λ n. one_name (name n)) (λ octets. Some (OctetsPart octets ∷ [])) field) (fields_layout name fields)

@@ -1,5 +1,5 @@
 -- Questions, records and their data in place, in the words of the standard (RFC 1035 sections 3.2.1, 3.3 and 4.1). Contents
--- are a message's octets after its header. Each relation says what stands from a place up to an end.
+-- are a message's octets after its header. Each relation says what goes from a place up to an end.
 use Rattle.std.specs.Prelude.{◌≡◌, ℕ, suc, ◌+◌, ◌-◌, ◌≤◌, ◌<◌, ◌^◌, List, [], ◌∷◌, ◌++◌, length, take, drop, slice_index, ⊤}
 use Rattle.std.specs.Int.{Width, w16, w32, byte_len, from_be_bytes}
 use Rattle.dns_wire.specs.Octets.{Octets, Labels}
@@ -22,7 +22,7 @@ use Rattle.dns_record.specs.TypeBitMaps.{Window, windows_octets}
 pub record OctetsAt (contents : Octets) (at : ℕ) (octets : Octets) (end : ℕ) : Type 0 where
   pub end_is : end ≡ at + length octets
   pub within : end ≤ length contents
-  pub stand : octets ≡ take (length octets) (drop at contents)
+  pub occur : octets ≡ take (length octets) (drop at contents)
 
 -- a number of that many bits, the most significant octet first
 pub record NumberAt (contents : Octets) (at : ℕ) (w : Width) (n : ℕ) (end : ℕ) : Type 0 where
@@ -33,7 +33,7 @@ pub record NumberAt (contents : Octets) (at : ℕ) (w : Width) (n : ℕ) (end : 
 -- a name without pointers
 pub record PlainNameAt (contents : Octets) (at : ℕ) (labels : Labels) (end : ℕ) : Type 0 where
   pub name : IsName labels
-  pub stands : OctetsAt contents at (wire labels) end
+  pub occurs : OctetsAt contents at (wire labels) end
 
 -- these octets are strings, at least one, each after an octet with their number, and no more than a size can say
 pub record AreCharacterStrings (octets : Octets) : Type 0 where

@@ -17,7 +17,7 @@ option bytes = do
   (content, rest) ← octets size after_size
   Some (record { code = code; content = content }, rest)
 
--- options and nothing else, where fewer than steps are read
+-- options and nothing else, if fewer than steps are read
 unfoldable pub options_within : ℕ → Octets → Option (List OptionSeen)
 options_within zero bytes = None
 options_within (suc steps) [] = Some []
@@ -42,6 +42,6 @@ is_options bytes = are_some (options_of bytes)
 unfoldable pub is_option_data : Octets → Bool
 is_option_data bytes = not (nat_lt 65535 (length bytes)) && is_options bytes
 
--- all the octets, where they are such
+-- all the octets, if they are such
 abbrev pub options : Octets → Option (Octets × Octets)
 options bytes = if is_option_data bytes then Some (bytes, []) else None

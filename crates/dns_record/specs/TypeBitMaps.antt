@@ -24,7 +24,7 @@ abbrev pub window : ℕ → Octets → Option (Window × Octets)
 window least [] = None
 window least (number ∷ rest) = window_if least number (character_string rest)
 
--- windows and nothing else, where fewer than steps are read
+-- windows and nothing else, if fewer than steps are read
 unfoldable pub windows_within : ℕ → ℕ → Octets → Option (List Window)
 windows_within zero least bytes = None
 windows_within (suc steps) least [] = Some []
@@ -45,7 +45,7 @@ is_some (Some found) = true
 unfoldable pub is_bitmap : Octets → Bool
 is_bitmap bytes = is_some (windows_of bytes)
 
--- all the octets, where they are a bitmap
+-- all the octets, if they are a bitmap
 abbrev pub bitmap : Octets → Option (Octets × Octets)
 bitmap bytes = if is_bitmap bytes then Some (bytes, []) else None
 

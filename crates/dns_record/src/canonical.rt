@@ -12,7 +12,7 @@ use std::rc::Rc;
 /// Record data that have a canonical form (RFC 4034 section 6.2, RFC 6840 section 5.1) and the order of
 /// RFC 4034 section 6.3.
 pub trait CanonicalRecordData: BuildBytes {
-    /// The canonical octets: the fields in order, names whole, and in lowercase where the type is one
+    /// The canonical octets: the fields in order, names whole, and in lowercase if the type is one
     /// of the nine that `RType::uses_lowercase_canonical_form` names.
     ghost canonical: { Self → List ℕ };
 
@@ -25,7 +25,7 @@ pub trait CanonicalRecordData: BuildBytes {
     ghost is_proper: { Self → Type 0 } = { λ _. ⊤ };
 
     /// Writes the canonical octets at a place of the buffer, and gives the place where they end. It is
-    /// accepted exactly where they are at most the octets from `start` on. After `TruncationError` the
+    /// accepted exactly if they are at most the octets from `start` on. After `TruncationError` the
     /// octets before `start` are as before.
     fn build_canonical_at(&self, bytes: &mut [u8], start: usize) -> Result<usize, TruncationError>
         requires { start ≤ length bytes.old }
@@ -37,8 +37,8 @@ pub trait CanonicalRecordData: BuildBytes {
         ensures { result ≡ ranked_cmp (rank self.now) (rank other.now) (canonical self.now) (canonical other.now) };
 
     /// Writes the canonical octets to the beginning of the buffer. What is after them is borrowed back as it
-    /// was. `TruncationError` comes exactly where they are more than the buffer's; what the buffer holds
-    /// then is open.
+    /// was. `TruncationError` comes exactly if they are more than the buffer's; what the buffer holds
+    /// then is unspecified.
     final fn build_canonical_bytes<'b>(
         &self,
         bytes: &'b mut [u8],

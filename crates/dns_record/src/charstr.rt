@@ -6,7 +6,7 @@ ghost use Rattle.std.specs.Cmp.{on_equiv, partial_equiv_from_equiv};
 ghost use Rattle.std.specs.Cmp.Lexicographic.{on_texts_equal, slice_cmp};
 ghost use Rattle.std.specs.Ordering.{nat_cmp, on};
 ghost use Rattle.std.specs.Str.{str_to_ascii_lowercase};
-ghost use Rattle.dns_record.specs.DataLemmas.{text_leaves};
+ghost use Rattle.dns_record.specs.DataLemmas.{character_string_leaves};
 ghost use Rattle.dns_wire.specs.Layout.{octets_writes};
 ghost use Rattle.dns_wire.specs.Reading.{all_of};
 ghost use Rattle.dns_record.specs.CharStrs.{charstr_wire, octets_of, same_charstr};
@@ -48,7 +48,7 @@ impl<'a> CharStr<'a> {
         self.slice
     }
 
-    /// The order of the two as they stand on the wire: the shorter comes first (RFC 4034 section 6.3).
+    /// The order of the two as they are on the wire: the shorter comes first (RFC 4034 section 6.3).
     pub fn cmp_composed(&self, other: &CharStr<'_>) -> Ordering
         ensures { result ≡ slice_cmp nat_cmp (charstr_wire (octets_of self.now.slice.now)) (charstr_wire (octets_of other.now.slice.now)) }
     {
@@ -78,7 +78,7 @@ impl<'a> ReadPlainValue<'a> for CharStr<'a> {
 
     ghost reads = { character_string };
 
-    ghost leaves_rest = { text_leaves };
+    ghost leaves_rest = { character_string_leaves };
 
     fn read_plain(bytes: &'a [u8]) -> Result<(CharStr<'a>, &'a [u8]), ParseError> {
         let [size, trailing @ ..] = bytes else {

@@ -1,6 +1,6 @@
 //! A character string with its octets.
 
-ghost use Rattle.dns_record.specs.DataLemmas.{text_leaves};
+ghost use Rattle.dns_record.specs.DataLemmas.{character_string_leaves};
 ghost use Rattle.std.specs.Prelude.{◌≡◌, ◌≤◌, ℕ, List, [], length, None, ⊤};
 ghost use Rattle.std.specs.Borrow.{sem};
 ghost use Rattle.std.specs.Cmp.{partial_equiv_from_equiv};
@@ -98,7 +98,7 @@ impl FromStr for CharStrBuf {
 
     ghost from_str_gives = { λ text result. result ≡ charstr_of text };
 
-    /// Reads the string of the text's octets. `InvalidChar` comes exactly where a backslash stands in the
+    /// Reads the string of the text's octets. `InvalidChar` comes exactly if a backslash is in the
     /// text, since escapes are not read, and else `Overlong` exactly above 255 octets.
     fn from_str(s: &str) -> Result<CharStrBuf, CharStrParseError> {
         let octets = s.as_bytes();
@@ -131,7 +131,7 @@ impl<'a> ReadPlainValue<'a> for CharStrBuf {
 
     ghost reads = { character_string };
 
-    ghost leaves_rest = { text_leaves };
+    ghost leaves_rest = { character_string_leaves };
 
     fn read_plain(bytes: &'a [u8]) -> Result<(CharStrBuf, &'a [u8]), ParseError> {
         let (charstr, rest) = CharStr::split_bytes(bytes)?;

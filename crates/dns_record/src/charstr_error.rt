@@ -8,7 +8,7 @@ pub enum CharStrParseError {
     /// It has more than 255 octets (RFC 1035 section 3.3).
     #[error("the character string was too long")]
     Overlong,
-    /// A backslash stands in it, and escapes are not read.
+    /// A backslash is in it, and escapes are not read.
     #[error("the character string contained an invalid character")]
     InvalidChar,
 }

@@ -69,6 +69,6 @@ pub fn question_type_numbers()
 pub fn class_numbers()
     ensures internet { RClass.IN.code.value ≡ 1 }
     ensures chaos { RClass.CH.code.value ≡ 3 }
-    ensures internet_asked { QClass.IN.code.value ≡ 1 }
-    ensures chaos_asked { QClass.CH.code.value ≡ 3 }
+    ensures internet_question { QClass.IN.code.value ≡ 1 }
+    ensures chaos_question { QClass.CH.code.value ≡ 3 }
 {}

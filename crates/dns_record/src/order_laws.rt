@@ -15,7 +15,7 @@ use crate::serial::Serial;
 use crate::ttl::TTL;
 use std::hash::Hash;
 
-/// Codes, times to live and serial numbers are equal where their numbers are.
+/// Codes, times to live and serial numbers are equal if their numbers are.
 pub fn codes_are_equal_by_number()
     ensures rtype { (a b : _) → ⟦<RType as PartialEq>⟧.eq a b ≡ nat_eq a.code.value b.code.value }
     ensures qtype { (a b : _) → ⟦<QType as PartialEq>⟧.eq a b ≡ nat_eq a.code.value b.code.value }
@@ -44,7 +44,7 @@ pub fn codes_are_hashed_by_number()
     ensures serial { (v : _) → ⟦<Serial as Hash>⟧.hash_input v ≡ le_bytes 4 v.0.value ∷ [] }
 {}
 
-/// Questions are equal where name, type and class are, and records where owner, type, class, TTL and data are.
+/// Questions are equal if name, type and class are, and records if owner, type, class, TTL and data are.
 pub fn items_are_equal_by_fields<N: PartialEq, D: PartialEq>()
     ensures question { (a b : _) → ⟦<Question<N> as PartialEq>⟧.eq a b
         ≡ (N.eq a.qname b.qname && (nat_eq a.qtype.code.value b.qtype.code.value && nat_eq a.qclass.code.value b.qclass.code.value)) }
@@ -61,7 +61,7 @@ pub fn items_are_hashed_by_fields<N: Hash, D: Hash>()
         ≡ N.hash_input v.rname ++ (le_bytes 2 v.rtype.code.value ∷ le_bytes 2 v.rclass.code.value ∷ le_bytes 4 v.ttl.value.value ∷ D.hash_input v.rdata) }
 {}
 
-/// Errors are equal exactly where they are the same.
+/// Errors are equal exactly if they are the same.
 pub fn equal_errors()
     ensures character_string { (a b : _) → IsTrue (⟦<CharStrParseError as PartialEq>⟧.eq a b) ↔ (a ≡ b) }
 {}

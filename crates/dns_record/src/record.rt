@@ -4,7 +4,7 @@ ghost use Rattle.dns_record.specs.DataLemmas.{record_leaves, record_ends};
 ghost use Rattle.std.specs.Prelude.{◌≡◌, ◌≤◌, ◌<◌, ◌^◌, [], length, IfOk};
 ghost use Rattle.std.specs.Fn.{FnOnceTakesAt, FnOnceReturnsAt};
 ghost use Rattle.dns_wire.specs.Reading.{Gives};
-ghost use Rattle.dns_record.specs.InMessage.{record_numbers, record_writes, record_fits};
+ghost use Rattle.dns_record.specs.InMessage.{fixed_header, record_writes, record_fits};
 ghost use Rattle.dns_record.specs.Records.{RecordOf, record_at, record_in, octets_of_parts, SizedData, SizedDataIn};
 ghost use Rattle.dns_record.specs.Seen.{record_seen};
 
@@ -115,8 +115,8 @@ impl<'a, N: SplitBytes<'a>, D: ParseRecordDataBytes<'a>> ParseBytes<'a> for Reco
 }
 
 impl<'a, N: SplitBytes<'a>, D: ParseRecordDataBytes<'a>> SplitBytes<'a> for Record<N, D> {
-    /// Reads the record at the start, and gives the octets after it. `ParseError` comes exactly where none
-    /// stands there. The data are those that `D` reads from at most 65,535 octets.
+    /// Reads the record at the start, and gives the octets after it. `ParseError` comes exactly if none
+    /// is there. The data are those that `D` reads from at most 65,535 octets.
     #[tactic(auto, unfolding(crate::specs::Records::record_at))]
     fn split_bytes(bytes: &'a [u8]) -> Result<(Record<N, D>, &'a [u8]), ParseError>
         ensures exact { Gives (λ x. (record_seen N.seen D.seen x.0, x.1.now)) result (record_at N.reads D.reads_as bytes.now) }
@@ -149,8 +149,8 @@ impl<'a, N: SplitMessageBytes<'a>, D: ParseRecordData<'a>> ParseMessageBytes<'a>
 }
 
 impl<'a, N: SplitMessageBytes<'a>, D: ParseRecordData<'a>> SplitMessageBytes<'a> for Record<N, D> {
-    /// Reads the record at the place, and gives the place where it ends. `ParseError` comes exactly where
-    /// none stands there. The data are those that `D` reads from at most 65,535 octets, of which the last is
+    /// Reads the record at the place, and gives the place where it ends. `ParseError` comes exactly if
+    /// none is there. The data are those that `D` reads from at most 65,535 octets, of which the last is
     /// the record's last.
     #[tactic(auto, unfolding(crate::specs::Records::record_in))]
     fn split_message_bytes(
@@ -183,7 +183,7 @@ impl<'a, N: SplitMessageBytes<'a>, D: ParseRecordData<'a>> SplitMessageBytes<'a>
     }
 }
 
-/// The size and the data stand as data after their size do: the data are at most 65,535 octets.
+/// The size and the data are written as data after their size are: the data are at most 65,535 octets.
 impl<N: BuildBytes, D: BuildBytes> BuildBytes for Record<N, D> {
     ghost octets = { λ v. octets_of_parts (N.octets v.rname) v.rtype.code.value v.rclass.code.value v.ttl.value.value (D.octets v.rdata) };
 
@@ -202,9 +202,9 @@ impl<N: BuildBytes, D: BuildBytes> BuildBytes for Record<N, D> {
 
 /// The owner and the data as their types write them in a message. The data are at most 65,535 octets there.
 impl<N: BuildInMessage, D: BuildInMessage> BuildInMessage for Record<N, D> {
-    ghost writes = { λ v. record_writes (N.writes v.rname) (record_numbers v.rtype.code.value v.rclass.code.value v.ttl.value.value) (D.writes v.rdata) };
+    ghost writes = { λ v. record_writes (N.writes v.rname) (fixed_header v.rtype.code.value v.rclass.code.value v.ttl.value.value) (D.writes v.rdata) };
 
-    ghost fits_in = { λ v. record_fits (N.fits_in v.rname) (N.writes v.rname) (record_numbers v.rtype.code.value v.rclass.code.value v.ttl.value.value) (D.fits_in v.rdata) (D.writes v.rdata) };
+    ghost fits_in = { λ v. record_fits (N.fits_in v.rname) (N.writes v.rname) (fixed_header v.rtype.code.value v.rclass.code.value v.ttl.value.value) (D.fits_in v.rdata) (D.writes v.rdata) };
 
     ghost layout_matches = { λ _. tt };
 

@@ -17,14 +17,14 @@ pub trait ParseRecordDataBytes<'a>: Sized + Drop {
     /// The grammar, by the number of the type: what all the octets spell.
     ghost reads_as: { ℕ → List ℕ → Option Seen };
 
-    /// The grammar in a message, by the number of the type: what stands from a place to the end of the
+    /// The grammar in a message, by the number of the type: what goes from a place to the end of the
     /// contents.
     ghost reads_in: { ℕ → List ℕ → ℕ → Option Seen };
 
     /// Whether the value is data of the type with this number.
     ghost is_of: { Self → ℕ → Type 0 };
 
-    /// Reads the data that all the octets spell. `ParseError` comes exactly where they spell none of this
+    /// Reads the data that all the octets spell. `ParseError` comes exactly if they spell none of this
     /// type.
     fn parse_record_data_bytes(bytes: &'a [u8], rtype: RType) -> Result<Self, ParseError>
         ensures exact { Gives seen result (reads_as rtype.code.value bytes.now) }
@@ -33,8 +33,8 @@ pub trait ParseRecordDataBytes<'a>: Sized + Drop {
 
 /// Data that are read in a message, whose contents may be pointed to.
 pub trait ParseRecordData<'a>: ParseRecordDataBytes<'a> {
-    /// Reads the data that stand from the place to the end of the contents. `ParseError` comes exactly
-    /// where none of this type do.
+    /// Reads the data from the place to the end of the contents. `ParseError` comes exactly
+    /// if there are none of this type.
     fn parse_record_data(contents: &'a [u8], start: usize, rtype: RType) -> Result<Self, ParseError>
         ensures exact { Gives Self.seen result (Self.reads_in rtype.code.value contents.now start) }
         ensures typed { IfOk result (λ v. Self.is_of v rtype.code.value) };

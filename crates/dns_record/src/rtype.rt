@@ -1,7 +1,7 @@
 //! Types of records.
 
 ghost use Rattle.dns_wire.specs.ReadingLemmas.{number_leaves};
-ghost use Rattle.std.specs.Prelude.{◌≡◌, ℕ, [], None, Some, ⊤, length};
+ghost use Rattle.std.specs.Prelude.{◌≡◌, ◌++◌, ℕ, [], None, Some, ⊤, MatchOption, codes, decimal, length};
 ghost use Rattle.std.specs.Int.{w16, to_be_bytes};
 ghost use Rattle.dns_wire.specs.Layout.{octets_writes};
 ghost use Rattle.dns_wire.specs.Reading.{number};
@@ -145,6 +145,39 @@ impl RType {
     {
         matches!(self.code.value, 2 | 5 | 6 | 12 | 15 | 17 | 33 | 39 | 46)
     }
+
+    /// The type's name in capitals, where it has one here.
+    #[tactic(auto, unfolding(crate::specs::CodeTexts::type_text))]
+    fn mnemonic(&self) -> Option<&'static str>
+        ensures { MatchOption result (type_text self.now.code.value ≡ codes "TYPE" ++ decimal self.now.code.value) (λ text. type_text self.now.code.value ≡ text.now) }
+    {
+        match *self {
+            RType::A => Some("A"),
+            RType::NS => Some("NS"),
+            RType::CNAME => Some("CNAME"),
+            RType::SOA => Some("SOA"),
+            RType::PTR => Some("PTR"),
+            RType::HINFO => Some("HINFO"),
+            RType::MX => Some("MX"),
+            RType::TXT => Some("TXT"),
+            RType::RP => Some("RP"),
+            RType::AAAA => Some("AAAA"),
+            RType::SRV => Some("SRV"),
+            RType::DNAME => Some("DNAME"),
+            RType::OPT => Some("OPT"),
+            RType::DS => Some("DS"),
+            RType::RRSIG => Some("RRSIG"),
+            RType::NSEC => Some("NSEC"),
+            RType::DNSKEY => Some("DNSKEY"),
+            RType::NSEC3 => Some("NSEC3"),
+            RType::NSEC3PARAM => Some("NSEC3PARAM"),
+            RType::CDS => Some("CDS"),
+            RType::CDNSKEY => Some("CDNSKEY"),
+            RType::ZONEMD => Some("ZONEMD"),
+            RType::TSIG => Some("TSIG"),
+            _ => None,
+        }
+    }
 }
 
 impl From<u16> for RType {
@@ -215,33 +248,10 @@ impl fmt::Display for RType {
     ghost output = { λ v. Some (type_text v.code.value) };
 
     /// The type's name in capitals, or `TYPE` and the number in decimal (RFC 3597 section 5).
-    #[tactic(auto, unfolding(crate::specs::CodeTexts::type_text))]
     fn fmt<W: fmt::Write>(&self, f: &mut fmt::Formatter<W>) -> fmt::Result {
-        match *self {
-            RType::A => f.write_str("A"),
-            RType::NS => f.write_str("NS"),
-            RType::CNAME => f.write_str("CNAME"),
-            RType::SOA => f.write_str("SOA"),
-            RType::PTR => f.write_str("PTR"),
-            RType::HINFO => f.write_str("HINFO"),
-            RType::MX => f.write_str("MX"),
-            RType::TXT => f.write_str("TXT"),
-            RType::RP => f.write_str("RP"),
-            RType::AAAA => f.write_str("AAAA"),
-            RType::SRV => f.write_str("SRV"),
-            RType::DNAME => f.write_str("DNAME"),
-            RType::OPT => f.write_str("OPT"),
-            RType::DS => f.write_str("DS"),
-            RType::RRSIG => f.write_str("RRSIG"),
-            RType::NSEC => f.write_str("NSEC"),
-            RType::DNSKEY => f.write_str("DNSKEY"),
-            RType::NSEC3 => f.write_str("NSEC3"),
-            RType::NSEC3PARAM => f.write_str("NSEC3PARAM"),
-            RType::CDS => f.write_str("CDS"),
-            RType::CDNSKEY => f.write_str("CDNSKEY"),
-            RType::ZONEMD => f.write_str("ZONEMD"),
-            RType::TSIG => f.write_str("TSIG"),
-            RType { code } => write!(f, "TYPE{code}"),
+        match self.mnemonic() {
+            Some(mnemonic) => f.write_str(mnemonic),
+            None => write!(f, "TYPE{}", self.code),
         }
     }
 }

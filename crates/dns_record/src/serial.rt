@@ -44,14 +44,14 @@ impl Serial {
         Serial::new(self.get().wrapping_add(num as u32))
     }
 
-    /// How two serial numbers compare: less where the other is at most 2^31 - 1 ahead, greater where it is
-    /// at most as much after, and not at all where it is 2^31 away (RFC 1982 section 3.2).
+    /// How two serial numbers compare: less if the other is at most 2^31 - 1 ahead, greater if it is
+    /// at most as much after, and not at all if it is 2^31 away (RFC 1982 section 3.2).
     pub fn partial_cmp(&self, other: &Serial) -> Option<Ordering>
         ensures { result ≡ serial_cmp self.now.0.value other.now.0.value }
     {
         match other.get().wrapping_sub(self.get()) {
             0 => Some(Ordering::Equal),
-            ahead if ahead < 0x8000_0000 => Some(Ordering::Less),
+            serial_ahead if serial_ahead < 0x8000_0000 => Some(Ordering::Less),
             0x8000_0000 => None,
             _ => Some(Ordering::Greater),
         }

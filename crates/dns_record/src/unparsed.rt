@@ -1,4 +1,4 @@
-//! Record data as they stand.
+//! Record data as they are.
 
 ghost use Rattle.std.specs.Prelude.{◌≡◌, ◌<◌, ◌^◌, ℕ, List, [], ◌∷◌, length, Some, ⊤};
 ghost use Rattle.std.proofs.Props.{props};
@@ -14,7 +14,7 @@ use dns_wire::{
     put,
 };
 
-/// The data of a record as they stand, whatever its type: at most 65,535 octets, which is what a record's
+/// The data of a record as they are, whatever its type: at most 65,535 octets, which is what a record's
 /// size can say (RFC 1035 section 3.2.1). Pointers in them are octets like others.
 #[derive(Clone, Copy, Debug)]
 pub struct UnparsedRecordData<'a> {
@@ -55,7 +55,7 @@ impl<'a> ParseRecordDataBytes<'a> for UnparsedRecordData<'a> {
     }
 }
 
-/// `ParseError` comes exactly where more than 65,535 octets stand from the place on, and from a place
+/// `ParseError` comes exactly if there are more than 65,535 octets from the place on, or the place is
 /// after the end.
 impl<'a> ParseRecordData<'a> for UnparsedRecordData<'a> {
     fn parse_record_data(

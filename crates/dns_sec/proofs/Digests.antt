@@ -1,4 +1,4 @@
--- Octets as the last field of data, where they are not read.
+-- Octets as the last field of data, if they are not read.
 use Rattle.std.proofs.Common.{◌≡◌, ℕ, List, [], ◌∷◌, Option, Some, None, refl}
 use Rattle.dns_wire.specs.Reading.{all_of}
 use Rattle.dns_wire.specs.Steps.{◌>>=◌, first_to}

@@ -31,7 +31,7 @@ use std::cmp::Ordering;
 pub struct CDNSKey<'a> {
     /// What the key is for.
     pub flags: DNSKeyFlags,
-    /// The protocol, which is 3 where the key is to be used (RFC 4034 section 2.1.2).
+    /// The protocol, which is 3 if the key is to be used (RFC 4034 section 2.1.2).
     pub protocol: u8,
     /// The algorithm of the key.
     pub algorithm: SecAlg,

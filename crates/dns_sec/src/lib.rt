@@ -25,8 +25,8 @@ pub use dnskey_flags::DNSKeyFlags;
 pub use ds::Ds;
 pub use laws::code_numbers;
 pub use order_laws::{
-    codes_are_equal_by_number, codes_are_ordered_by_number, data_are_equal_by_fields,
-    data_are_hashed_by_fields, default_flags, digests_of_known_length,
+    codes_are_equal_by_number, codes_are_hashed_by_number, codes_are_ordered_by_number,
+    data_are_equal_by_fields, data_are_hashed_by_fields, default_flags, digests_of_known_length,
 };
 pub use rrsig::Rrsig;
 pub use sec_alg::SecAlg;

@@ -1,12 +1,14 @@
-//! Data are compared and fed to a hasher field by field, in the order in which the fields stand on the wire.
+//! Data are compared and fed to a hasher field by field, in the order in which the fields come on the wire.
 
 ghost use Rattle.std.specs.Prelude.{◌≡◌, nat_eq};
+ghost use Rattle.std.specs.Hash.{u16, u8};
 ghost use Rattle.std.specs.Ordering.{eq_by_cmp, nat_cmp, on};
 ghost use Rattle.dns_name.specs.Hashing.{name_writes};
 ghost use Rattle.dns_name.specs.Order.{key, key_cmp};
 ghost use Rattle.dns_record.specs.CharStrHashing.{charstr_writes};
 ghost use Rattle.dns_record.specs.CharStrs.{same_charstr};
 ghost use Rattle.dns_record.specs.FieldOrder.{fields_eq, fields_writes};
+ghost use Rattle.dns_record.specs.Fields.{canonical_octets};
 ghost use Rattle.dns_sec.specs.Flags.{key_flag_bits};
 ghost use Rattle.dns_sec.specs.Types.{ds_fields, cds_fields, dnskey_fields, cdnskey_fields, rrsig_fields, zonemd_fields};
 
@@ -22,9 +24,10 @@ use crate::timestamp::Timestamp;
 use crate::zonemd::ZoneMD;
 use crate::zonemd_hash_alg::ZoneMDHashAlg;
 use crate::zonemd_scheme::ZoneMDScheme;
+use dns_record::CanonicalRecordData;
 use std::hash::Hash;
 
-/// Data are equal where all their fields are, names without regard to ASCII case (RFC 1035 section 2.3.3), digests,
+/// Data are equal if all their fields are, names without regard to ASCII case (RFC 1035 section 2.3.3), digests,
 /// keys and signatures octet by octet.
 pub fn data_are_equal_by_fields()
     ensures ds { (a b : _) → ⟦<Ds<'static> as PartialEq>⟧.eq a b ≡ fields_eq (eq_by_cmp (on key key_cmp)) (eq_by_cmp (on key key_cmp)) same_charstr (ds_fields a) (ds_fields b) }
@@ -45,7 +48,7 @@ pub fn data_are_hashed_by_fields()
     ensures zonemd { (v : _) → ⟦<ZoneMD<&'static [u8]> as Hash>⟧.hash_input v ≡ fields_writes name_writes name_writes charstr_writes (zonemd_fields (λ d. d.now) v) }
 {}
 
-/// Codes, flags and times are equal where their numbers are.
+/// Codes, flags and times are equal if their numbers are.
 pub fn codes_are_equal_by_number()
     ensures sec_alg { (a b : _) → ⟦<SecAlg as PartialEq>⟧.eq a b ≡ nat_eq a.code b.code }
     ensures digest_type { (a b : _) → ⟦<DigestType as PartialEq>⟧.eq a b ≡ nat_eq a.code b.code }
@@ -63,6 +66,15 @@ pub fn codes_are_ordered_by_number()
     ensures zonemd_hash_alg { (a b : _) → ⟦<ZoneMDHashAlg as Ord>⟧.cmp a b ≡ nat_cmp a.code b.code }
 {}
 
+/// Codes and flags feed a hasher their numbers.
+pub fn codes_are_hashed_by_number()
+    ensures sec_alg { (v : _) → ⟦<SecAlg as Hash>⟧.hash_input v ≡ u8 v.code }
+    ensures digest_type { (v : _) → ⟦<DigestType as Hash>⟧.hash_input v ≡ u8 v.code }
+    ensures zonemd_scheme { (v : _) → ⟦<ZoneMDScheme as Hash>⟧.hash_input v ≡ u8 v.code }
+    ensures zonemd_hash_alg { (v : _) → ⟦<ZoneMDHashAlg as Hash>⟧.hash_input v ≡ u8 v.code }
+    ensures flags { (v : _) → ⟦<DNSKeyFlags as Hash>⟧.hash_input v ≡ u16 (key_flag_bits v) }
+{}
+
 /// The flags by default have no bit (RFC 4034 section 2.1.1).
 pub fn default_flags()
     ensures { (v : _) → ⟦<DNSKeyFlags as Default>⟧.is_default v → key_flag_bits v ≡ 0 }
@@ -73,5 +85,6 @@ pub fn default_flags()
 pub fn digests_of_known_length<const N: usize>()
     ensures equal { (a b : _) → ⟦<ZoneMD<[u8; N]> as PartialEq>⟧.eq a b
         ≡ fields_eq (eq_by_cmp (on key key_cmp)) (eq_by_cmp (on key key_cmp)) same_charstr (zonemd_fields (λ d. d) a) (zonemd_fields (λ d. d) b) }
+    ensures canonical { (v : _) → ⟦<ZoneMD<[u8; N]> as CanonicalRecordData>⟧.canonical v ≡ canonical_octets 63 (zonemd_fields (λ d. d) v) }
     ensures fed { (v : _) → ⟦<ZoneMD<[u8; N]> as Hash>⟧.hash_input v ≡ fields_writes name_writes name_writes charstr_writes (zonemd_fields (λ d. d) v) }
 {}

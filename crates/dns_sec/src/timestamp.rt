@@ -10,7 +10,7 @@ use std::cmp::Ordering;
 use std::fmt;
 use std::marker::Model;
 
-/// So many seconds have one stamp each.
+/// The number of seconds that have one stamp each.
 const ERA: u64 = 1 << 32;
 
 /// A time of 32 bits: seconds since the beginning of 1970, without regard to multiples of 2^32 (RFC 4034
@@ -36,8 +36,8 @@ impl Timestamp {
         self.serial.get()
     }
 
-    /// How two times compare, as serial numbers do: less where the other is at most 2^31 - 1 seconds ahead,
-    /// greater where it is at most as much after, and not at all where it is 2^31 away (RFC 1982 section 3.2).
+    /// How two times compare, as serial numbers do: less if the other is at most 2^31 - 1 seconds ahead,
+    /// greater if it is at most as much after, and not at all if it is 2^31 away (RFC 1982 section 3.2).
     pub fn partial_cmp(&self, other: &Timestamp) -> Option<Ordering>
         ensures { result ≡ serial_cmp self.now other.now }
     {
@@ -45,7 +45,7 @@ impl Timestamp {
     }
 
     /// The seconds since the beginning of 1970 that the time means to one who looks at it at the reference,
-    /// which is such seconds too: those nearest to it, from 2^31 before it to 2^31 - 1 after it. Where they
+    /// which is such seconds too: those nearest to it, from 2^31 before it to 2^31 - 1 after it. If they
     /// would lie before 1970, it is the number itself.
     pub fn to_system_time(self, reference: u64) -> u64
         requires { reference < 2 ^ 63 }

@@ -1,6 +1,7 @@
 -- The crate's own lemmas.
-mod Decoding
+pub mod Decoding
 mod DigitTable
 pub mod Encoding
 pub mod Transfers
 mod Trimming
+pub mod WordLemmas

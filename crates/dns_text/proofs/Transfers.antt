@@ -31,7 +31,7 @@ pub taken_more : (a b c : Option (List ℕ)) (text buffer : List ℕ) (n limit :
 taken_more a b c text buffer n limit p q within room =
     (text ++ take n buffer, Consumes-trans a b c text (take n buffer) p q, omega (arith, length-append text (take n buffer), length-take n buffer))
 
--- a flag that was told is told still after a write
+-- a flag that was reported is still reported after a write
 pub flag_known : (a b c : Option Bool) (n : ℕ) → IfSome a (λ _. IsSome b) → WriteFlag b c (let r : Result ℕ Failed = Ok n in r) → IfSome a (λ _. IsSome c)
 flag_known None b c n p q = tt
 flag_known (Some x) None c n p q = cc

@@ -1,5 +1,5 @@
 -- How a command over a source and a sink ends: what it answers, writes and leaves.
-use Rattle.std.specs.Prelude.{◌≡◌, ◌≢◌, ◌⊎◌, ◌↔◌, ◌+◌, ℕ, List, [], Bool, true, false, Option, Some, None, IfSome, if◌then◌else◌}
+use Rattle.std.specs.Prelude.{◌≡◌, ◌≢◌, ◌⊎◌, ◌↔◌, ◌+◌, ℕ, [], Bool, true, false, Option, Some, None, IfSome, if◌then◌else◌}
 use Rattle.std.specs.Io.KnownBytes.{Appends}
 use Rattle.dns_wire.specs.Octets.{Octets}
 use Rattle.dns_wire.specs.Outside.{Rose, BecomesFlag, WritesPrefix}
@@ -54,7 +54,7 @@ text_if reads left = if reads then left else Some []
 
 -- ---- what is written
 
--- all of the text is written where the command has printed, and some prefix of it where the sink failed
+-- all of the text is written if the command has printed, and some prefix of it if the sink failed
 abbrev pub WritesAs : (Octets → Type 0) → Option Octets → Option Octets → Ending → Type 0
 WritesAs Prints old new Printed = (printed : Octets) × Prints printed × Appends old new printed
 WritesAs Prints old new SinkFailed = (printed : Octets) × Prints printed × WritesPrefix old new printed
@@ -70,7 +70,7 @@ WritesAs Prints old new NoMemory = Unit {0}
 abbrev pub IsEmptied : Option Octets → Option Octets → Type 0
 IsEmptied old new = IfSome old (λ _. new ≡ Some [])
 
--- where the whole text has been read, nothing of it is left
+-- if the whole text has been read, nothing of it is left
 abbrev pub EmptiesAs : Ending → Option Octets → Option Octets → Type 0
 EmptiesAs Printed old new = IsEmptied old new
 EmptiesAs TextRefused old new = IsEmptied old new
@@ -83,31 +83,31 @@ EmptiesAs NoMemory old new = Unit {0}
 -- ---- all of it
 
 -- What a command answers over a source and a sink, by the octets that they report and their faults, before and after.
-pub record Answered {S K Command Status : Type 0} (s : SourceGhosts S) (k : SinkGhosts K) (rules : Rules Command Status)
+pub record Ended {S K Command Status : Type 0} (s : SourceGhosts S) (k : SinkGhosts K) (rules : Rules Command Status)
     (command : Option Command) (source source' : S) (sink sink' : K) (status : Status) : Type 0 where
   -- words that are no command are refused, whatever the source has
   pub usage : (status ≡ rules.usage) ↔ (command ≡ None)
   -- the answer is what the text calls for, or one that may come in its place
   pub expected_status : IfSome (text_if (rules.reads command) (s.left source)) (λ t. AllowedAs rules.done rules.usage (rules.ending status) (rules.expected command t) status)
-  -- a fault is answered exactly where its device has counted one, and a fault of the source only where the command reads
+  -- a fault is answered exactly if its device has counted one, and a fault of the source only if the command reads
   pub read_fault : status ≡ rules.read_fault → Rose (s.faults source) (s.faults source')
   pub read_steady : (status ≢ rules.read_fault) → s.faults source' ≡ s.faults source
   pub reading : status ≡ rules.read_fault → rules.reads command ≡ true
   pub write_fault : status ≡ rules.write_fault → Rose (k.faults sink) (k.faults sink')
   pub write_steady : (status ≢ rules.write_fault) → k.faults sink' ≡ k.faults sink
-  -- with no fault of the sink, nor of the source where the command reads, the answer is what the text calls for, or memory ran out
+  -- with no fault of the sink, nor of the source if the command reads, the answer is what the text calls for, or memory ran out
   pub complete : (rules.reads command ≡ true → Rose (s.faults source) (s.faults source') → ⊥) → (Rose (k.faults sink) (k.faults sink') → ⊥)
       → IfSome (text_if (rules.reads command) (s.left source)) (λ t. (status ≡ rules.expected command t) ⊎ (status ≡ rules.memory))
   -- what is written
   pub written : IfSome command (λ c. IfSome (text_if (rules.reads (Some c)) (s.left source)) (λ t. WritesAs (rules.Prints c t) (k.written sink) (k.written sink') (rules.ending status)))
   pub unwritten : (status ≢ rules.done) → (status ≢ rules.write_fault) → sink' ≡ sink
   pub flushed : status ≡ rules.done → BecomesFlag (k.is_flushed sink) (k.is_flushed sink') true
-  -- what is left; no read comes once the limit is passed
+  -- what is left: at most the limit and one read are taken
   pub unread : rules.reads command ≡ false → source' ≡ source
   pub emptied : rules.reads command ≡ true → EmptiesAs (rules.ending status) (s.left source) (s.left source')
   pub taken : IfSome command (λ c. TakesAtMost (s.left source) (s.left source') (rules.limit c + READ_CHUNK))
 
--- The line for a status is noted, nothing where all was written, and a prefix of the line where the notes fail.
+-- The line for a status is noted, nothing if all was written, and a prefix of the line if the notes fail.
 pub record Reported {N Status : Type 0} (n : SinkGhosts N) (done : Status) (note : Octets) (notes notes' : N) (status : Status) : Type 0 where
   pub quiet : status ≡ done → notes' ≡ notes
   pub reported : WritesPrefix (n.written notes) (n.written notes') note
@@ -116,5 +116,5 @@ pub record Reported {N Status : Type 0} (n : SinkGhosts N) (done : Status) (note
 -- what a command answers, and what is noted of it
 pub record Ran {S K N Command Status : Type 0} (s : SourceGhosts S) (k : SinkGhosts K) (n : SinkGhosts N) (rules : Rules Command Status) (note : Status → Octets)
     (command : Option Command) (source source' : S) (sink sink' : K) (notes notes' : N) (status : Status) : Type 0 where
-  pub answered : Answered s k rules command source source' sink sink' status
+  pub ended : Ended s k rules command source source' sink sink' status
   pub noted : Reported n rules.done (note status) notes notes' status

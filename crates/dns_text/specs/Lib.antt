@@ -4,3 +4,4 @@ pub mod Notes
 pub mod Outcomes
 pub mod Spelled
 pub mod Taken
+pub mod Words

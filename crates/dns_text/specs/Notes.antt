@@ -26,7 +26,7 @@ notice_line ReadFault = note_line (codes "read fault") []
 notice_line WriteFault = note_line (codes "write fault") []
 notice_line Memory = note_line (codes "out of memory") []
 
--- the line that is noted for a kind of status, by that of a refused text; nothing is noted where all was written
+-- the line that is noted for a kind of status, by that of a refused text; nothing is noted if all was written
 abbrev pub ending_note : Ending → Octets → Octets
 ending_note Printed own = []
 ending_note NoCommand own = notice_line Usage

@@ -1,5 +1,5 @@
--- The outcomes of a command that reads one text, whatever refuses it.
-use Rattle.std.specs.Prelude.{◌≡◌, ℕ, List, [], length, Option, Some, None, is_some, nat_lt, if◌then◌else◌}
+-- The outcomes of a command that reads one text or none, whatever refuses it.
+use Rattle.std.specs.Prelude.{◌≡◌, ℕ, Bool, false, [], length, Option, Some, None, nat_lt, if◌then◌else◌}
 use Rattle.dns_wire.specs.Octets.{Octets}
 use Rattle.dns_text.specs.Endings.{Ending, Rules}
 use Rattle.dns_text.specs.Endings.Ending.{Printed, NoCommand, TextTooLong, TextRefused, SourceFailed, SinkFailed, NoMemory}
@@ -33,16 +33,21 @@ abbrev pub expected_outcome : {C R : Type 0} → (C → ℕ) → (C → Octets �
 expected_outcome limit refusal None text = Usage
 expected_outcome limit refusal (Some command) text = if nat_lt (limit command) (length text) then TooLong else refused_or_done (refusal command text)
 
--- the rules of a command that reads one text
-abbrev pub text_rules : {C R : Type 0} → (C → ℕ) → (C → Octets → Option R) → (C → Octets → Octets → Type 0) → Rules C (Outcome R)
-text_rules limit refusal Prints = record {
+-- whether a text is read, by which commands read one; words that are no command read none
+abbrev pub reads_text : {C : Type 0} → (C → Bool) → Option C → Bool
+reads_text reads None = false
+reads_text reads (Some command) = reads command
+
+-- the rules of commands that read one text or none
+abbrev pub text_rules : {C R : Type 0} → (C → Bool) → (C → ℕ) → (C → Octets → Option R) → (C → Octets → Octets → Type 0) → Rules C (Outcome R)
+text_rules reads limit refusal Prints = record {
   ending = ending_of;
   done = Done;
   usage = Usage;
   read_fault = ReadFault;
   write_fault = WriteFault;
   memory = Memory;
-  reads = is_some;
+  reads = reads_text reads;
   limit = limit;
   expected = expected_outcome limit refusal;
   Prints = Prints;

@@ -1,7 +1,8 @@
 //! The words of a command line.
 
-ghost use Rattle.std.specs.Prelude.{◌≡◌, ◌↔◌, ◌≤◌, ℕ, List, [], map, length, string_bytes, IsNone, IsTrue, slice_get};
+ghost use Rattle.std.specs.Prelude.{◌≡◌, ◌↔◌, ◌≤◌, List, [], map, length, string_bytes, IsNone, IsTrue, slice_get};
 ghost use Rattle.std.specs.Option.{option_copied};
+ghost use Rattle.dns_wire.specs.Octets.{Octets};
 
 use std::marker::Model;
 
@@ -12,7 +13,7 @@ pub struct Args {
 }
 
 impl Model for Args {
-    ghost Value = { List (List ℕ) };
+    ghost Value = { List Octets };
 
     ghost view = { λ a. map string_bytes a.words.items };
 }

@@ -1,8 +1,8 @@
-//! Commands that read a text and print one, over a source, a sink and notes.
+//! Commands that print a text, most of them for one that they read, over a source, a sink and notes.
 
-ghost use Rattle.std.specs.Prelude.{◌≡◌, ◌≢◌, ◌≤◌, ℕ, List, length, Option, Some, None, true, IfOk, IfErr};
+ghost use Rattle.std.specs.Prelude.{◌≡◌, ◌≢◌, ◌≤◌, ℕ, Bool, List, length, Option, Some, None, true, IfOk, IfErr};
 ghost use Rattle.dns_wire.specs.Outside.{Rose, HasCause, BecomesFlag, Puts};
-ghost use Rattle.dns_text.specs.Endings.{AllowedAs, Answered, Ran, WritesAs};
+ghost use Rattle.dns_text.specs.Endings.{AllowedAs, Ended, Ran, WritesAs};
 ghost use Rattle.dns_text.specs.Outcomes.{RefusesFor, ending_of, note_of, refused_or_done, text_rules};
 
 use crate::notice::{Notice, put_notice};
@@ -11,15 +11,18 @@ use crate::transfer::{put_text, read_text};
 use dns_wire::{Failed, Sink, Source};
 use std::alloc::Global;
 
-/// A command that prints a text for the text that it reads. Whatever it is, `run_command` carries it out.
-pub trait Command: Drop {
+/// A command that prints a text for the text that it reads, or without reading one. Whatever it is, `run_command` carries it out.
+pub trait TextCommand: Drop {
     /// Why a text is refused.
     type Refusal: Copy;
+
+    /// Whether a text is read. If none is, the command prints its text for an empty one.
+    ghost reads: { Self → Bool };
 
     /// The most octets of the text that is read.
     ghost limit: { Self → ℕ };
 
-    /// Why a text is refused; none where one is printed for it.
+    /// Why a text is refused; `None` if one is printed for it.
     ghost refusal: { Self → List ℕ → Option Self.Refusal };
 
     /// The text that is printed for a text.
@@ -27,6 +30,10 @@ pub trait Command: Drop {
 
     /// The line that is noted for a refusal.
     ghost refusal_note: { Self.Refusal → List ℕ };
+
+    /// Whether a text is read. If none is, the command prints its text for an empty one.
+    fn reads_text(&self) -> bool
+        ensures { result ≡ reads self.now };
 
     /// The most octets of the text that is read.
     fn text_limit(&self) -> usize
@@ -46,7 +53,7 @@ pub trait Command: Drop {
 }
 
 /// Writes what the command prints for a text.
-fn print_for<C: Command, K: Sink>(
+fn print_for<C: TextCommand, K: Sink>(
     alloc: Global,
     command: &C,
     text: &[u8],
@@ -71,23 +78,44 @@ fn print_for<C: Command, K: Sink>(
     }
 }
 
-/// Reads the text of the command, and writes what the command prints for it.
-fn carry_out<C: Command, S: Source, K: Sink>(
+/// Reads the text of the command, if it reads one, and writes what the command prints for it.
+fn carry_out<C: TextCommand, S: Source, K: Sink>(
     alloc: Global,
     command: &C,
     source: &mut S,
     sink: &mut K,
 ) -> Outcome<C::Refusal>
-    ensures { Answered S.Source K.Sink (text_rules C.limit C.refusal C.prints) (Some command.now) source.old source.new sink.old sink.new result }
+    ensures { Ended S.Source K.Sink (text_rules C.reads C.limit C.refusal C.prints) (Some command.now) source.old source.new sink.old sink.new result }
 {
+    if !command.reads_text() {
+        return print_for(alloc, command, &[], sink);
+    }
     match read_text(alloc, source, command.text_limit()) {
         Ok(text) => print_for(alloc, command, &text, sink),
         Err(error) => Outcome::from(error),
     }
 }
 
+/// Carries out the command; where the words are no command, none is given.
+fn execute<C: TextCommand, S: Source, K: Sink>(
+    alloc: Global,
+    command: &Option<C>,
+    source: &mut S,
+    sink: &mut K,
+) -> Outcome<C::Refusal>
+    ensures { Ended S.Source K.Sink (text_rules C.reads C.limit C.refusal C.prints) command.now source.old source.new sink.old sink.new result }
+{
+    match command {
+        Some(command) => carry_out(alloc, command, source, sink),
+        None => Outcome::Usage,
+    }
+}
+
 /// Writes the line for an outcome.
-fn put_note<C: Command, N: Sink>(outcome: Outcome<C::Refusal>, notes: &mut N) -> Result<(), Failed>
+fn put_note<C: TextCommand, N: Sink>(
+    outcome: Outcome<C::Refusal>,
+    notes: &mut N,
+) -> Result<(), Failed>
     ensures quiet { outcome ≡ Outcome.Done → notes.new ≡ notes.old }
     ensures puts { Puts (N.written notes.old) (N.written notes.new) (note_of C.refusal_note outcome) result }
     ensures cause { HasCause (N.faults notes.old) (N.faults notes.new) result }
@@ -103,21 +131,18 @@ fn put_note<C: Command, N: Sink>(outcome: Outcome<C::Refusal>, notes: &mut N) ->
     }
 }
 
-/// Answers a command: writes what it prints for the source's text, or says on `notes` why nothing is printed. Where the words
-/// are no command, none is given. All memory is taken before the first octet is written.
-pub fn run_command<C: Command, S: Source, K: Sink, N: Sink>(
+/// Answers a command: writes what it prints for the source's text, or says on `notes` why nothing is printed. A command that reads no text
+/// leaves the source unchanged. If the words are no command, none is given. All memory is taken before the first octet is written.
+pub fn run_command<C: TextCommand, S: Source, K: Sink, N: Sink>(
     alloc: Global,
     command: &Option<C>,
     source: &mut S,
     sink: &mut K,
     notes: &mut N,
 ) -> Outcome<C::Refusal>
-    ensures { Ran S.Source K.Sink N.Sink (text_rules C.limit C.refusal C.prints) (note_of C.refusal_note) command.now source.old source.new sink.old sink.new notes.old notes.new result }
+    ensures { Ran S.Source K.Sink N.Sink (text_rules C.reads C.limit C.refusal C.prints) (note_of C.refusal_note) command.now source.old source.new sink.old sink.new notes.old notes.new result }
 {
-    let outcome = match command {
-        Some(command) => carry_out(alloc, command, source, sink),
-        None => Outcome::Usage,
-    };
+    let outcome = execute(alloc, command, source, sink);
     // A fault of the notes changes no answer.
     let _ = put_note::<C, N>(outcome, notes);
     outcome

@@ -3,7 +3,7 @@
 ghost use Rattle.std.specs.Prelude.{◌≡◌, ◌*◌, length, Some, None, MatchBool};
 ghost use Rattle.dns_wire.specs.Hexadecimal.{spelled};
 
-/// The value of each octet as a digit; 16 where it is none.
+/// The value of each octet as a digit; 16 if it is none.
 const VALUES: [u8; 256] = [
     16, 16, 16, 16, 16, 16, 16, 16, 16, 16, 16, 16, 16, 16, 16, 16, 16, 16, 16, 16, 16, 16, 16, 16,
     16, 16, 16, 16, 16, 16, 16, 16, 16, 16, 16, 16, 16, 16, 16, 16, 16, 16, 16, 16, 16, 16, 16, 16,
@@ -18,9 +18,9 @@ const VALUES: [u8; 256] = [
     16, 16, 16, 16, 16, 16, 16, 16, 16, 16, 16, 16, 16, 16,
 ];
 
-/// Puts the octets that the digits spell into the buffer, and says whether they spell any. Where they spell none,
-/// what the buffer holds is open.
-pub(crate) fn put_octets(digits: &[u8], octets: &mut [u8]) -> bool
+/// Puts the octets that the digits spell into the buffer, and says whether they spell any. If they spell none,
+/// what the buffer holds is unspecified.
+pub fn put_octets(digits: &[u8], octets: &mut [u8]) -> bool
     requires { length digits.now ≡ 2 * length octets.old }
     ensures { MatchBool result (spelled digits.now ≡ Some octets.new) (spelled digits.now ≡ None) }
 {

@@ -1,31 +1,31 @@
 //! Octets as hexadecimal text (RFC 4648 section 8).
 
 ghost use Rattle.std.specs.Prelude.{◌≡◌, IfOk, IsErrOf};
-ghost use Rattle.dns_wire.specs.Hexadecimal.{Spells, SpellsNothing, trim, is_blank};
+ghost use Rattle.dns_wire.specs.Hexadecimal.{Spells, SpellsNothing, trim, is_whitespace};
 
 use crate::digit_pairs::put_octets;
 use crate::error::HexError;
 use std::alloc::Global;
 
 /// Whether an octet is a space, a tab, CR or LF.
-fn is_blank(octet: u8) -> bool
-    ensures { result ≡ is_blank octet }
+fn is_whitespace(octet: u8) -> bool
+    ensures { result ≡ is_whitespace octet }
 {
     octet == b' ' || octet == b'\t' || octet == b'\r' || octet == b'\n'
 }
 
-/// The text without the blanks at its end.
+/// The text without the whitespace at its end.
 pub fn trimmed(text: &[u8]) -> &[u8]
     ensures { result.now ≡ trim text.now }
 {
     let mut end = text.len();
-    while end > 0 && is_blank(text[end - 1]) {
+    while end > 0 && is_whitespace(text[end - 1]) {
         end -= 1;
     }
     &text[..end]
 }
 
-/// The octets that the text spells, except for blanks at its end.
+/// The octets that the text spells, except for whitespace at its end.
 pub fn octets_of(alloc: Global, text: &[u8]) -> Result<Vec<u8>, HexError>
     ensures ok { IfOk result (λ octets. Spells text.now octets.items) }
     ensures bad_hex { IsErrOf result HexError.BadHex → SpellsNothing text.now }

@@ -5,18 +5,21 @@
 mod args;
 mod command;
 mod digit_pairs;
-mod equality_laws;
 mod error;
 mod hexadecimal;
+mod laws;
 mod notice;
 mod outcome;
 mod transfer;
+mod words;
 
 pub use args::Args;
-pub use command::{Command, run_command};
-pub use equality_laws::{equal_errors, equal_outcomes};
+pub use command::{TextCommand, run_command};
+pub use digit_pairs::put_octets;
 pub use error::{HexError, TextError};
 pub use hexadecimal::{octets_of, trimmed};
+pub use laws::{equal_errors, equal_outcomes, limits};
 pub use notice::{Notice, put_notice};
 pub use outcome::{Outcome, PrintError};
-pub use transfer::{READ_CHUNK, put_all, put_line, put_text, read_text};
+pub use transfer::{MESSAGE_TEXT_LIMIT, READ_CHUNK, put_all, put_line, put_text, read_text};
+pub use words::number_within;

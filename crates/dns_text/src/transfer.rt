@@ -13,7 +13,10 @@ use std::alloc::Global;
 /// The most octets that one read gives.
 pub const READ_CHUNK: usize = 4096;
 
-/// Reads all that is left, if that is at most `limit` octets. No read comes once the limit is passed.
+/// The most octets of the text of one message that a command reads: two digits for each of 65,536 octets.
+pub const MESSAGE_TEXT_LIMIT: usize = 131_072;
+
+/// Reads all that is left, if that is at most `limit` octets.
 pub fn read_text<S: Source>(
     alloc: Global,
     source: &mut S,

@@ -83,7 +83,7 @@ counted xs ys long short =
     ap (λ m. cond (eqb m 0) 16 (count_trailing_zeros 64 m)) (mask_differing xs ys long short)
     ∙ first_set_mask_l (λ (b : Bool). b) (zip2 differ xs ys) 16 (length-zip2 differ xs ys (long ∙ sym short) ∙ long) (omega arith)
 
--- where no lane differs, all are the same
+-- if no lane differs, all are the same
 pub none_differ : (xs ys : List ℕ) → length xs ≡ 16 → length ys ≡ 16 → differing xs ys ≡ 0 → xs ≡ ys
 none_differ xs ys long short none =
     let all : lanes xs ys ≡ 16 = sym (counted xs ys long short) ∙ ap (λ s. cond s 16 (count_trailing_zeros 64 (differing xs ys))) (eq-eqb (differing xs ys) 0 none) in

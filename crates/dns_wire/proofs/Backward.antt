@@ -83,7 +83,7 @@ pub no_labels : (labels : List (List ℕ)) → labels_wire labels ≡ [] → lab
 no_labels [] e = refl
 no_labels (label ∷ labels) e = absurd cc
 
--- where there are no octets, there are no labels
+-- if there are no octets, there are no labels
 pub empty_relative : (bytes : List ℕ) → relative_name bytes ≡ Some (relative_labels bytes) → length bytes ≡ 0 → relative_labels bytes ≡ []
 empty_relative bytes e none =
     let t = relative_is bytes (relative_labels bytes) e in
@@ -121,7 +121,7 @@ reversed_is (size ∷ relative) labels e =
 pub reversed_labels : (labels : List (List ℕ)) → IsName labels → reversed_name_labels (reversed_wire labels) ≡ labels
 reversed_labels labels is = ap (λ (read : Option (List (List ℕ))). unwrap_or read []) (reversed_read labels is)
 
--- after the root stand the labels from the last to the first
+-- after the root come the labels from the last to the first
 pub relative_after_root : (bytes : List ℕ) → reversed_name bytes ≡ Some (reversed_name_labels bytes) → (relative_name (drop 1 bytes) ≡ Some (relative_labels (drop 1 bytes))) × (relative_labels (drop 1 bytes) ≡ reverse (reversed_name_labels bytes))
 relative_after_root bytes e =
     let t = reversed_is bytes (reversed_name_labels bytes) e in

@@ -5,7 +5,7 @@ use Rattle.std.specs.List.Sorted.{IsStrictlyIncreasing}
 use Rattle.std.proofs.lemmas.List.{length-append}
 use Rattle.std.proofs.lemmas.List.Elements.{Contains-append_right, Contains-append_cases, All-contains, All-from_recursion}
 use Rattle.std.proofs.lemmas.Option.{some_pair_parts}
-use Rattle.dns_wire.specs.Compression.{reads_as, stands_at, or_shorter, longest_recorded, ReadsAlike, RecordedSuffix, LongestRecorded}
+use Rattle.dns_wire.specs.Compression.{reads_as, occurs_at, or_shorter, longest_recorded, ReadsAlike, RecordedSuffix, LongestRecorded}
 use Rattle.dns_wire.specs.Names.{labels_wire}
 use Rattle.dns_wire.specs.Pointers.{name_at}
 use Rattle.dns_wire.proofs.AlikeLabels.{Found, alike_lowered, lowered_alike}
@@ -14,16 +14,16 @@ use Rattle.dns_wire.proofs.RisingPlaces.{Rises, rises_all, strict_rises}
 
 -- ---- a name at a place
 
-pub stood : (contents : List ℕ) (labels : List (List ℕ)) (place : ℕ) → stands_at contents labels place ≡ true → (end : ℕ) × ReadsAlike contents labels place end
-unfolding stands_at
+pub stood : (contents : List ℕ) (labels : List (List ℕ)) (place : ℕ) → occurs_at contents labels place ≡ true → (end : ℕ) × ReadsAlike contents labels place end
+unfolding occurs_at
 stood contents labels place e = by (name_at contents place) refl e where
   by : (read : Found) → name_at contents place ≡ read → reads_as labels read ≡ true → (end : ℕ) × ReadsAlike contents labels place end
   by None is e = absurd cc
   by (Some (there, end)) is e = (end, record { there = there; name = name_at_is contents place there end is; alike = alike_lowered labels there e })
 
-pub stands : (contents : List ℕ) (labels : List (List ℕ)) (place end : ℕ) → ReadsAlike contents labels place end → stands_at contents labels place ≡ true
-unfolding stands_at
-stands contents labels place end reads = ap (reads_as labels) (name_at_finds contents place reads.there end reads.name) ∙ lowered_alike labels reads.there reads.alike
+pub occurs : (contents : List ℕ) (labels : List (List ℕ)) (place end : ℕ) → ReadsAlike contents labels place end → occurs_at contents labels place ≡ true
+unfolding occurs_at
+occurs contents labels place end reads = ap (reads_as labels) (name_at_finds contents place reads.there end reads.name) ∙ lowered_alike labels reads.there reads.alike
 
 -- ---- the first place that passes a test
 
@@ -75,7 +75,7 @@ module _ (contents places : List ℕ) where
   Recorded labels prefix place = RecordedSuffix contents places labels prefix place
 
   -- all labels are a suffix
-  whole_suffix : (label : List ℕ) (labels : List (List ℕ)) (place : ℕ) → Contains places place → stands_at contents (label ∷ labels) place ≡ true → Recorded (label ∷ labels) 0 place
+  whole_suffix : (label : List ℕ) (labels : List (List ℕ)) (place : ℕ) → Contains places place → occurs_at contents (label ∷ labels) place ≡ true → Recorded (label ∷ labels) 0 place
   whole_suffix label labels place recorded is =
       let s = stood contents (label ∷ labels) place is in
       record { before = []; suffix = label ∷ labels; labels_is = refl; some = omega arith; prefix_is = refl; recorded = recorded; end = s.0; reads = s.1 }
@@ -97,7 +97,7 @@ module _ (contents places : List ℕ) where
   record Whole (label : List ℕ) (labels : List (List ℕ)) (prefix place : ℕ) : Type 0 where
     at_prefix : prefix ≡ 0
     there : Contains places place
-    passes : stands_at contents (label ∷ labels) place ≡ true
+    passes : occurs_at contents (label ∷ labels) place ≡ true
 
   record Later (label : List ℕ) (labels : List (List ℕ)) (prefix place : ℕ) : Type 0 where
     trailing : ℕ
@@ -107,7 +107,7 @@ module _ (contents places : List ℕ) where
   parted : (label : List ℕ) (labels : List (List ℕ)) (prefix place : ℕ) → Recorded (label ∷ labels) prefix place → Whole label labels prefix place ⊎ Later label labels prefix place
   parted label labels prefix place k = by k.before k.labels_is k.prefix_is where
     by : (before : List (List ℕ)) → label ∷ labels ≡ before ++ k.suffix → prefix ≡ length (labels_wire before) → Whole label labels prefix place ⊎ Later label labels prefix place
-    by [] labels_is prefix_is = inl (record { at_prefix = prefix_is; there = k.recorded; passes = ap (λ (l : List (List ℕ)). stands_at contents l place) labels_is ∙ stands contents k.suffix place k.end k.reads })
+    by [] labels_is prefix_is = inl (record { at_prefix = prefix_is; there = k.recorded; passes = ap (λ (l : List (List ℕ)). occurs_at contents l place) labels_is ∙ occurs contents k.suffix place k.end k.reads })
     by (first ∷ before) labels_is prefix_is =
         let same : label ≡ first = cc in
         let others : labels ≡ before ++ k.suffix = cc in
@@ -135,10 +135,10 @@ module _ (contents places : List ℕ) where
   unfolding longest_recorded
   nothing_recorded at [] e prefix place k = no_suffix prefix place k
   nothing_recorded at (label ∷ labels) e prefix place k =
-      by (find (stands_at contents (label ∷ labels)) places) refl e (λ later trailing l. nothing_recorded (at + 1 + length label) labels later trailing place l) where
-        by : (found : Option ℕ) → find (stands_at contents (label ∷ labels)) places ≡ found → or_shorter at found (longest_recorded contents places (at + 1 + length label) labels) ≡ None → (longest_recorded contents places (at + 1 + length label) labels ≡ None → (trailing : ℕ) → Recorded labels trailing place → ⊥) → ⊥
+      by (find (occurs_at contents (label ∷ labels)) places) refl e (λ later trailing l. nothing_recorded (at + 1 + length label) labels later trailing place l) where
+        by : (found : Option ℕ) → find (occurs_at contents (label ∷ labels)) places ≡ found → or_shorter at found (longest_recorded contents places (at + 1 + length label) labels) ≡ None → (longest_recorded contents places (at + 1 + length label) labels ≡ None → (trailing : ℕ) → Recorded labels trailing place → ⊥) → ⊥
         by None is e more = elim (parted label labels prefix place k) [
-          | inl w ↦ none_passes (stands_at contents (label ∷ labels)) places place is w.there w.passes
+          | inl w ↦ none_passes (occurs_at contents (label ∷ labels)) places place is w.there w.passes
           | inr l ↦ more e l.trailing l.later
         ]
         by (Some first) is e more = absurd cc
@@ -152,20 +152,20 @@ module _ (contents places : List ℕ) where
   unfolding longest_recorded
   known_by at [] found place e = absurd cc
   known_by at (label ∷ labels) found place e =
-      by (find (stands_at contents (label ∷ labels)) places) refl e (λ later. known_by (at + 1 + length label) labels found place later) where
-        by : (recorded : Option ℕ) → find (stands_at contents (label ∷ labels)) places ≡ recorded → or_shorter at recorded (longest_recorded contents places (at + 1 + length label) labels) ≡ Some (found, place) → (longest_recorded contents places (at + 1 + length label) labels ≡ Some (found, place) → Known (at + 1 + length label) labels found place) → Known at (label ∷ labels) found place
+      by (find (occurs_at contents (label ∷ labels)) places) refl e (λ later. known_by (at + 1 + length label) labels found place later) where
+        by : (recorded : Option ℕ) → find (occurs_at contents (label ∷ labels)) places ≡ recorded → or_shorter at recorded (longest_recorded contents places (at + 1 + length label) labels) ≡ Some (found, place) → (longest_recorded contents places (at + 1 + length label) labels ≡ Some (found, place) → Known (at + 1 + length label) labels found place) → Known at (label ∷ labels) found place
         by None is e more = let l = more e in record { prefix = 1 + length label + l.prefix; found_is = omega (arith, l.found_is); known = later_suffix label labels l.prefix place l.known }
         by (Some first) is e more =
             let p = some_pair_parts at found first place e in
-            let f = found_at (stands_at contents (label ∷ labels)) places first is in
+            let f = found_at (occurs_at contents (label ∷ labels)) places first is in
             record { prefix = 0; found_is = omega (arith, p.0); known = subst (Recorded (label ∷ labels) 0) p.1 (whole_suffix label labels first f.0 f.1) }
 
   longest_by : (rises : Rises 0 places) (at : ℕ) (labels : List (List ℕ)) (found place : ℕ) → longest_recorded contents places at labels ≡ Some (found, place) → Longest at labels found place
   unfolding longest_recorded
   longest_by rises at [] found place e = absurd cc
   longest_by rises at (label ∷ labels) found place e =
-      by (find (stands_at contents (label ∷ labels)) places) refl e (λ later. longest_by rises (at + 1 + length label) labels found place later) where
-        by : (recorded : Option ℕ) → find (stands_at contents (label ∷ labels)) places ≡ recorded → or_shorter at recorded (longest_recorded contents places (at + 1 + length label) labels) ≡ Some (found, place) → (longest_recorded contents places (at + 1 + length label) labels ≡ Some (found, place) → Longest (at + 1 + length label) labels found place) → Longest at (label ∷ labels) found place
+      by (find (occurs_at contents (label ∷ labels)) places) refl e (λ later. longest_by rises (at + 1 + length label) labels found place later) where
+        by : (recorded : Option ℕ) → find (occurs_at contents (label ∷ labels)) places ≡ recorded → or_shorter at recorded (longest_recorded contents places (at + 1 + length label) labels) ≡ Some (found, place) → (longest_recorded contents places (at + 1 + length label) labels ≡ Some (found, place) → Longest (at + 1 + length label) labels found place) → Longest at (label ∷ labels) found place
         by None is e more =
             let l = more e in
             record {
@@ -174,18 +174,18 @@ module _ (contents places : List ℕ) where
               best = record {
                 known = later_suffix label labels l.prefix place l.best.known;
                 longest = λ other at k. elim (parted label labels other at k) [
-                  | inl w ↦ absurd (none_passes (stands_at contents (label ∷ labels)) places at is w.there w.passes)
+                  | inl w ↦ absurd (none_passes (occurs_at contents (label ∷ labels)) places at is w.there w.passes)
                   | inr o ↦ omega (arith, o.prefix_is, l.best.longest o.trailing at o.later)
                 ];
                 smallest = λ at k. elim (parted label labels (1 + length label + l.prefix) at k) [
-                  | inl w ↦ absurd (none_passes (stands_at contents (label ∷ labels)) places at is w.there w.passes)
+                  | inl w ↦ absurd (none_passes (occurs_at contents (label ∷ labels)) places at is w.there w.passes)
                   | inr o ↦ l.best.smallest at (subst (λ (n : ℕ). Recorded labels n at) (let same : o.trailing ≡ l.prefix = omega (arith, o.prefix_is) in same) o.later)
                 ];
               };
             }
         by (Some first) is e more =
             let p = some_pair_parts at found first place e in
-            let f = found_at (stands_at contents (label ∷ labels)) places first is in
+            let f = found_at (occurs_at contents (label ∷ labels)) places first is in
             record {
               prefix = 0;
               found_is = omega (arith, p.0);
@@ -193,7 +193,7 @@ module _ (contents places : List ℕ) where
                 known = subst (Recorded (label ∷ labels) 0) p.1 (whole_suffix label labels first f.0 f.1);
                 longest = λ other at k. omega arith;
                 smallest = λ at k. elim (parted label labels 0 at k) [
-                  | inl w ↦ omega (arith, least_of (stands_at contents (label ∷ labels)) 0 places first at rises is w.there w.passes, p.1)
+                  | inl w ↦ omega (arith, least_of (occurs_at contents (label ∷ labels)) 0 places first at rises is w.there w.passes, p.1)
                   | inr o ↦ absurd (omega (arith, o.prefix_is))
                 ];
               };

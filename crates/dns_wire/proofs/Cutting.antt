@@ -6,14 +6,14 @@ use Rattle.std.specs.List.{AllByRecursion}
 use Rattle.std.proofs.lemmas.List.{get_or-drop, drop-drop, take_at, drop_at, length-append, length-take, length-drop, take-take}
 use Rattle.std.proofs.lemmas.List.Elements.{All-contains, All-from_recursion}
 use Rattle.std.proofs.Math.Seq.{drop-append-add}
-use Rattle.dns_wire.specs.Building.{Stands, Builds}
+use Rattle.dns_wire.specs.Building.{Occurs, Builds}
 use Rattle.dns_wire.specs.Compression.{Run, FitsIn, Grows, longest_recorded, RecordedSuffix, cut_at, compress, recorded, compressed_name_writes}
 use Rattle.dns_wire.specs.Compression.Run.{run_root, run_label, run_pointer}
 use Rattle.dns_wire.specs.InMessage.{BuildsIn}
 use Rattle.dns_wire.specs.Names.{labels_wire, wire, IsLabel, IsName}
 use Rattle.dns_wire.specs.declared.sizes.TheConstants.{HEADER_SIZE, LAST_PLACE, POINTER_TAG}
 use Rattle.dns_wire.proofs.RunLemmas.{runs_before}
-use Rattle.dns_wire.proofs.BuildingLemmas.{stands_prefix, stands_long}
+use Rattle.dns_wire.proofs.BuildingLemmas.{occurs_prefix, occurs_long}
 use Rattle.dns_wire.proofs.CompressionLemmas.{known_is}
 use Rattle.dns_wire.proofs.Walk.{wire_long, labels_wire-append}
 
@@ -123,12 +123,12 @@ module _ (contents places : List ℕ) (labels : List (List ℕ)) (is : IsName la
 
 -- ---- the whole law
 
-module _ (labels : List (List ℕ)) (old new places : List ℕ) (start end : ℕ) (is : IsName labels) (room : start ≤ length old) (fits : FitsIn places (take start old)) (s : Stands (compress (take start old) places labels) old start new end) where
+module _ (labels : List (List ℕ)) (old new places : List ℕ) (start end : ℕ) (is : IsName labels) (room : start ≤ length old) (fits : FitsIn places (take start old)) (s : Occurs (compress (take start old) places labels) old start new end) where
   prefix_long : length (take start old) ≡ start
   prefix_long = omega (arith, length-take start old)
 
   written : take end new ≡ take start old ++ compress (take start old) places labels
-  written = stands_prefix s
+  written = occurs_prefix s
 
   before : take start new ≡ take start old
   before =
@@ -138,7 +138,7 @@ module _ (labels : List (List ℕ)) (old new places : List ℕ) (start end : ℕ
 
   -- what noting asks
   pub name_recorded_within : end ≤ length new
-  name_recorded_within = omega (arith, stands_long s, s.within)
+  name_recorded_within = omega (arith, occurs_long s, s.within)
 
   pub name_recorded_fits : FitsIn places (take start new)
   name_recorded_fits = subst (FitsIn places) (sym before) fits
@@ -152,9 +152,9 @@ module _ (labels : List (List ℕ)) (old new places : List ℕ) (start end : ℕ
   name_built after after_is grows leads =
       let again : recorded places (take end new) start ≡ (compressed_name_writes labels (take start old) places).1 =
       ap (λ (w : List ℕ). recorded places w start) written ∙ ap (recorded places (take start old ++ compress (take start old) places labels)) (sym prefix_long) in
-      record { accepted = tt; stands = s; after_is = after_is ∙ again; grows = grows; leads = leads; refused = tt; prefix = tt; size = tt; unchanged = tt }
+      record { accepted = tt; occurs = s; after_is = after_is ∙ again; grows = grows; leads = leads; refused = tt; prefix = tt; size = tt; unchanged = tt }
 
 -- a refusal changes nothing before the start, and no place
 pub name_refused : {E F : Type 0} (labels : List (List ℕ)) (octets old new places : List ℕ) (start : ℕ) (e : E) (f : F) → octets ≡ compress (take start old) places labels → Builds ⊤ octets old start new (Err e) → BuildsIn ⊤ (compressed_name_writes labels (take start old) places) old start places new places (Err f)
 name_refused labels octets old new places start e f is b =
-    record { accepted = tt; stands = tt; after_is = tt; grows = tt; leads = tt; refused = rw (← is) b.err.2; prefix = b.err.0; size = b.err.1; unchanged = refl }
+    record { accepted = tt; occurs = tt; after_is = tt; grows = tt; leads = tt; refused = rw (← is) b.err.2; prefix = b.err.0; size = b.err.1; unchanged = refl }

@@ -104,7 +104,7 @@ joined_is label end (Some (others, later)) labels at e =
     let same = some_pair_parts (label ++ others) labels (unwrap_or end later) at e in
     (others, later, refl, sym same.0, sym same.1)
 
--- what one label type says, where the relation has what is found after it
+-- what one label type says, if the relation has what is found after it
 by_label_type : (steps : ℕ) (contents : List ℕ) (start at : ℕ) (labels : List (List ℕ)) (end : ℕ) → ((s p : ℕ) (l : List (List ℕ)) (q : ℕ) → segment_within steps contents s p ≡ Some (l, q) → Segment contents s p l q) → (label_type : Option LabelType) → label_type_at contents start at ≡ label_type → after_label_type (segment_within steps contents) contents start at label_type ≡ Some (labels, end) → Segment contents start at labels end
 by_label_type steps contents start at labels end again None is e = absurd cc
 by_label_type steps contents start at labels end again (Some Root) is e =
@@ -167,7 +167,7 @@ segment_sizes contents (at_pointer high room is before later end_is) = segment_s
 pub name_at_name : (contents : List ℕ) (at : ℕ) (labels : List (List ℕ)) (end : ℕ) → NameAt contents at labels end → IsName labels
 name_at_name contents at labels end is = record { sizes = segment_sizes contents is.reads; size = is.short }
 
--- something stands at the place, and it ends within the contents
+-- something is at the place, and it ends within the contents
 pub segment_ends : (contents : List ℕ) {start at end : ℕ} {labels : List (List ℕ)} → Segment contents start at labels end → (at < end) × (end ≤ length contents)
 segment_ends contents (at_root within zero_is labels_is end_is) = (omega arith, omega arith)
 segment_ends contents (at_label some small room labels_is later) = let t = segment_ends contents later in (omega (arith, t.0), t.1)

@@ -8,7 +8,7 @@ use Rattle.std.proofs.lemmas.List.{length-append, take-append-drop}
 use Rattle.std.proofs.Math.Seq.{take-suc}
 use Rattle.std.proofs.lemmas.List.Folds.{find-append}
 use Rattle.std.proofs.lemmas.Option.{some_pair_parts}
-use Rattle.dns_wire.specs.Compression.{are_alike, reads_as, stands_at, or_shorter, longest_recorded}
+use Rattle.dns_wire.specs.Compression.{labels_alike, reads_as, occurs_at, or_shorter, longest_recorded}
 use Rattle.dns_wire.specs.Names.{labels_wire}
 use Rattle.dns_wire.specs.Pointers.{segment_within, name_at}
 use Rattle.dns_wire.specs.Searching.{count_more, count_at, else_later, suffix_at, before_limit}
@@ -37,8 +37,8 @@ pub suffix_within : (contents : List ℕ) (place at high : ℕ) (labels : List (
 unfolding suffix_at
 suffix_within contents place at high [] h = tt
 suffix_within contents place at high (label ∷ labels) h =
-    by (stands_at contents (label ∷ labels) place) (suffix_at contents place (at + 1 + length label) labels) (suffix_within contents place (at + 1 + length label) high labels (omega (arith, h, length-append label (labels_wire labels)))) where
-      by : (stands : Bool) (later : Option ℕ) → Within (at + 1 + length label) high later → Within at high (else_later at stands later)
+    by (occurs_at contents (label ∷ labels) place) (suffix_at contents place (at + 1 + length label) labels) (suffix_within contents place (at + 1 + length label) high labels (omega (arith, h, length-append label (labels_wire labels)))) where
+      by : (occurs : Bool) (later : Option ℕ) → Within (at + 1 + length label) high later → Within at high (else_later at occurs later)
       by true later w = (omega arith, omega (arith, h, length-append label (labels_wire labels)))
       by false later w = within_wider at (at + 1 + length label) high later (omega arith) w
 
@@ -46,7 +46,7 @@ longest_from : (contents places : List ℕ) (at : ℕ) (labels : List (List ℕ)
 unfolding longest_recorded
 longest_from contents places at [] = tt
 longest_from contents places at (label ∷ labels) =
-    by (find (stands_at contents (label ∷ labels)) places) (longest_recorded contents places (at + 1 + length label) labels) (longest_from contents places (at + 1 + length label) labels) where
+    by (find (occurs_at contents (label ∷ labels)) places) (longest_recorded contents places (at + 1 + length label) labels) (longest_from contents places (at + 1 + length label) labels) where
       by : (recorded : Option ℕ) (later : Option (ℕ × ℕ)) → From (at + 1 + length label) later → From at (or_shorter at recorded later)
       by None later f = from_lower at (at + 1 + length label) later (omega arith) f
       by (Some place) later f = omega arith
@@ -76,10 +76,10 @@ unfolding longest_recorded suffix_at
 longest_more contents places place at [] = refl
 longest_more contents places place at (label ∷ labels) =
     let next : ℕ = at + 1 + length label in
-    let stands : ℕ → Bool = stands_at contents (label ∷ labels) in
-    ap (λ (o : Option ℕ). or_shorter at o (longest_recorded contents (places ++ place ∷ []) next labels)) (find_more stands places place)
-    ∙ ap (or_shorter at (option_or (find stands places) (cond (stands place) (Some place) None))) (longest_more contents places place next labels)
-    ∙ by (find stands places) (stands place) (longest_recorded contents places next labels) (longest_from contents places next labels) (suffix_at contents place next labels) (suffix_within contents place next (next + length (labels_wire labels)) labels (omega arith)) where
+    let occurs : ℕ → Bool = occurs_at contents (label ∷ labels) in
+    ap (λ (o : Option ℕ). or_shorter at o (longest_recorded contents (places ++ place ∷ []) next labels)) (find_more occurs places place)
+    ∙ ap (or_shorter at (option_or (find occurs places) (cond (occurs place) (Some place) None))) (longest_more contents places place next labels)
+    ∙ by (find occurs places) (occurs place) (longest_recorded contents places next labels) (longest_from contents places next labels) (suffix_at contents place next labels) (suffix_within contents place next (next + length (labels_wire labels)) labels (omega arith)) where
       by : (recorded : Option ℕ) (new : Bool) (later : Option (ℕ × ℕ)) → From (at + 1 + length label) later → (other : Option ℕ) → Within (at + 1 + length label) (at + 1 + length label + length (labels_wire labels)) other → or_shorter at (option_or recorded (cond new (Some place) None)) (better later place other) ≡ better (or_shorter at recorded later) place (else_later at new other)
       by (Some first) true later f other w = sym (recorded_first at place first (at + 1) (Some at) (omega arith, omega arith))
       by (Some first) false later f other w = sym (recorded_first at place first (at + 1 + length label + length (labels_wire labels)) other (within_wider at (at + 1 + length label) (at + 1 + length label + length (labels_wire labels)) other (omega arith) w))
@@ -91,14 +91,14 @@ unfolding longest_recorded
 longest_none contents at [] = refl
 longest_none contents at (label ∷ labels) = longest_none contents (at + 1 + length label) labels
 
--- where the whole name is known, later places change nothing
+-- if the whole name is known, later places change nothing
 longest_stays : (contents places more : List ℕ) (at first : ℕ) (labels : List (List ℕ)) → longest_recorded contents places at labels ≡ Some (at, first) → longest_recorded contents (places ++ more) at labels ≡ Some (at, first)
 unfolding longest_recorded
 longest_stays contents places more at first [] e = absurd cc
 longest_stays contents places more at first (label ∷ labels) e =
-    ap (λ (o : Option ℕ). or_shorter at o (longest_recorded contents (places ++ more) (at + 1 + length label) labels)) (find-append (stands_at contents (label ∷ labels)) places more)
-    ∙ by (find (stands_at contents (label ∷ labels)) places) (longest_recorded contents places (at + 1 + length label) labels) (longest_from contents places (at + 1 + length label) labels) e where
-      by : (recorded : Option ℕ) (later : Option (ℕ × ℕ)) → From (at + 1 + length label) later → or_shorter at recorded later ≡ Some (at, first) → or_shorter at (option_or recorded (find (stands_at contents (label ∷ labels)) more)) (longest_recorded contents (places ++ more) (at + 1 + length label) labels) ≡ Some (at, first)
+    ap (λ (o : Option ℕ). or_shorter at o (longest_recorded contents (places ++ more) (at + 1 + length label) labels)) (find-append (occurs_at contents (label ∷ labels)) places more)
+    ∙ by (find (occurs_at contents (label ∷ labels)) places) (longest_recorded contents places (at + 1 + length label) labels) (longest_from contents places (at + 1 + length label) labels) e where
+      by : (recorded : Option ℕ) (later : Option (ℕ × ℕ)) → From (at + 1 + length label) later → or_shorter at recorded later ≡ Some (at, first) → or_shorter at (option_or recorded (find (occurs_at contents (label ∷ labels)) more)) (longest_recorded contents (places ++ more) (at + 1 + length label) labels) ≡ Some (at, first)
       by None None f e = absurd cc
       by None (Some (prefix, place)) f e = absurd (let p = some_pair_parts prefix at place first e in omega (arith, p.0, f))
       by (Some place) later f e = e
@@ -118,7 +118,7 @@ prefix_of size (Some (prefix, place)) = prefix
 pub limit_before : (limit prefix : ℕ) → prefix < limit → before_limit limit (Some prefix) ≡ Some prefix
 limit_before limit prefix before = let t : nat_lt prefix limit ≡ true = lt-ltb prefix limit before in rw t refl
 
-pub limit_reached : (limit prefix : ℕ) (stands : Bool) → limit ≤ prefix → before_limit limit (else_later prefix stands None) ≡ None
+pub limit_reached : (limit prefix : ℕ) (occurs : Bool) → limit ≤ prefix → before_limit limit (else_later prefix occurs None) ≡ None
 limit_reached limit prefix true past = let t : nat_lt prefix limit ≡ false = le-ltb prefix limit past in rw t refl
 limit_reached limit prefix false past = refl
 
@@ -181,10 +181,10 @@ counts_of contents place most size e = by (segment_within (256 + place) contents
     inner true e = record { found = found; end = end; read = is; long = let same : size ≡ 0 + length found = cc in omega arith }
     inner false e = absurd cc
 
-wrong_count : (contents : List ℕ) (place size : ℕ) (labels : List (List ℕ)) → Counts contents place size → (length labels ≡ size → ⊥) → stands_at contents labels place ≡ false
-unfolding stands_at name_at
-wrong_count contents place size labels c other = short_differs labels (segment_within (256 + place) contents place place) (ap (reads_as labels) c.read ∙ by (are_alike labels c.found) refl) where
-  by : (b : Bool) → are_alike labels c.found ≡ b → are_alike labels c.found ≡ false
+wrong_count : (contents : List ℕ) (place size : ℕ) (labels : List (List ℕ)) → Counts contents place size → (length labels ≡ size → ⊥) → occurs_at contents labels place ≡ false
+unfolding occurs_at name_at
+wrong_count contents place size labels c other = short_differs labels (segment_within (256 + place) contents place place) (ap (reads_as labels) c.read ∙ by (labels_alike labels c.found) refl) where
+  by : (b : Bool) → labels_alike labels c.found ≡ b → labels_alike labels c.found ≡ false
   by true e = absurd (other (alike_count labels c.found e ∙ c.long))
   by false e = e
 
@@ -207,20 +207,20 @@ module _ (contents : List ℕ) (place size : ℕ) (c : Counts contents place siz
       ∙ ap (λ (n : ℕ). suffix_at contents place n labels) place_is
 
   -- the one that is as long
-  pub suffix_only : (at : ℕ) (labels : List (List ℕ)) → length labels ≡ size → 0 < size → suffix_at contents place at labels ≡ else_later at (stands_at contents labels place) None
+  pub suffix_only : (at : ℕ) (labels : List (List ℕ)) → length labels ≡ size → 0 < size → suffix_at contents place at labels ≡ else_later at (occurs_at contents labels place) None
   unfolding suffix_at
   suffix_only at [] long some = absurd (omega arith)
-  suffix_only at (label ∷ labels) long some = ap (else_later at (stands_at contents (label ∷ labels) place)) (suffix_past (at + 1 + length label) labels (omega arith))
+  suffix_only at (label ∷ labels) long some = ap (else_later at (occurs_at contents (label ∷ labels) place)) (suffix_past (at + 1 + length label) labels (omega arith))
 
--- ---- where as many labels are not read
+-- ---- if as many labels are not read
 
-uncounted : (contents : List ℕ) (place most : ℕ) (all : List (List ℕ)) → None ≡ count_at contents place most → length all ≤ most → stands_at contents all place ≡ false
-unfolding stands_at name_at count_at
+uncounted : (contents : List ℕ) (place most : ℕ) (all : List (List ℕ)) → None ≡ count_at contents place most → length all ≤ most → occurs_at contents all place ≡ false
+unfolding occurs_at name_at count_at
 uncounted contents place most all e few = short_differs all (segment_within (256 + place) contents place place) (by (segment_within (256 + place) contents place place) e) where
   by : (read : Found) → None ≡ count_more 0 most read → reads_as all read ≡ false
   by None e = refl
-  by (Some (found, end)) e = inner (are_alike all found) refl where
-    inner : (b : Bool) → are_alike all found ≡ b → are_alike all found ≡ false
+  by (Some (found, end)) e = inner (labels_alike all found) refl where
+    inner : (b : Bool) → labels_alike all found ≡ b → labels_alike all found ≡ false
     inner true s =
         let fits : nat_le (0 + length found) most ≡ true = le-leb _ _ (omega (arith, alike_count all found s)) in
         absurd (let h : ◌≡◌ {A = Option ℕ} None (Some (0 + length found)) = rw fits at e in cc)

@@ -15,7 +15,7 @@ use Rattle.dns_wire.specs.declared.name_cursor.LabelType.TheVariants.{Root, Labe
 use Rattle.std.specs.List.{AllByRecursion}
 use Rattle.dns_wire.specs.Names.{labels_wire, IsLabel, plain_name, name_labels}
 use Rattle.dns_wire.specs.Pointers.{label_type_at, joined, after_label_type, segment_within, name_at}
-use Rattle.dns_wire.specs.Compression.{reads_as, stands_at}
+use Rattle.dns_wire.specs.Compression.{reads_as, occurs_at}
 use Rattle.dns_wire.specs.Searching.{FirstOf, count_more, count_at}
 use Rattle.dns_wire.proofs.AlikeLabels.{Found, short_reads}
 use Rattle.dns_wire.proofs.Spelled.{FirstLabel, first_label, name_short, name_octets}
@@ -45,40 +45,40 @@ pred_less : (n : ℕ) → 0 < n → pred n + 1 ≡ n
 pred_less zero some = absurd (omega arith)
 pred_less (suc n) some = omega arith
 
--- whether the labels stand at the place is whether the name that is left stands at another
+-- whether the labels are at the place is whether the name that is left is at another
 pub record Matches (contents : List ℕ) (labels : List (List ℕ)) (place : ℕ) (rest : List ℕ) (segment at : ℕ) : Type 0 where
   pub whole : all_of (plain_name rest) ≡ Some (name_labels rest)
   pub steps : ℕ
   pub room : length rest + segment < steps
-  pub same : stands_at contents labels place ≡ reads_as (name_labels rest) (segment_within steps contents segment at)
+  pub same : occurs_at contents labels place ≡ reads_as (name_labels rest) (segment_within steps contents segment at)
 
 pub matches_none : (contents name : List ℕ) (place : ℕ) → all_of (plain_name name) ≡ Some (name_labels name) → Matches contents (name_labels name) place name place place
-unfolding stands_at name_at
+unfolding occurs_at name_at
 matches_none contents name place is =
     let t = name_octets name (name_labels name) is in
     record { whole = is; steps = 256 + place; room = omega (arith, name_short name (name_labels name) is); same = short_reads (name_labels name) (segment_within (256 + place) contents place place) t.0.size }
 
 module _ (contents : List ℕ) (labels : List (List ℕ)) (place : ℕ) (rest : List ℕ) (segment at : ℕ) (m : Matches contents labels place rest segment at) where
-  by_label_type : (label_type : Option LabelType) → label_type_at contents segment at ≡ label_type → stands_at contents labels place ≡ reads_as (name_labels rest) (after_label_type (segment_within (pred m.steps) contents) contents segment at label_type)
+  by_label_type : (label_type : Option LabelType) → label_type_at contents segment at ≡ label_type → occurs_at contents labels place ≡ reads_as (name_labels rest) (after_label_type (segment_within (pred m.steps) contents) contents segment at label_type)
   by_label_type label_type is = m.same ∙ ap (reads_as (name_labels rest)) (unrolled m.steps contents segment at (omega (arith, m.room)) ∙ ap (after_label_type (segment_within (pred m.steps) contents) contents segment at) is)
 
-  pub matches_bad : label_type_at contents segment at ≡ None → false ≡ stands_at contents labels place
+  pub matches_bad : label_type_at contents segment at ≡ None → false ≡ occurs_at contents labels place
   matches_bad is = sym (by_label_type None is)
 
-  pub matches_root : label_type_at contents segment at ≡ Some Root → name_labels rest ≡ [] → true ≡ stands_at contents labels place
+  pub matches_root : label_type_at contents segment at ≡ Some Root → name_labels rest ≡ [] → true ≡ occurs_at contents labels place
   matches_root is none = sym (by_label_type (Some Root) is ∙ ap (λ (l : List (List ℕ)). reads_as l (Some ([], at + 1))) none)
 
-  pub matches_short : (label next : List ℕ) → label_type_at contents segment at ≡ Some Root → FirstOf rest label next → false ≡ stands_at contents labels place
+  pub matches_short : (label next : List ℕ) → label_type_at contents segment at ≡ Some Root → FirstOf rest label next → false ≡ occurs_at contents labels place
   matches_short label next is first = sym (by_label_type (Some Root) is ∙ ap (λ (l : List (List ℕ)). reads_as l (Some ([], at + 1))) first.labels)
 
-  pub matches_long : (size : ℕ) → label_type_at contents segment at ≡ Some (Label size) → name_labels rest ≡ [] → false ≡ stands_at contents labels place
+  pub matches_long : (size : ℕ) → label_type_at contents segment at ≡ Some (Label size) → name_labels rest ≡ [] → false ≡ occurs_at contents labels place
   matches_long size is none = sym (by_label_type (Some (Label size)) is ∙ ap (λ (l : List (List ℕ)). reads_as l (joined (take size (drop (at + 1) contents) ∷ []) None (segment_within (pred m.steps) contents segment (at + 1 + size)))) none ∙ past (segment_within (pred m.steps) contents segment (at + 1 + size))) where
     past : (read : Found) → reads_as [] (joined (take size (drop (at + 1) contents) ∷ []) None read) ≡ false
     past None = refl
     past (Some found) = refl
 
   -- the same, by whether there is a first label
-  pub matches_ended : {A : Type 0} (label next : A → List ℕ) (first : Option A) (r : Bool) → label_type_at contents segment at ≡ Some Root → MatchOption first (name_labels rest ≡ []) (λ x. FirstOf rest (label x) (next x)) → is_some first ≡ not r → r ≡ stands_at contents labels place
+  pub matches_ended : {A : Type 0} (label next : A → List ℕ) (first : Option A) (r : Bool) → label_type_at contents segment at ≡ Some Root → MatchOption first (name_labels rest ≡ []) (λ x. FirstOf rest (label x) (next x)) → is_some first ≡ not r → r ≡ occurs_at contents labels place
   matches_ended label next None true is first e = matches_root is first
   matches_ended label next None false is first e = absurd cc
   matches_ended label next (Some x) true is first e = absurd cc
@@ -91,7 +91,7 @@ module _ (contents : List ℕ) (labels : List (List ℕ)) (place : ℕ) (rest : 
     no false = refl
   both label other others (Some found) = refl
 
-  pub matches_label : (size : ℕ) (label next : List ℕ) → label_type_at contents segment at ≡ Some (Label size) → FirstOf rest label next → stands_at contents labels place ≡ (str_eq_ignore_ascii_case label (take size (drop (at + 1) contents)) && reads_as (name_labels next) (segment_within (pred m.steps) contents segment (at + 1 + size)))
+  pub matches_label : (size : ℕ) (label next : List ℕ) → label_type_at contents segment at ≡ Some (Label size) → FirstOf rest label next → occurs_at contents labels place ≡ (str_eq_ignore_ascii_case label (take size (drop (at + 1) contents)) && reads_as (name_labels next) (segment_within (pred m.steps) contents segment (at + 1 + size)))
   matches_label size label next is first =
       by_label_type (Some (Label size)) is
       ∙ ap (λ (l : List (List ℕ)). reads_as l (joined (take size (drop (at + 1) contents) ∷ []) None (segment_within (pred m.steps) contents segment (at + 1 + size)))) first.labels
@@ -106,7 +106,7 @@ module _ (contents : List ℕ) (labels : List (List ℕ)) (place : ℕ) (rest : 
         same = (matches_label size label next is first ∙ ap (λ (b : Bool). b && reads_as (name_labels next) (segment_within (pred m.steps) contents segment (at + 1 + size))) equal);
       }
 
-  pub matches_other : (size : ℕ) (label next : List ℕ) → label_type_at contents segment at ≡ Some (Label size) → FirstOf rest label next → str_eq_ignore_ascii_case label (take size (drop (at + 1) contents)) ≡ false → false ≡ stands_at contents labels place
+  pub matches_other : (size : ℕ) (label next : List ℕ) → label_type_at contents segment at ≡ Some (Label size) → FirstOf rest label next → str_eq_ignore_ascii_case label (take size (drop (at + 1) contents)) ≡ false → false ≡ occurs_at contents labels place
   matches_other size label next is first differ =
       sym (matches_label size label next is first ∙ ap (λ (b : Bool). b && reads_as (name_labels next) (segment_within (pred m.steps) contents segment (at + 1 + size))) differ)
 

@@ -12,7 +12,7 @@ use Rattle.dns_wire.proofs.RunLemmas.{run_within, run_next, run_wider, runs_wide
 
 -- ---- the labels of a run
 
--- a place from which labels stand up to the end of a run
+-- a place from which there are labels up to the end of a run
 record LabelPlace (contents places : List ℕ) (first at : ℕ) : Type 0 where
   trailing : first ≤ at
   low : at ≤ LAST_PLACE

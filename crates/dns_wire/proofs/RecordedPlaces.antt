@@ -3,8 +3,8 @@ use Rattle.std.proofs.Common.{◌≡◌, ℕ, zero, suc, ◌+◌, ◌-◌, ◌<�
 use Rattle.std.specs.Prelude.{slice_index, filter, Contains}
 use Rattle.std.specs.List.{AllByRecursion}
 use Rattle.std.proofs.lemmas.Bool.Decides.{nat_tests}
-use Rattle.std.proofs.lemmas.List.{length-append, take-append-drop, take-take, take_all, take_at}
-use Rattle.std.proofs.lemmas.List.Elements.{Contains-append_left, Contains-append_right, Contains-append_cases}
+use Rattle.std.proofs.lemmas.List.{length-append, take-append-drop, take-take, take_at}
+use Rattle.std.proofs.lemmas.List.Elements.{Contains-append_left, Contains-append_right, Contains-append_cases, filter-append}
 use Rattle.std.proofs.Math.Seq.{get_or-append_seam}
 use Rattle.dns_wire.specs.Compression.{BeginsAt, EndsLabels, is_label_size, is_within_reach, label_places, recorded}
 use Rattle.dns_wire.specs.Names.{IsLabel, labels_wire}
@@ -73,14 +73,13 @@ offsets_in (label ∷ labels) start place has =
       | inr later ↦ further_in start label labels place (offsets_in labels (start + 1 + length label) place later)
     ]
 
-offsets_have : (before : List (List ℕ)) (start : ℕ) (label : List ℕ) (others : List (List ℕ)) → Contains (offsets start (before ++ label ∷ others)) (start + length (labels_wire before))
-offsets_have [] start label others =
-    subst (Contains (start ∷ offsets (start + 1 + length label) others)) (omega arith)
-    (Contains-append_left (start ∷ []) (offsets (start + 1 + length label) others) start (itself start))
-offsets_have (first ∷ before) start label others =
+offsets_parts : (before : List (List ℕ)) (start : ℕ) (label : List ℕ) (others : List (List ℕ)) → offsets start (before ++ label ∷ others)
+    ≡ offsets start before ++ (start + length (labels_wire before)) ∷ offsets (start + length (labels_wire before) + 1 + length label) others
+offsets_parts [] start label others = ap (λ (n : ℕ). n ∷ offsets (n + 1 + length label) others) (omega arith)
+offsets_parts (first ∷ before) start label others =
     let there : start + 1 + length first + length (labels_wire before) ≡ start + length (labels_wire (first ∷ before)) = omega (arith, length-append first (labels_wire before)) in
-    Contains-append_right (start ∷ []) (offsets (start + 1 + length first) (before ++ label ∷ others)) (start + length (labels_wire (first ∷ before)))
-    (subst (Contains (offsets (start + 1 + length first) (before ++ label ∷ others))) there (offsets_have before (start + 1 + length first) label others))
+    ap (λ (l : List ℕ). start ∷ l) (offsets_parts before (start + 1 + length first) label others)
+    ∙ ap (λ (n : ℕ). start ∷ (offsets (start + 1 + length first) before ++ n ∷ offsets (n + 1 + length label) others)) there
 
 offsets_few : (labels : List (List ℕ)) (start : ℕ) → length (offsets start labels) ≡ length labels
 offsets_few [] start = refl
@@ -137,17 +136,31 @@ places_stay contents places start few =
     let more : List ℕ = filter is_within_reach (label_places (length contents - start) contents start) in
     take-take (length places) MAX_PLACES (places ++ more) few ∙ take_at places more (length places) refl
 
-pub each_recorded : (contents places tail : List ℕ) (labels : List (List ℕ)) (place : ℕ) → AllByRecursion IsLabel labels → EndsLabels tail → length places + length labels ≤ MAX_PLACES
-    → BeginsAt (length contents) labels place → place ≤ LAST_PLACE → Contains (recorded places (contents ++ (labels_wire labels ++ tail)) (length contents)) place
-each_recorded contents places tail labels place are ends room b low =
-    let found : List ℕ = filter is_within_reach (offsets (length contents) labels) in
-    let few : length (places ++ found) ≤ MAX_PLACES = omega (arith, room, length-append places found, reached_few (offsets (length contents) labels), offsets_few labels (length contents)) in
-    let here : Contains (offsets (length contents) labels) place =
-    subst (λ (l : List (List ℕ)). Contains (offsets (length contents) l) place) (sym b.labels_is)
-    (subst (Contains (offsets (length contents) (b.before ++ b.label ∷ b.others))) (sym b.place_is) (offsets_have b.before (length contents) b.label b.others)) in
+-- the first of some places after others, if there is room for one more than the others
+taken_seam : (most : ℕ) (xs : List ℕ) (x : ℕ) (rest : List ℕ) → length xs < most → Contains (take most (xs ++ x ∷ rest)) x
+taken_seam zero xs x rest room = absurd (omega arith)
+taken_seam (suc most) [] x rest room = Contains-append_left (x ∷ []) (take most rest) x (itself x)
+taken_seam (suc most) (y ∷ xs) x rest room = Contains-append_right (y ∷ []) (take most (xs ++ x ∷ rest)) x (taken_seam most xs x rest (omega (arith, room)))
+
+pub each_recorded : (contents places tail : List ℕ) (labels : List (List ℕ)) (place : ℕ) → AllByRecursion IsLabel labels → EndsLabels tail
+    → (begins : BeginsAt (length contents) labels place) → length places + length begins.before < MAX_PLACES → place ≤ LAST_PLACE
+    → Contains (recorded places (contents ++ (labels_wire labels ++ tail)) (length contents)) place
+each_recorded contents places tail labels place are ends begins room low =
+    let before : List ℕ = offsets (length contents) begins.before in
+    let rest : List ℕ = offsets (place + 1 + length begins.label) begins.others in
+    let parts : offsets (length contents) labels ≡ before ++ place ∷ rest =
+    ap (offsets (length contents)) begins.labels_is ∙ offsets_parts begins.before (length contents) begins.label begins.others
+    ∙ ap (λ (n : ℕ). before ++ n ∷ offsets (n + 1 + length begins.label) begins.others) (sym begins.place_is) in
     let test : is_within_reach place ≡ true = grind (arith, nat_tests) in
-    subst (λ (l : List ℕ). Contains l place) (sym (written_places contents places tail labels are ends ∙ take_all MAX_PLACES (places ++ found) few))
-    (Contains-append_right places found place (reached (offsets (length contents) labels) place here test))
+    let found : filter is_within_reach (offsets (length contents) labels) ≡ filter is_within_reach before ++ place ∷ filter is_within_reach rest =
+    ap (filter is_within_reach) parts ∙ filter-append is_within_reach before (place ∷ rest)
+    ∙ ap (λ (l : List ℕ). filter is_within_reach before ++ l) (filter_step place rest true test) in
+    let few : length (places ++ filter is_within_reach before) < MAX_PLACES =
+    omega (arith, room, length-append places (filter is_within_reach before), reached_few before, offsets_few begins.before (length contents)) in
+    subst (λ (l : List ℕ). Contains l place)
+    (sym (written_places contents places tail labels are ends ∙ ap (λ (l : List ℕ). take MAX_PLACES (places ++ l)) found
+    ∙ ap (take MAX_PLACES) (sym (append_assoc places (filter is_within_reach before) (place ∷ filter is_within_reach rest)))))
+    (taken_seam MAX_PLACES (places ++ filter is_within_reach before) place (filter is_within_reach rest) few)
 
 pub no_other_recorded : (contents places tail : List ℕ) (labels : List (List ℕ)) (place : ℕ) → AllByRecursion IsLabel labels → EndsLabels tail
     → Contains (recorded places (contents ++ (labels_wire labels ++ tail)) (length contents)) place → Contains places place ⊎ (BeginsAt (length contents) labels place × place ≤ LAST_PLACE)

@@ -17,7 +17,7 @@ pub record Turning (name forward : List ℕ) (labels : List (List ℕ)) (at end 
   pub within : at ≤ length name
   pub long : length forward ≡ length name
 
--- what stands after a place after a copy to it
+-- what comes after a place after a copy to it
 after_copy : (octets old new : List ℕ) (at : ℕ) → at ≤ length old → new ≡ take at old ++ (octets ++ drop (at + length octets) old) → drop at new ≡ octets ++ drop (at + length octets) old
 after_copy octets old new at within is =
     ap (drop at) is ∙ drop_at (take at old) (octets ++ drop (at + length octets) old) at (omega (arith, length-take at old))

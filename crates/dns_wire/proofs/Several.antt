@@ -3,8 +3,8 @@ use Rattle.std.proofs.Common.{◌≡◌, ℕ, ◌+◌, ◌<◌, ◌≤◌, List,
 use Rattle.std.specs.List.{flat_map}
 use Rattle.std.proofs.lemmas.List.{take_more, take-append-drop, flat_map_more}
 use Rattle.std.proofs.lemmas.List.Folds.{length-flat_map-take}
-use Rattle.dns_wire.specs.Building.{Stands, Builds}
-use Rattle.dns_wire.proofs.BuildingLemmas.{stands_long, prefix_unchanged}
+use Rattle.dns_wire.specs.Building.{Occurs, Builds}
+use Rattle.dns_wire.proofs.BuildingLemmas.{occurs_long, prefix_unchanged}
 
 -- the values up to one of them, and that one
 module _ {X : Type 0} (values : List X) (i : ℕ) (x : X) (within : i < length values) (is : x ≡ get_or values i x) where
@@ -22,18 +22,18 @@ module _ {X : Type 0} (values : List X) (i : ℕ) (x : X) (within : i < length v
   no_longer f = rw (← is) at (length-flat_map-take f values i x within)
 
 -- a part that is refused after a first one
-pub refused_later : {E D F G : Type 0} {a b whole first second third : List ℕ} {start middle : ℕ} {e : E} {d : D} → Stands a first start second middle → Builds G b second middle third (Err e) → (F → G) → length a + length b ≤ length whole → Builds F whole first start third (Err d)
+pub refused_later : {E D F G : Type 0} {a b whole first second third : List ℕ} {start middle : ℕ} {e : E} {d : D} → Occurs a first start second middle → Builds G b second middle third (Err e) → (F → G) → length a + length b ≤ length whole → Builds F whole first start third (Err d)
 refused_later {a = a} {b} {whole} {first} {second} {third} {start} {middle} s t all long = record {
   ok = tt;
-  err = (prefix_unchanged first second third a start middle s t.err.0, t.err.1 ∙ stands_long s, λ f. omega (arith, t.err.2 (all f), s.end_is, stands_long s));
+  err = (prefix_unchanged first second third a start middle s t.err.0, t.err.1 ∙ occurs_long s, λ f. omega (arith, t.err.2 (all f), s.end_is, occurs_long s));
 }
 
--- a list of octets stands as it is
+-- a list of octets is unchanged
 pub themselves : (bytes : List ℕ) → flat_map (λ b. b ∷ []) bytes ≡ bytes
 themselves [] = refl
 themselves (b ∷ bytes) = ap (λ (rest : List ℕ). b ∷ rest) (themselves bytes)
 
--- the same octets, which fit where the others do
+-- the same octets, which fit if the others do
 pub builds_alike : {E F G : Type 0} {a b old new : List ℕ} {start : ℕ} {result : Result ℕ E} → (F → G) → (G → F) → a ≡ b → Builds F a old start new result → Builds G b old start new result
 builds_alike {old = old} {new} {start} {result = Ok end} there back same s =
     record { ok = (there s.ok.0, rw (← same) s.ok.1); err = tt }

@@ -1,4 +1,4 @@
--- What a name without pointers is, in words: labels whose octets stand at the start.
+-- What a name without pointers is, in words: labels whose octets are at the start.
 use Rattle.std.proofs.Common.{◌≡◌, ℕ, zero, suc, ◌+◌, ◌<◌, ◌≤◌, ◌⊎◌, inl, inr, Bool, true, false, cond, ltb, List, [], ◌∷◌, ◌++◌, length, get_or, take, drop, Option, Some, None, refl, sym, ap, subst, ◌∙◌, append_assoc, arith}
 use Rattle.std.specs.Prelude.{unwrap_or, ◌==◌, ◌||◌}
 use Rattle.std.specs.List.{AllByRecursion}

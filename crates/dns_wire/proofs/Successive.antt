@@ -13,7 +13,7 @@ use Rattle.dns_wire.proofs.Several.{builds_alike}
 -- ---- a list that is cut in two
 
 module _ {A : Type 0} (fits : A → List ℕ → List ℕ → Type 0) (writes : A → CompressedWrite) where
-  -- it fits where its parts fit, one after the other
+  -- it fits if its parts fit, one after the other
   pub list_fits-append : (values others : List A) (contents places : List ℕ) → then_fits (list_fits fits writes values) (list_writes writes values) (list_fits fits writes others) contents places → list_fits fits writes (values ++ others) contents places
   unfolding list_fits list_writes
   list_fits-append [] others contents places h = subst (λ (c : List ℕ). list_fits fits writes others c places) (append-nil contents) h.1
@@ -22,7 +22,7 @@ module _ {A : Type 0} (fits : A → List ℕ → List ℕ → Type 0) (writes : 
       let second = list_writes writes values (contents ++ first.0) first.1 in
       (h.0.0, list_fits-append values others (contents ++ first.0) first.1 (h.0.1, subst (λ (c : List ℕ). list_fits fits writes others c second.1) (sym (append_assoc contents first.0 second.0)) h.1))
 
-  -- and its parts fit where it does
+  -- and its parts fit if it does
   pub list_fits-parts : (values others : List A) (contents places : List ℕ) → list_fits fits writes (values ++ others) contents places → then_fits (list_fits fits writes values) (list_writes writes values) (list_fits fits writes others) contents places
   unfolding list_fits list_writes
   list_fits-parts [] others contents places h = (tt, subst (λ (c : List ℕ). list_fits fits writes others c places) (sym (append-nil contents)) h)
@@ -37,7 +37,7 @@ module _ {A : Type 0} (fits : A → List ℕ → List ℕ → Type 0) (writes : 
   unfolding list_fits
   each_fits values contents places h prefix back value parts = (list_fits-parts prefix (value ∷ back) contents places (subst (λ (l : List A). list_fits fits writes l contents places) parts h)).1.0
 
-  -- and where each does, the list fits
+  -- and if each does, the list fits
   pub fits_each : (values : List A) (contents places : List ℕ) → EachFits fits writes values contents places → list_fits fits writes values contents places
   unfolding list_fits list_writes
   fits_each [] contents places each = tt
@@ -80,11 +80,11 @@ module _ {A : Type 0} (fits : A → List ℕ → List ℕ → Type 0) (writes : 
     -- the next one is written after them
     pub next_built : {F : Type 0} (new after : List ℕ) (end : ℕ) → BuildsIn {E = F} (fits value (take middle mid) known) (writes value (take middle mid) known) mid middle known new after (Ok end) → BuildsIn {E = E} (list_fits fits writes (prefix ++ value ∷ []) (take start old) places) (list_writes writes (prefix ++ value ∷ []) (take start old) places) old start places new after (Ok end)
     next_built {F} new after end t =
-        let u = both_built (list_writes writes prefix) (writes value) (list_fits fits writes prefix) (fits value) old mid places known start middle built.accepted built.stands built.after_is built.grows {E = F} new after end t in
+        let u = both_built (list_writes writes prefix) (writes value) (list_fits fits writes prefix) (fits value) old mid places known start middle built.accepted built.occurs built.after_is built.grows {E = F} new after end t in
         let v = subst (λ (r : List ℕ × List ℕ). BuildsIn {E = F} (then_fits (list_fits fits writes prefix) (list_writes writes prefix) (fits value) (take start old) places) r old start places new after (Ok end)) (next_writes prefix value (take start old) places) u in
         record {
           accepted = next_fits prefix value (take start old) places u.accepted;
-          stands = v.stands;
+          occurs = v.occurs;
           after_is = v.after_is;
           grows = v.grows;
           leads = v.leads;
@@ -97,13 +97,13 @@ module _ {A : Type 0} (fits : A → List ℕ → List ℕ → Type 0) (writes : 
     -- the next one is refused, and the places of all of them are taken back
     pub next_refused : {F G : Type 0} (others values : List A) (new after back : List ℕ) (e : F) (d : G) → (prefix ++ value ∷ []) ++ others ≡ values → back ≡ take (length places) after → BuildsIn (fits value (take middle mid) known) (writes value (take middle mid) known) mid middle known new after (Err e) → BuildsIn (list_fits fits writes values (take start old) places) (list_writes writes values (take start old) places) old start places new back (Err d)
     next_refused {F} {G} others values new after back e d parts back_is t =
-        let u = both_refused (list_writes writes prefix) (writes value) (list_fits fits writes prefix) (fits value) old mid places known start middle built.accepted built.stands built.after_is built.grows new after back e d back_is t in
+        let u = both_refused (list_writes writes prefix) (writes value) (list_fits fits writes prefix) (fits value) old mid places known start middle built.accepted built.occurs built.after_is built.grows new after back e d back_is t in
         let c : List ℕ = take start old in
         let same = ap (λ (r : List ℕ × List ℕ). length r.0) (next_writes prefix value c places) in
         let longer = subst (λ (l : List A). length (list_writes writes (prefix ++ value ∷ []) c places).0 ≤ length (list_writes writes l c places).0) parts (no_shorter (prefix ++ value ∷ []) others c places) in
         record {
           accepted = tt;
-          stands = tt;
+          occurs = tt;
           after_is = tt;
           grows = tt;
           leads = tt;
@@ -115,7 +115,7 @@ module _ {A : Type 0} (fits : A → List ℕ → List ℕ → Type 0) (writes : 
 
 -- ---- octets, one after another
 
--- they are written as they stand
+-- they are written unchanged
 pub octets_listed : (octets contents places : List ℕ) → list_writes (λ b. octets_writes (b ∷ [])) octets contents places ≡ octets_writes octets contents places
 unfolding list_writes
 octets_listed [] contents places = refl

@@ -1,4 +1,4 @@
--- Octets are read as text exactly where they are UTF-8.
+-- Octets are read as text exactly if they are UTF-8.
 use Rattle.std.proofs.Common.{◌≡◌, ℕ, List, [], Bool, true, false, Some, None, refl}
 use Rattle.std.specs.Prelude.{if◌then◌else◌}
 use Rattle.std.specs.Str.{IsUtf8, is_utf8}

@@ -14,17 +14,17 @@ use Rattle.dns_wire.specs.Pointers.{offset_at, NameAt, name_at}
 -- ---- which suffix of a name is known
 
 -- the same labels, ignoring ASCII case
-abbrev pub are_alike : Labels → Labels → Bool
-are_alike xs ys = pointwise str_eq_ignore_ascii_case xs ys
+abbrev pub labels_alike : Labels → Labels → Bool
+labels_alike xs ys = pointwise str_eq_ignore_ascii_case xs ys
 
 -- a reading gives these labels, ignoring ASCII case
 abbrev pub reads_as : Labels → Option (Labels × ℕ) → Bool
 reads_as labels None = false
-reads_as labels (Some (there, end)) = are_alike labels there
+reads_as labels (Some (there, end)) = labels_alike labels there
 
 -- these labels are those of the name at the place, ignoring ASCII case
-unfoldable pub stands_at : Octets → Labels → ℕ → Bool
-stands_at contents labels place = reads_as labels (name_at contents place)
+unfoldable pub occurs_at : Octets → Labels → ℕ → Bool
+occurs_at contents labels place = reads_as labels (name_at contents place)
 
 -- a place of the suffix that begins after that many octets, or else what is known of shorter ones
 abbrev pub or_shorter : ℕ → Option ℕ → Option (ℕ × ℕ) → Option (ℕ × ℕ)
@@ -36,11 +36,11 @@ or_shorter prefix (Some place) shorter = Some (prefix, place)
 unfoldable pub longest_recorded : Octets → Places → ℕ → Labels → Option (ℕ × ℕ)
 longest_recorded contents places prefix [] = None
 longest_recorded contents places prefix (label ∷ labels) =
-    or_shorter prefix (find (stands_at contents (label ∷ labels)) places) (longest_recorded contents places (prefix + 1 + length label) labels)
+    or_shorter prefix (find (occurs_at contents (label ∷ labels)) places) (longest_recorded contents places (prefix + 1 + length label) labels)
 
 -- ---- the same in words
 
--- the name at the place is these labels, ignoring ASCII case, and what stands there ends at end
+-- the name at the place is these labels, ignoring ASCII case, and what is there ends at end
 pub record ReadsAlike (contents : Octets) (labels : Labels) (at end : ℕ) : Type 0 where
   pub there : Labels
   pub name : NameAt contents at there end
@@ -70,7 +70,7 @@ abbrev pub cut_at : Octets → Option (ℕ × ℕ) → Octets
 cut_at octets None = octets
 cut_at octets (Some (prefix, place)) = take prefix octets ++ to_be_bytes w16 (POINTER_TAG * 256 + HEADER_SIZE + place)
 
--- a name's octets where names at these places of the contents are known
+-- a name's octets if names at these places of the contents are known
 abbrev pub compress : Octets → Places → Labels → Octets
 compress contents places labels = cut_at (wire labels) (longest_recorded contents places 0 labels)
 
@@ -80,7 +80,7 @@ compress contents places labels = cut_at (wire labels) (longest_recorded content
 abbrev pub is_label_size : ℕ → Bool
 is_label_size size = nat_lt 0 size && nat_lt size 64
 
--- the places of labels that stand one after another from a place on; no more than that many
+-- the places of labels that come one after another from a place on; no more than that many
 unfoldable pub label_places : ℕ → Octets → ℕ → Places
 label_places zero contents at = []
 label_places (suc most) contents at =
@@ -94,7 +94,7 @@ is_within_reach place = nat_le place LAST_PLACE
 abbrev pub with_more : Places → Places → Places
 with_more places more = take MAX_PLACES (places ++ filter is_within_reach more)
 
--- the places afterwards, where a name has been written from start to the end of the contents
+-- the places afterwards, if a name has been written from start to the end of the contents
 abbrev pub recorded : Places → Octets → ℕ → Places
 recorded places contents start = with_more places (label_places (length contents - start) contents start)
 
@@ -105,7 +105,7 @@ abbrev pub EndsLabels : Octets → Type 0
 EndsLabels [] = ⊥
 EndsLabels (octet ∷ rest) = (octet ≡ 0) ⊎ (64 ≤ octet)
 
--- one of the labels begins at this place, where the first begins at start
+-- one of the labels begins at this place, if the first begins at start
 pub record BeginsAt (start : ℕ) (labels : Labels) (place : ℕ) : Type 0 where
   pub before : Labels
   pub label : Octets
@@ -113,7 +113,7 @@ pub record BeginsAt (start : ℕ) (labels : Labels) (place : ℕ) : Type 0 where
   pub labels_is : labels ≡ before ++ label ∷ others
   pub place_is : place ≡ start + length (labels_wire before)
 
--- What is written after contents where names at these places are known: the octets, and the places afterwards.
+-- What is written after contents if names at these places are known: the octets, and the places afterwards.
 abbrev pub CompressedWrite : Type 0
 CompressedWrite = Octets → Places → Octets × Places
 
@@ -133,13 +133,13 @@ compressed_name_writes labels contents places = (
 
 -- ---- places that lead to names
 
--- from here on stand labels, up to the root or up to a pointer that leads to a recorded place before first
+-- from here on there are labels, up to the root or up to a pointer that leads to a recorded place before first
 pub data Run (contents : Octets) (places : Places) (first : ℕ) : ℕ → Type 0 where
   run_root : {at : ℕ} → at < length contents → slice_index contents at ≡ 0 → Run contents places first at
   run_label : {at : ℕ} → 0 < slice_index contents at → slice_index contents at < 64 → at + 1 + slice_index contents at ≤ length contents → Run contents places first (at + 1 + slice_index contents at) → Run contents places first at
   run_pointer : {at : ℕ} (target : ℕ) → POINTER_TAG ≤ slice_index contents at → at + 2 ≤ length contents → offset_at contents at ≡ target + HEADER_SIZE → Contains places target → target < first → Run contents places first at
 
--- a label stands here, others after it, and at their end the root or a pointer to an earlier recorded place
+-- a label is here, others after it, and at their end the root or a pointer to an earlier recorded place
 pub record RunAt (contents : Octets) (places : Places) (at : ℕ) : Type 0 where
   pub labelled : (0 < slice_index contents at) × (slice_index contents at < 64)
   pub run : Run contents places at at
@@ -155,7 +155,7 @@ pub record FitsIn (places : Places) (contents : Octets) : Type 0 where
   pub places_are : ArePlaces places
   pub runs : AllByRecursion (RunAt contents places) places
 
--- new places stand after the old ones, and lie from start on
+-- new places come after the old ones, and lie from start on
 pub record Grows (places after : Places) (start : ℕ) : Type 0 where
   pub added : Places
   pub after_is : after ≡ places ++ added

@@ -6,27 +6,27 @@ use Rattle.dns_wire.specs.Octets.{Octets}
 -- ---- reading
 
 -- a space, a tab, CR or LF
-abbrev pub is_blank : ℕ → Bool
-is_blank b = b == 32 || b == 9 || b == 13 || b == 10
+abbrev pub is_whitespace : ℕ → Bool
+is_whitespace b = b == 32 || b == 9 || b == 13 || b == 10
 
 -- the same in words
-abbrev pub IsBlank : ℕ → Type 0
-IsBlank b = (b ≡ 32) ⊎ ((b ≡ 9) ⊎ ((b ≡ 13) ⊎ (b ≡ 10)))
+abbrev pub IsWhitespace : ℕ → Type 0
+IsWhitespace b = (b ≡ 32) ⊎ ((b ≡ 9) ⊎ ((b ≡ 13) ⊎ (b ≡ 10)))
 
--- A text without the blanks at its end: what is left is its start, all after that is blanks, and what is left is empty
+-- A text without the whitespace at its end: what is left is its start, all after that is whitespace, and what is left is empty
 -- or ends in an octet that is none.
 pub record Trimmed (text left : Octets) : Type 0 where
-  pub blanks : Octets
-  pub text_is : text ≡ left ++ blanks
-  pub blank : AllByRecursion IsBlank blanks
-  pub solid : (before : Octets) (last : ℕ) → left ≡ before ++ last ∷ [] → ¬ IsBlank last
+  pub whitespace : Octets
+  pub text_is : text ≡ left ++ whitespace
+  pub blank : AllByRecursion IsWhitespace whitespace
+  pub solid : (before : Octets) (last : ℕ) → left ≡ before ++ last ∷ [] → ¬ IsWhitespace last
 
--- an octet and the text after it, which has no blank at its end
+-- an octet and the text after it, which has no whitespace at its end
 abbrev pub trim_cons : ℕ → Octets → Octets
-trim_cons b [] = if is_blank b then [] else b ∷ []
+trim_cons b [] = if is_whitespace b then [] else b ∷ []
 trim_cons b (c ∷ rest) = b ∷ c ∷ rest
 
--- a text without the blanks at its end; `trimmed_text` says it in other words
+-- a text without the whitespace at its end; `trimmed_text` says it in other words
 unfoldable pub trim : Octets → Octets
 trim [] = []
 trim (b ∷ rest) = trim_cons b (trim rest)
@@ -44,7 +44,7 @@ abbrev pub pair_before : Option ℕ → Option ℕ → Option Octets → Option 
 pair_before (Some high) (Some low) (Some octets) = Some ((high * 16 + low) ∷ octets)
 pair_before high low octets = None
 
--- the octets that pairs of digits spell; none where the text is no pairs of digits
+-- the octets that pairs of digits spell; `None` if the text is no pairs of digits
 unfoldable pub spelled : Octets → Option Octets
 spelled [] = Some []
 spelled (c ∷ []) = None
@@ -59,7 +59,7 @@ pub data ArePairs : Octets → Octets → Type 0 where
   ended : ArePairs [] []
   pair : (c d high low : ℕ) (text octets : Octets) → high < 16 → low < 16 → IsDigit c high → IsDigit d low → ArePairs text octets → ArePairs (c ∷ d ∷ text) ((high * 16 + low) ∷ octets)
 
--- except for blanks at its end, the text is pairs of digits, and they spell these octets
+-- except for whitespace at its end, the text is pairs of digits, and they spell these octets
 abbrev pub Spells : Octets → Octets → Type 0
 Spells text octets = spelled (trim text) ≡ Some octets
 

@@ -2,17 +2,17 @@
 -- end where writing begins. Places are those of names that are known.
 use Rattle.std.specs.Prelude.{◌≡◌, ℕ, ◌+◌, ◌<◌, List, [], ◌∷◌, ◌++◌, length, take, Result, IfOk, OnOk, OnErr, ⊤}
 use Rattle.dns_wire.specs.Octets.{Octets, Places}
-use Rattle.dns_wire.specs.Building.{Stands}
+use Rattle.dns_wire.specs.Building.{Occurs}
 use Rattle.dns_wire.specs.Compression.{FitsIn, Grows, CompressedWrite, written_octets, places_afterwards}
 use Rattle.dns_wire.specs.Layout.{list_writes}
 
--- What a building call in a message does, where these octets are to be written, and these are the places afterwards. It
--- is accepted exactly where all prefixed data fit and the octets are at most the free ones. Then they stand from start
+-- What a building call in a message does, if these octets are to be written, and these are the places afterwards. It
+-- is accepted exactly if all prefixed data fit and the octets are at most the free ones. Then they lie from start
 -- on, and the places are noted: they lead to names in what has been written. Else the octets before start and the places
 -- are as they were.
 pub record BuildsIn {E : Type 0} (fits : Type 0) (compressed : Octets × Places) (old : Octets) (start : ℕ) (places : Places) (new : Octets) (after : Places) (result : Result ℕ E) : Type 0 where
   pub accepted : OnOk result fits
-  pub stands : IfOk result (λ end. Stands (written_octets compressed) old start new end)
+  pub occurs : IfOk result (λ end. Occurs (written_octets compressed) old start new end)
   pub after_is : OnOk result (after ≡ places_afterwards compressed)
   pub grows : OnOk result (Grows places after start)
   pub leads : IfOk result (λ end. FitsIn after (take end new))

@@ -31,12 +31,12 @@ list_writes writes (value ∷ values) = then_writes (writes value) (list_writes 
 abbrev pub laid : List LayoutPart → CompressedWrite
 laid layout = list_writes part_writes layout
 
--- where the layout is known, what is written is what its parts write
+-- if the layout is known, what is written is what its parts write
 abbrev pub LayoutMatches : Option (List LayoutPart) → CompressedWrite → Type 0
 LayoutMatches None writes = ⊤
 LayoutMatches (Some layout) writes = (contents : Octets) (places : Places) → writes contents places ≡ laid layout contents places
 
--- the layout of one value and then of another, where both are known
+-- the layout of one value and then of another, if both are known
 abbrev pub both_layouts : Option (List LayoutPart) → Option (List LayoutPart) → Option (List LayoutPart)
 both_layouts None others = None
 both_layouts (Some layout) None = None

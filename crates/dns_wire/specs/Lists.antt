@@ -1,4 +1,4 @@
--- Values that stand one after another.
+-- Values that come one after another.
 use Rattle.std.specs.Prelude.{◌≡◌, ℕ, zero, suc, List, [], ◌∷◌, ◌++◌, Option, Some, None, Result, Ok, Err}
 use Rattle.dns_wire.specs.Octets.{Octets}
 use Rattle.dns_wire.specs.declared.list.ListError.{ListError}
@@ -19,7 +19,7 @@ unfoldable pub list_of : {Y : Type 0} → (Octets → Option (Y × Octets)) → 
 list_of grammar zero bytes = Some ([], bytes)
 list_of grammar (suc n) bytes = then_list (list_of grammar n) (grammar bytes)
 
--- What a call answered, seen by view, is what is read: `Ok` and `Parse` exactly where it is, unless memory ran out.
+-- What a call answered, seen by view, is what is read: `Ok` and `Parse` exactly if it is, unless memory ran out.
 abbrev pub GivesList : {X Y : Type 0} → (X → Y) → Result X ListError → Option Y → Type 0
 GivesList view (Ok x) read = read ≡ Some (view x)
 GivesList view (Err Parse) read = read ≡ None

@@ -1,4 +1,4 @@
--- Names: lists of labels without the root, and how they stand on the wire (RFC 1035 sections 2.3.4 and 3.1).
+-- Names: lists of labels without the root, and their form on the wire (RFC 1035 sections 2.3.4 and 3.1).
 use Rattle.std.specs.Prelude.{ℕ, zero, suc, ◌<◌, ◌≤◌, [], ◌∷◌, ◌++◌, length, take, drop, map, Option, Some, None, unwrap_or, nat_lt, ◌==◌, ◌||◌, if◌then◌else◌}
 use Rattle.std.specs.List.{AllByRecursion}
 use Rattle.std.specs.Str.{str_to_ascii_lowercase}
@@ -20,7 +20,7 @@ labels_wire (label ∷ labels) = length label ∷ (label ++ labels_wire labels)
 abbrev pub wire : Labels → Octets
 wire labels = labels_wire labels ++ 0 ∷ []
 
--- labels are a name where their octets are at most 255
+-- labels are a name if their octets are at most 255
 pub record IsName (labels : Labels) : Type 0 where
   pub sizes : AllByRecursion IsLabel labels
   pub size : length (wire labels) ≤ 255
@@ -36,7 +36,7 @@ abbrev pub after_labels : Labels → Option (Labels × Octets) → Option (Label
 after_labels labels None = None
 after_labels labels (Some (others, rest)) = Some (labels ++ others, rest)
 
--- the labels up to the root, and what follows it, where no more than steps lengths are read
+-- the labels up to the root, and what follows it, if no more than steps lengths are read
 unfoldable pub labels_within : ℕ → Octets → Option (Labels × Octets)
 labels_within zero bytes = None
 labels_within (suc steps) [] = None
@@ -50,8 +50,8 @@ abbrev pub up_to_255 : Option (Labels × Octets) → Option (Labels × Octets)
 up_to_255 None = None
 up_to_255 (Some (labels, rest)) = if nat_lt 255 (length (wire labels)) then None else Some (labels, rest)
 
--- The name at the start, and what follows it. `plain_names` says it in other words: labels are read exactly where they
--- are a name whose octets stand at the start.
+-- The name at the start, and what follows it. `plain_names` says it in other words: labels are read exactly if they
+-- are a name whose octets are at the start.
 unfoldable pub plain_name : Octets → Option (Labels × Octets)
 plain_name bytes = up_to_255 (labels_within (length bytes) bytes)
 

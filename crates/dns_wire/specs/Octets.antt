@@ -1,7 +1,7 @@
 -- Octets, and what is made of them.
 use Rattle.std.specs.Prelude.{ℕ, List}
 
--- octets one after another, each a number below 256 where they come from a message or a text
+-- octets one after another, each a number below 256 if they come from a message or a text
 abbrev pub Octets : Type 0
 Octets = List ℕ
 

@@ -5,11 +5,11 @@ use Rattle.dns_wire.specs.Octets.{Octets}
 
 -- ---- faults
 
--- a count of faults has counted one: it is one more than before, or stands at its last value, where it stops
+-- a count of faults has counted one: it is one more than before, or is at its last value, where it stops
 abbrev pub Rose : ℕ → ℕ → Type 0
 Rose before now = now ≡ min (before + 1) (2 ^ 64 - 1)
 
--- a count never falls, stays at `Ok`, and counts one where the call fails
+-- a count never falls, stays at `Ok`, and counts one if the call fails
 pub record HasCause {T E : Type 0} (before now : ℕ) (result : Result T E) : Type 0 where
   pub later : before ≤ now
   pub steady : OnOk result (now ≡ before)
@@ -17,12 +17,12 @@ pub record HasCause {T E : Type 0} (before now : ℕ) (result : Result T E) : Ty
 
 -- ---- the flag of a sink: all that was taken has arrived
 
--- the flag, where it is known, is now this
+-- the flag, if it is known, is now this
 abbrev pub BecomesFlag : Option Bool → Option Bool → Bool → Type 0
 BecomesFlag None new value = Unit {0}
 BecomesFlag (Some old) new value = new ≡ Some value
 
--- the flag, where it is known, stays
+-- the flag, if it is known, stays
 abbrev pub FlagUnchanged : Option Bool → Option Bool → Type 0
 FlagUnchanged None new = Unit {0}
 FlagUnchanged (Some old) new = new ≡ Some old
@@ -34,13 +34,13 @@ WriteFlag (Some old) new result = MatchResult result (λ n. new ≡ Some (if nat
 
 -- ---- where octets are read to
 
--- only the octets that were read are put into the buffer, and nothing is where the call fails
+-- only the octets that were read are put into the buffer, and nothing is if the call fails
 abbrev pub UnchangedAfter : {E : Type 0} → Octets → Octets → Result ℕ E → Type 0
 UnchangedAfter old new result = MatchResult result (λ n. drop n new ≡ drop n old) (λ _. new ≡ old)
 
 -- ---- whole texts
 
--- all that was left has been read, and nothing is left, where octets are known
+-- all that was left has been read, and nothing is left, if octets are known
 abbrev pub ReadsAll : Option Octets → Option Octets → Octets → Type 0
 ReadsAll old new text = IfSome old (λ all. (text ≡ all) × (new ≡ Some []))
 

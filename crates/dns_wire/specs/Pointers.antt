@@ -18,7 +18,7 @@ offset_at contents at = offset_of (slice_index contents at) (slice_index content
 
 -- ---- as a relation
 
--- The labels to be read at a place, and where what stands at that very place ends. A segment is a sequence of labels that
+-- The labels to be read at a place, and where what is at that very place ends. A segment is a sequence of labels that
 -- begins with the name, or where a pointer leads; this one began at start. There is a case for each kind of octet at
 -- the place:
 --     0            the root: no more labels
@@ -30,7 +30,7 @@ pub data Segment (contents : Octets) : ℕ → ℕ → Labels → ℕ → Type 0
   at_label : {start at end : ℕ} {labels others : Labels} → 0 < slice_index contents at → slice_index contents at < 64 → at + 1 + slice_index contents at ≤ length contents → labels ≡ take (slice_index contents at) (drop (at + 1) contents) ∷ others → Segment contents start (at + 1 + slice_index contents at) others end → Segment contents start at labels end
   at_pointer : {start at end target later : ℕ} {labels : Labels} → POINTER_TAG ≤ slice_index contents at → at + 2 ≤ length contents → offset_at contents at ≡ target + HEADER_SIZE → target < start → Segment contents target target labels later → end ≡ at + 2 → Segment contents start at labels end
 
--- a name of at most 255 octets is read at a place, and what stands there ends at end
+-- a name of at most 255 octets is read at a place, and what is there ends at end
 pub record NameAt (contents : Octets) (at : ℕ) (labels : Labels) (end : ℕ) : Type 0 where
   pub reads : Segment contents at at labels end
   pub short : length (wire labels) ≤ 255
@@ -43,7 +43,7 @@ label_type_count (at_pointer high room is before later end_is) = label_type_coun
 
 -- ---- as a function
 
--- what stands at a place of the segment that begins at start
+-- what is at a place of the segment that begins at start
 unfoldable pub label_type_at : Octets → ℕ → ℕ → Option LabelType
 label_type_at contents start at =
     if nat_le (length contents) at then None
@@ -59,8 +59,8 @@ LabelTypeFits contents start at Root = at < length contents
 LabelTypeFits contents start at (Label size) = (slice_index contents at ≡ size) × (0 < size) × (size < 64) × (at + 1 + size ≤ length contents)
 LabelTypeFits contents start at (Pointer target) = (at + 2 ≤ length contents) × (target < start)
 
--- Where a reading is after a label type: after a label, and where a pointer leads, in a segment that begins there. What stands
--- at the name's own place ends after the first pointer, or after the root where there is none.
+-- Where a reading is after a label type: after a label, and where a pointer leads, in a segment that begins there. What is
+-- at the name's own place ends after the first pointer, or after the root if there is none.
 abbrev pub after : NameCursor → LabelType → NameCursor
 after cursor Root = record cursor { end = Some (unwrap_or cursor.end (cursor.at + 1)) }
 after cursor (Label size) = record cursor { at = cursor.at + 1 + size }
@@ -78,7 +78,7 @@ after_label_type more contents start at (Some Root) = Some ([], at + 1)
 after_label_type more contents start at (Some (Label size)) = joined (take size (drop (at + 1) contents) ∷ []) None (more start (at + 1 + size))
 after_label_type more contents start at (Some (Pointer target)) = joined [] (Some (at + 2)) (more target target)
 
--- the labels at a place of a segment, and where the octets there end, where no more than steps label types are read
+-- the labels at a place of a segment, and where the octets there end, if no more than steps label types are read
 unfoldable pub segment_within : ℕ → Octets → ℕ → ℕ → Option (Labels × ℕ)
 segment_within zero contents start at = None
 segment_within (suc steps) contents start at = after_label_type (λ s p. segment_within steps contents s p) contents start at (label_type_at contents start at)
@@ -89,6 +89,6 @@ short_name None = None
 short_name (Some (labels, end)) = if nat_lt 255 (length (wire labels)) then None else Some (labels, end)
 
 -- The name at a place, and where its octets end. `names_follow_pointers` says it in other words: labels are read exactly
--- where the relation has them.
+-- if the relation has them.
 unfoldable pub name_at : Octets → ℕ → Option (Labels × ℕ)
 name_at contents at = short_name (segment_within (256 + at) contents at at)

@@ -9,18 +9,18 @@ use denote.Ref.{Bor}
 abbrev pub AreOctets : Octets → Type 0
 AreOctets bytes = (i : ℕ) → slice_index bytes i < 256
 
--- What a call answered, seen by view, is what the grammar reads: `Ok` exactly where it reads something.
+-- What a call answered, seen by view, is what the grammar reads: `Ok` exactly if it reads something.
 abbrev pub Gives : {X E Y : Type 0} → (X → Y) → Result X E → Option Y → Type 0
 Gives view (Ok x) read = read ≡ Some (view x)
 Gives view (Err e) read = read ≡ None
 
--- what is read, where no octet is left over
+-- what is read, if no octet is left over
 abbrev pub all_of : {Y : Type 0} → Option (Y × Octets) → Option Y
 all_of None = None
 all_of (Some (y, [])) = Some y
 all_of (Some (y, x ∷ rest)) = None
 
--- a value that was read, where no octet is left over
+-- a value that was read, if no octet is left over
 abbrev pub whole_of : {T : Type 0} → Result (T × Bor Octets) ParseError → Result T ParseError
 whole_of (Err e) = Err e
 whole_of (Ok (value, rest)) = elim rest.now [ [] ↦ Ok value | x ∷ more ↦ Err (record {}) ]
@@ -56,12 +56,12 @@ number w bytes =
 abbrev pub EndsWithin : {Y : Type 0} → (Octets → ℕ → Option (Y × ℕ)) → Type 0
 EndsWithin {Y} grammar = (contents : Octets) (at : ℕ) (y : Y) (end : ℕ) → grammar contents at ≡ Some (y, end) → (at ≤ end) × (end ≤ length contents)
 
--- what is read, where it ends with the contents
+-- what is read, if it ends with the contents
 abbrev pub all_at : {Y : Type 0} → Octets → Option (Y × ℕ) → Option Y
 all_at contents None = None
 all_at contents (Some (y, end)) = if end == length contents then Some y else None
 
--- a value that was read, where it ends with the contents
+-- a value that was read, if it ends with the contents
 abbrev pub whole_in : {T : Type 0} → Octets → Result (T × ℕ) ParseError → Result T ParseError
 whole_in contents (Err e) = Err e
 whole_in contents (Ok (value, end)) = if end == length contents then Ok value else Err (record {})

@@ -49,7 +49,7 @@ pub counted_leaves : {A : Type 0} (b : Bool) (n : ℕ) (bytes : List ℕ) (x y :
 counted_leaves true n bytes x y rest is e = absurd cc
 counted_leaves false n bytes x y rest is e = let same = some_pair_parts x y (drop n bytes) rest e in record { count = n; within = ltb-false _ _ is; rest_is = sym same.1 }
 
--- all the octets, where they are such
+-- all the octets, if they are such
 pub tested_leaves : (b : Bool) (bytes x rest : List ℕ) → ◌≡◌ {A = Option (List ℕ × List ℕ)} (cond b (Some (bytes, [])) None) (Some (x, rest)) → Follows rest bytes
 tested_leaves true bytes x rest e = nothing_follows bytes rest (sym (some_pair_parts bytes x [] rest e).1)
 tested_leaves false bytes x rest e = absurd cc

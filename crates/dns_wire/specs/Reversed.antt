@@ -6,7 +6,7 @@ use Rattle.dns_wire.specs.Reading.{all_of}
 
 -- ---- labels one after another, each after its length
 
--- the labels that the octets are; none where they are not such. With a root after them they are a name
+-- the labels that the octets are; `None` if they are not such. With a root after them they are a name
 abbrev pub relative_name : Octets → Option Labels
 relative_name bytes = all_of (plain_name (bytes ++ 0 ∷ []))
 
@@ -21,8 +21,8 @@ relative_labels bytes = name_labels (bytes ++ 0 ∷ [])
 abbrev pub reversed_wire : Labels → Octets
 reversed_wire labels = 0 ∷ labels_wire (reverse labels)
 
--- The labels that such octets are, from the first to the last; none where they are not a name's. `reversed_names` says it
--- in other words: labels are read exactly where they are a name whose octets from the root on are these.
+-- The labels that such octets are, from the first to the last; `None` if they are not a name's. `reversed_names` says it
+-- in other words: labels are read exactly if they are a name whose octets from the root on are these.
 unfoldable pub reversed_name : Octets → Option Labels
 reversed_name [] = None
 reversed_name (size ∷ relative) = if size == 0 then option_map reverse (relative_name relative) else None

@@ -1,4 +1,4 @@
--- Octets that a value owns and lends for writing.
+-- Octets that a value owns, and that are borrowed for writing.
 use Rattle.std.specs.Prelude.{ℕ, ◌+◌, length, take, drop, slice_index, ◌++◌}
 use Rattle.std.specs.Borrow.{Lends, Fml, RattleType, MutBor, Array, u8}
 use Rattle.dns_wire.specs.Octets.{Octets}
@@ -12,6 +12,6 @@ stored octets = take (slice_index octets 0) (drop 1 octets)
 abbrev pub overwritten : Octets → ℕ → Octets → Octets
 overwritten octets start written = take (length octets) (take start octets ++ (written ++ drop (start + length written) octets))
 
--- once the borrow r ends, what was written through it stands from the place on
+-- once the borrow r ends, what was written through it lies from the place on
 abbrev pub LendsPart : (N : RattleType) → MutBor (the_row N).Denot → ℕ → MutBor Octets → Fml
 LendsPart N s start r = Lends (the_row N) (Array u8 0) s r (λ written. record { octets = overwritten s.now.octets start written })

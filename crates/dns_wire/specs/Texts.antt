@@ -3,6 +3,6 @@ use Rattle.std.specs.Prelude.{[], Option, Some, None, if◌then◌else◌}
 use Rattle.std.specs.Str.{is_utf8}
 use Rattle.dns_wire.specs.Octets.{Octets}
 
--- all the octets, where they are UTF-8
+-- all the octets, if they are UTF-8
 abbrev pub text : Octets → Option (Octets × Octets)
 text bytes = if is_utf8 bytes then Some (bytes, []) else None

@@ -1,12 +1,12 @@
 //! How far octets agree, ignoring ASCII case (RFC 4343 section 3): from the first on, and from the last back. What
-//! is equal as it stands is passed over several octets at a time; case is looked at only where octets differ.
+//! is equal octet by octet is passed over several octets at a time; case is looked at only where octets differ.
 
 ghost use Rattle.std.specs.Prelude.{◌≡◌, ◌≤◌, ◌+◌, ◌-◌, length, take, drop};
 ghost use Rattle.dns_wire.specs.Agreement.{agreeing_prefix, agreeing_end};
 
 use std::simd::u8x16;
 
-/// How many of the 16 octets from a place on are equal, as they stand, before the first that differ.
+/// How many of the 16 octets from a place on are equal, as they are, before the first that differ.
 fn pass_block(a: &[u8], b: &[u8], at: usize) -> usize
     requires left { at + 16 ≤ length a.now }
     requires right { at + 16 ≤ length b.now }
@@ -22,7 +22,7 @@ fn pass_block(a: &[u8], b: &[u8], at: usize) -> usize
     }
 }
 
-/// How many octets are equal from the first on, as they stand: up to the first that differ, or less than 16
+/// How many octets are equal from the first on, as they are: up to the first that differ, or less than 16
 /// octets before the end.
 fn pass_equal(a: &[u8], b: &[u8]) -> usize
     ensures within { result ≤ length a.now × result ≤ length b.now }
@@ -39,7 +39,7 @@ fn pass_equal(a: &[u8], b: &[u8]) -> usize
     at
 }
 
-/// How many octets are equal from the last back, as they stand, in blocks of 8.
+/// How many octets are equal from the last back, as they are, in blocks of 8.
 fn pass_equal_back(a: &[u8], b: &[u8]) -> usize
     ensures within { result ≤ length a.now × result ≤ length b.now }
     ensures same { drop (length a.now - result) a.now ≡ drop (length b.now - result) b.now }

@@ -16,7 +16,7 @@ pub trait BuildBytes {
     ghost fits: { Self → Type 0 } = { λ _. ⊤ };
 
     /// Writes the value at a place of the buffer, and gives the place where it ends. It is accepted
-    /// exactly where the prefixed data fit and the octets are at most those from `start` on.
+    /// exactly if the prefixed data fit and the octets are at most those from `start` on.
     /// After `TruncationError` the octets before `start` are as before.
     fn build_at(&self, bytes: &mut [u8], start: usize) -> Result<usize, TruncationError>
         requires { start ≤ length bytes.old }
@@ -47,8 +47,8 @@ pub trait BuildBytes {
     }
 
     /// Writes the value's octets to the beginning of the buffer. What is after them is borrowed back as it
-    /// was. `TruncationError` comes exactly where the value does not fit; what the buffer holds then is
-    /// open.
+    /// was. `TruncationError` comes exactly if the value does not fit; what the buffer holds then is
+    /// unspecified.
     final fn build_bytes<'b>(&self, bytes: &'b mut [u8]) -> Result<&'b mut [u8], TruncationError>
         ensures* written { sem 𝓛 (LendsRest bytes.entry result (octets self.now)) }
         ensures rest { IfOk result (λ rest. rest.now ≡ drop (length (octets self.now)) bytes.old) }

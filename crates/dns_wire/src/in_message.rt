@@ -13,20 +13,20 @@ use std::rc::Rc;
 
 /// A type whose values are written in a message, where names that were written before can be pointed to.
 pub trait BuildInMessage {
-    /// What is written after contents where names at these places are known: the octets, and the places
+    /// What is written after contents if names at these places are known: the octets, and the places
     /// afterwards.
     ghost writes: { Self → CompressedWrite };
 
-    /// All its prefixed data fit their prefixes, where it is written after contents and names at these
+    /// All its prefixed data fit their prefixes, if it is written after contents and names at these
     /// places are known.
     ghost fits_in: { Self → List ℕ → List ℕ → Type 0 } = { λ _ _ _. ⊤ };
 
-    /// The value's layout, where it is known: names that are compressed, and octets as they are.
+    /// The value's layout, if it is known: names that are compressed, and octets as they are.
     ghost layout: { Self → Option (List LayoutPart) } = { λ _. None };
 
     /// Writes the value at a place of the contents, which are the octets after the header, and gives the
     /// place where it ends. The compressor knows names before `start`, and afterwards those of the value
-    /// too. It is accepted exactly where the prefixed data fit and the octets are at most those from
+    /// too. It is accepted exactly if the prefixed data fit and the octets are at most those from
     /// `start` on. After `TruncationError` the octets before `start` and the compressor are as before.
     fn build_in_message(
         &self,
@@ -71,7 +71,7 @@ pub trait BuildInMessage {
         Ok(end)
     }
 
-    /// Where the layout is known, what is written is what its parts write one after another.
+    /// If the layout is known, what is written is what its parts write one after another.
     ghost layout_matches: { (v : Self) → LayoutMatches (layout v) (writes v) };
 }
 

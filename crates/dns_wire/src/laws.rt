@@ -6,6 +6,7 @@ ghost use Rattle.dns_wire.specs.Hexadecimal.{ArePairs, Trimmed, trim, spelled, s
 ghost use Rattle.dns_wire.specs.InMessage.{list_fits, EachFits};
 ghost use Rattle.dns_wire.specs.Names.{IsName, wire, plain_name};
 ghost use Rattle.dns_wire.specs.Layout.{octets_writes, then_writes, list_writes};
+ghost use Rattle.dns_wire.specs.Octets.{Octets, Labels, Places};
 ghost use Rattle.dns_wire.specs.Pointers.{Segment, NameAt, label_type_count, name_at};
 ghost use Rattle.dns_wire.specs.Reading.{AreOctets, plain_at};
 
@@ -22,36 +23,36 @@ pub fn fixed_numbers()
     ensures places { MAX_PLACES ≡ 128 }
 {}
 
-/// A name is read exactly where its octets stand at the start. It is one name, and has at most 255
+/// A name is read exactly if its octets are at the start. It is one name, and has at most 255
 /// octets. What is written is read back whole (RFC 1035 sections 2.3.4 and 3.1).
 pub fn plain_names()
-    ensures spelled { (bytes : List ℕ) (labels : List (List ℕ)) (rest : List ℕ) →
+    ensures spelled { (bytes : Octets) (labels : Labels) (rest : Octets) →
         plain_name bytes ≡ Some (labels, rest) → IsName labels × (bytes ≡ wire labels ++ rest) }
-    ensures read { (labels : List (List ℕ)) (rest : List ℕ) →
+    ensures read { (labels : Labels) (rest : Octets) →
         IsName labels → plain_name (wire labels ++ rest) ≡ Some (labels, rest) }
-    ensures short { (bytes : List ℕ) (labels : List (List ℕ)) (rest : List ℕ) →
+    ensures short { (bytes : Octets) (labels : Labels) (rest : Octets) →
         plain_name bytes ≡ Some (labels, rest) → length (wire labels) ≤ 255 }
-    ensures one { (contents : List ℕ) (at : ℕ) (labels others : List (List ℕ)) (end other : ℕ) →
+    ensures one { (contents : Octets) (at : ℕ) (labels others : Labels) (end other : ℕ) →
         plain_at plain_name contents at ≡ Some (labels, end) →
         plain_at plain_name contents at ≡ Some (others, other) → (labels ≡ others) × (end ≡ other) }
 {}
 
-/// A name is read in a message exactly where the rules of pointers read it (RFC 1035 section 4.1.4).
+/// A name is read in a message exactly if the rules of pointers read it (RFC 1035 section 4.1.4).
 pub fn names_follow_pointers()
-    ensures follows { (contents : List ℕ) (at : ℕ) (labels : List (List ℕ)) (end : ℕ) →
+    ensures follows { (contents : Octets) (at : ℕ) (labels : Labels) (end : ℕ) →
         name_at contents at ≡ Some (labels, end) → NameAt contents at labels end }
-    ensures read { (contents : List ℕ) (at : ℕ) (labels : List (List ℕ)) (end : ℕ) →
+    ensures read { (contents : Octets) (at : ℕ) (labels : Labels) (end : ℕ) →
         NameAt contents at labels end → name_at contents at ≡ Some (labels, end) }
 {}
 
 /// What the rules of pointers read at a place is one name, of at most 255 octets. At least an octet of it
-/// stands at the place, and none after the contents.
-pub fn pointed_names()
-    ensures one { (contents : List ℕ) (at : ℕ) (labels others : List (List ℕ)) (end other : ℕ) →
+/// is at the place, and none after the contents.
+pub fn names_in_messages()
+    ensures one { (contents : Octets) (at : ℕ) (labels others : Labels) (end other : ℕ) →
         NameAt contents at labels end → NameAt contents at others other → (labels ≡ others) × (end ≡ other) }
-    ensures name { (contents : List ℕ) (at : ℕ) (labels : List (List ℕ)) (end : ℕ) →
+    ensures name { (contents : Octets) (at : ℕ) (labels : Labels) (end : ℕ) →
         NameAt contents at labels end → IsName labels }
-    ensures within { (contents : List ℕ) (at : ℕ) (labels : List (List ℕ)) (end : ℕ) →
+    ensures within { (contents : Octets) (at : ℕ) (labels : Labels) (end : ℕ) →
         NameAt contents at labels end → (at < end) × (end ≤ length contents) }
 {}
 
@@ -59,32 +60,32 @@ pub fn pointed_names()
 /// over a label type for each label, one for the root, and one for each pointer, of which there are no more than
 /// places before the segment: 128 label types of a name, and its place, are the most.
 pub fn pointers_lead_back()
-    ensures segment { (contents : List ℕ) (start at : ℕ) (labels : List (List ℕ)) (end : ℕ)
+    ensures segment { (contents : Octets) (start at : ℕ) (labels : Labels) (end : ℕ)
         (reads : Segment contents start at labels end) → label_type_count reads ≤ length labels + start + 1 }
-    ensures name { (contents : List ℕ) (at : ℕ) (labels : List (List ℕ)) (end : ℕ)
+    ensures name { (contents : Octets) (at : ℕ) (labels : Labels) (end : ℕ)
         (found : NameAt contents at labels end) → label_type_count found.reads ≤ 128 + at }
 {}
 
 /// Octets after the contents change no name that is read in them.
 pub fn added_octets()
-    ensures follows { (contents more : List ℕ) (at : ℕ) (labels : List (List ℕ)) (end : ℕ) →
+    ensures follows { (contents more : Octets) (at : ℕ) (labels : Labels) (end : ℕ) →
         NameAt contents at labels end → NameAt (contents ++ more) at labels end }
-    ensures read { (contents more : List ℕ) (at : ℕ) (labels : List (List ℕ)) (end : ℕ) →
+    ensures read { (contents more : Octets) (at : ℕ) (labels : Labels) (end : ℕ) →
         name_at contents at ≡ Some (labels, end) → name_at (contents ++ more) at ≡ Some (labels, end) }
 {}
 
 /// Of a text in hexadecimal, the spaces, tabs, CR and LF at its end are left out, and nothing else is.
 pub fn trimmed_text()
-    ensures trims { (text : List ℕ) → Trimmed text (trim text) }
-    ensures one { (text left : List ℕ) → Trimmed text left → left ≡ trim text }
+    ensures trims { (text : Octets) → Trimmed text (trim text) }
+    ensures one { (text left : Octets) → Trimmed text left → left ≡ trim text }
 {}
 
-/// A text spells octets exactly where it is pairs of digits, letters in lowercase or capitals (RFC 4648
+/// A text spells octets exactly if it is pairs of digits, letters in lowercase or capitals (RFC 4648
 /// section 8). What is written in hexadecimal is read back, and what a text spells is octets.
 pub fn hexadecimal_text()
-    ensures back { (octets : List ℕ) → AreOctets octets → spelled (flat_map shown octets) ≡ Some octets }
-    ensures octets { (text octets : List ℕ) → spelled text ≡ Some octets → AreOctets octets }
-    ensures pairs { (text octets : List ℕ) → (spelled text ≡ Some octets) ↔ ArePairs text octets }
+    ensures back { (octets : Octets) → AreOctets octets → spelled (flat_map shown octets) ≡ Some octets }
+    ensures octets { (text octets : Octets) → spelled text ≡ Some octets → AreOctets octets }
+    ensures pairs { (text octets : Octets) → (spelled text ≡ Some octets) ↔ ArePairs text octets }
 {}
 
 /// Two lists of octets that end alike, ignoring ASCII case (RFC 4343 section 3), agree that far from their ends: the
@@ -96,20 +97,20 @@ pub fn common_suffixes()
 
 /// A list of octets is written as these octets, in a message too.
 pub fn lists_of_octets()
-    ensures plain { (bytes : List ℕ) → flat_map (λ b. b ∷ []) bytes ≡ bytes }
-    ensures in_message { (bytes contents places : List ℕ) →
+    ensures plain { (bytes : Octets) → flat_map (λ b. b ∷ []) bytes ≡ bytes }
+    ensures in_message { (bytes contents : Octets) (places : Places) →
         list_writes (λ b. octets_writes (b ∷ [])) bytes contents places ≡ (bytes, places) }
 {}
 
 /// What a list writes in a message: one value alone what it writes by itself, and a list that is cut in two
-/// anywhere what its start writes, and then its rest. It fits exactly where each of its values fits after
+/// anywhere what its start writes, and then its rest. It fits exactly if each of its values fits after
 /// those before it.
 pub fn lists_in_messages<T: BuildInMessage>()
-    ensures one { (value : T) (contents places : List ℕ) →
+    ensures one { (value : T) (contents : Octets) (places : Places) →
         list_writes T.writes (value ∷ []) contents places ≡ T.writes value contents places }
-    ensures cut { (prefix back : List T) (contents places : List ℕ) →
+    ensures cut { (prefix back : List T) (contents : Octets) (places : Places) →
         list_writes T.writes (prefix ++ back) contents places
         ≡ then_writes (list_writes T.writes prefix) (list_writes T.writes back) contents places }
-    ensures fits { (values : List T) (contents places : List ℕ) →
+    ensures fits { (values : List T) (contents : Octets) (places : Places) →
         list_fits T.fits_in T.writes values contents places ↔ EachFits T.fits_in T.writes values contents places }
 {}

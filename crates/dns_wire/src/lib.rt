@@ -29,7 +29,7 @@ pub use compression::{
     NameCompressor, compressed_names, compressed_names_are_read, longest_suffixes, put_name,
     recorded_places,
 };
-pub use equality_laws::equal_errors;
+pub use equality_laws::{equal_errors, hashed_errors};
 pub use error::{ParseError, TruncationError};
 pub use in_message::{BuildInMessage, build_whole};
 pub use io::adapters::{ReadSource, WriteSink};
@@ -37,7 +37,7 @@ pub use io::memory::{NullSink, PlainSource, TextSink, TextSource};
 pub use io::traits::{Failed, Sink, Source};
 pub use laws::{
     added_octets, common_suffixes, fixed_numbers, hexadecimal_text, lists_in_messages,
-    lists_of_octets, names_follow_pointers, plain_names, pointed_names, pointers_lead_back,
+    lists_of_octets, names_follow_pointers, names_in_messages, plain_names, pointers_lead_back,
     trimmed_text,
 };
 pub use list::{ListError, split_list};

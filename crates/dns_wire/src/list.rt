@@ -15,7 +15,7 @@ pub enum ListError {
     Memory,
 }
 
-/// Reads `n` values one after another, and gives the octets after them. `Parse` comes exactly where one of
+/// Reads `n` values one after another, and gives the octets after them. `Parse` comes exactly if one of
 /// them is not read; `Memory` may come in place of any answer.
 pub fn split_list<'a, T: SplitBytes<'a>>(
     alloc: Global,

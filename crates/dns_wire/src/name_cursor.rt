@@ -1,4 +1,4 @@
-//! What stands at a place of a name in a message.
+//! What is at a place of a name in a message.
 
 ghost use Rattle.std.specs.Prelude.{◌≡◌, ◌≤◌, None, IfOk, OnErr};
 ghost use Rattle.dns_wire.specs.Reading.{Gives};
@@ -7,7 +7,7 @@ ghost use Rattle.dns_wire.specs.Pointers.{offset_of, label_type_at, LabelTypeFit
 use crate::error::ParseError;
 use crate::sizes::{HEADER_SIZE, MAX_LABEL_SIZE, POINTER_TAG};
 
-/// What stands at a place of a name.
+/// What is at a place of a name.
 #[derive(Clone, Copy, Debug)]
 pub enum LabelType {
     /// The root's length, which ends the name.
@@ -27,8 +27,8 @@ pub fn pointer_offset(first: u8, second: u8) -> usize
     (first - POINTER_TAG) as usize * 256 + second as usize
 }
 
-/// Reads what stands at a place of the segment that begins at `start` (RFC 1035 section 4.1.4).
-/// `ParseError` comes exactly where it is no label type: after the end, of an octet from 64 to 191, where
+/// Reads what is at a place of the segment that begins at `start` (RFC 1035 section 4.1.4).
+/// `ParseError` comes exactly if it is no label type: after the end, of an octet from 64 to 191, if
 /// too few octets follow, and of a pointer that leads into the header or not before `start`.
 #[tactic(auto, unfolding(crate::specs::Pointers::label_type_at))]
 pub fn read_label_type(contents: &[u8], start: usize, at: usize) -> Result<LabelType, ParseError>
@@ -68,7 +68,7 @@ pub struct NameCursor {
     pub start: usize,
     /// The place of the next label type.
     pub at: usize,
-    /// Where what stands at the name's own place ends, once that is known: after the first pointer, or
+    /// Where what is at the name's own place ends, once that is known: after the first pointer, or
     /// after the root.
     pub end: Option<usize>,
 }

@@ -1,6 +1,7 @@
 //! Reading values from octets.
 
 ghost use Rattle.std.specs.Prelude.{◌≡◌, ◌≤◌, ℕ, List, [], length, Option, Some, IfOk};
+ghost use Rattle.dns_wire.specs.Octets.{Octets, Labels};
 ghost use Rattle.dns_wire.specs.Reading.{Gives, LeavesRest, EndsWithin, all_of, all_at, plain_at, whole_of, whole_in, octet, octets};
 ghost use Rattle.dns_wire.specs.Names.{IsName};
 ghost use Rattle.dns_wire.specs.ReadingLemmas.{octet_leaves, octets_leave, whole_leaves, plain_ends};
@@ -15,13 +16,13 @@ pub trait ParseBytes<'a>: Sized + Drop {
     /// What a value is seen as.
     ghost seen: { Self → Seen };
 
-    /// The grammar: what stands at the start of the octets, and the octets after it.
+    /// The grammar: what is at the start of the octets, and the octets after it.
     ghost reads: { List ℕ → Option (Seen × List ℕ) };
 
-    /// The grammar at a place in the contents of a message: what stands there, and where it ends.
+    /// The grammar at a place in the contents of a message: what is there, and where it ends.
     ghost reads_at: { List ℕ → ℕ → Option (Seen × ℕ) };
 
-    /// Reads the value that all the octets spell. `ParseError` comes exactly where they spell none.
+    /// Reads the value that all the octets spell. `ParseError` comes exactly if they spell none.
     fn parse_bytes(bytes: &'a [u8]) -> Result<Self, ParseError>
         ensures { Gives seen result (all_of (reads bytes.now)) };
 
@@ -36,7 +37,7 @@ pub trait ParseBytes<'a>: Sized + Drop {
 /// A type whose values may be followed by other octets.
 pub trait SplitBytes<'a>: ParseBytes<'a> {
     /// Reads the value at the start of the octets, and gives the octets after it. `ParseError` comes
-    /// exactly where none stands there.
+    /// exactly if none is there.
     fn split_bytes(bytes: &'a [u8]) -> Result<(Self, &'a [u8]), ParseError>
         ensures exact { Gives (λ x. (Self.seen x.0, x.1.now)) result (Self.reads bytes.now) }
         ensures within { IfOk result (λ x. length x.1.now ≤ length bytes.now) };
@@ -45,25 +46,25 @@ pub trait SplitBytes<'a>: ParseBytes<'a> {
 /// A type whose values are read at a place in the contents of a message, which are its octets after the
 /// header and may be pointed to.
 pub trait ParseMessageBytes<'a>: ParseBytes<'a> {
-    /// Reads the value that stands from the place to the end of the contents. `ParseError` comes exactly
-    /// where none does.
+    /// Reads the value from the place to the end of the contents. `ParseError` comes exactly
+    /// if there is none.
     fn parse_message_bytes(contents: &'a [u8], start: usize) -> Result<Self, ParseError>
         ensures { Gives Self.seen result (all_at contents.now (Self.reads_at contents.now start)) };
 }
 
 /// A type whose values may be followed by others in a message.
 pub trait SplitMessageBytes<'a>: SplitBytes<'a> + ParseMessageBytes<'a> {
-    /// Reads the value at the place, and gives the place where it ends. `ParseError` comes exactly where
-    /// none stands there.
+    /// Reads the value at the place, and gives the place where it ends. `ParseError` comes exactly if
+    /// none is there.
     fn split_message_bytes(contents: &'a [u8], start: usize) -> Result<(Self, usize), ParseError>
         ensures exact { Gives (λ x. (Self.seen x.0, x.1)) result (Self.reads_at contents.now start) }
         ensures within { IfOk result (λ x. (start ≤ x.1) × (x.1 ≤ length contents.now)) };
 }
 
-/// A type whose values are names, in whatever layout, with pointers followed or as they stand.
+/// A type whose values are names, in whatever layout, with pointers followed or as they are.
 pub trait ParseName<'a>: SplitBytes<'a> {
-    /// The labels, without the root; of a name as it stands, those before its pointer.
-    ghost labels: { Self → List (List ℕ) };
+    /// The labels, without the root; of a name as it is, those before its pointer.
+    ghost labels: { Self → Labels };
 
     /// How many labels there are, at most 127.
     fn label_count(&self) -> usize
@@ -71,16 +72,16 @@ pub trait ParseName<'a>: SplitBytes<'a> {
         ensures few { result ≤ 127 };
 
     /// The labels of what was read are a name (RFC 1035 section 2.3.4).
-    ghost names: { (name : Self) (bytes rest : List ℕ) →
+    ghost names: { (name : Self) (bytes rest : Octets) →
         Self.reads bytes ≡ Some (Self.seen name, rest) → IsName (labels name) };
 
     /// The labels of what was read in a message are a name (RFC 1035 section 2.3.4).
-    ghost names_at: { (name : Self) (contents : List ℕ) (at end : ℕ) →
+    ghost names_at: { (name : Self) (contents : Octets) (at end : ℕ) →
         Self.reads_at contents at ≡ Some (Self.seen name, end) → IsName (labels name) };
 }
 
-/// The value that was read, where no octet is left over. `ParseError` comes exactly where none was read and
-/// where octets are left over.
+/// The value that was read, if no octet is left over. `ParseError` comes exactly if none was read or
+/// if octets are left over.
 pub fn whole<T: Drop>(read: Result<(T, &[u8]), ParseError>) -> Result<T, ParseError>
     ensures { result ≡ whole_of read.entry }
 {
@@ -90,8 +91,8 @@ pub fn whole<T: Drop>(read: Result<(T, &[u8]), ParseError>) -> Result<T, ParseEr
     }
 }
 
-/// The value that was read in a message, where it ends with the contents. `ParseError` comes exactly where
-/// none was read and where it ends before.
+/// The value that was read in a message, if it ends with the contents. `ParseError` comes exactly if
+/// none was read or if it ends before.
 pub fn whole_message<T: Drop>(
     read: Result<(T, usize), ParseError>,
     contents: &[u8],
@@ -104,7 +105,7 @@ pub fn whole_message<T: Drop>(
     }
 }
 
-/// So many octets from the start, and those after them. `ParseError` comes exactly where there are fewer.
+/// That many octets from the start, and those after them. `ParseError` comes exactly if there are fewer.
 pub fn split_octets(bytes: &[u8], size: usize) -> Result<(&[u8], &[u8]), ParseError>
     ensures { Gives (λ x. (x.0.now, x.1.now)) result (octets size bytes.now) }
 {
@@ -115,7 +116,7 @@ pub fn split_octets(bytes: &[u8], size: usize) -> Result<(&[u8], &[u8]), ParseEr
 }
 
 /// Reads the value that all the octets from the place on spell, with no pointers. `ParseError` comes
-/// exactly where they spell none, and from a place after the end.
+/// exactly if they spell none, or the place is after the end.
 pub fn parse_without_compression<'a, T: ParseBytes<'a>>(
     contents: &'a [u8],
     start: usize,
@@ -129,7 +130,7 @@ pub fn parse_without_compression<'a, T: ParseBytes<'a>>(
 }
 
 /// Reads the value at the place, with no pointers, and gives the place where it ends. `ParseError` comes
-/// exactly where none stands there, and at a place after the end.
+/// exactly if none is there, or the place is after the end.
 pub fn split_without_compression<'a, T: SplitBytes<'a>>(
     contents: &'a [u8],
     start: usize,
@@ -187,7 +188,7 @@ impl<'a> SplitMessageBytes<'a> for u8 {
     }
 }
 
-/// All the octets, as they stand.
+/// All the octets, as they are.
 impl<'a> ParseBytes<'a> for &'a [u8] {
     ghost Seen = { List ℕ };
 

@@ -18,14 +18,14 @@ pub trait ReadValue<'a>: Sized + Drop {
     /// What a value is seen as.
     ghost seen: { Self → Seen };
 
-    /// The grammar: what stands at the start of the octets, and the octets after it.
+    /// The grammar: what is at the start of the octets, and the octets after it.
     ghost reads: { List ℕ → Option (Seen × List ℕ) };
 
-    /// The grammar at a place in the contents of a message: what stands there, and where it ends.
+    /// The grammar at a place in the contents of a message: what is there, and where it ends.
     ghost reads_at: { List ℕ → ℕ → Option (Seen × ℕ) };
 
     /// Reads the value at the start of the octets, and gives the octets after it. `ParseError` comes
-    /// exactly where none stands there.
+    /// exactly if none is there.
     fn read_prefix(bytes: &'a [u8]) -> Result<(Self, &'a [u8]), ParseError>
         ensures exact { Gives (λ x. (seen x.0, x.1.now)) result (reads bytes.now) }
         ensures within { IfOk result (λ x. length x.1.now ≤ length bytes.now) };
@@ -40,8 +40,8 @@ pub trait ReadValue<'a>: Sized + Drop {
 /// A type whose values are read at a place in the contents of a message. With it come `ParseMessageBytes`
 /// and `SplitMessageBytes`.
 pub trait ReadMessageValue<'a>: ReadValue<'a> {
-    /// Reads the value at the place, and gives the place where it ends. `ParseError` comes exactly where
-    /// none stands there.
+    /// Reads the value at the place, and gives the place where it ends. `ParseError` comes exactly if
+    /// none is there.
     fn read_in_message(contents: &'a [u8], start: usize) -> Result<(Self, usize), ParseError>
         ensures exact { Gives (λ x. (Self.seen x.0, x.1)) result (Self.reads_at contents.now start) }
         ensures within { IfOk result (λ x. (start ≤ x.1) × (x.1 ≤ length contents.now)) };
@@ -92,11 +92,11 @@ pub trait ReadPlainValue<'a>: Sized + Drop {
     /// What a value is seen as.
     ghost seen: { Self → Seen };
 
-    /// The grammar: what stands at the start of the octets, and the octets after it.
+    /// The grammar: what is at the start of the octets, and the octets after it.
     ghost reads: { List ℕ → Option (Seen × List ℕ) };
 
     /// Reads the value at the start of the octets, and gives the octets after it. `ParseError` comes
-    /// exactly where none stands there.
+    /// exactly if none is there.
     fn read_plain(bytes: &'a [u8]) -> Result<(Self, &'a [u8]), ParseError>
         ensures exact { Gives (λ x. (seen x.0, x.1.now)) result (reads bytes.now) }
         ensures within { IfOk result (λ x. length x.1.now ≤ length bytes.now) };

@@ -1,4 +1,4 @@
-//! Octets that a value owns and lends for writing.
+//! Octets that a value owns, and that are borrowed for writing.
 
 ghost use Rattle.std.specs.Prelude.{◌≡◌, ◌≤◌, ◌-◌, take, drop};
 ghost use Rattle.std.specs.Borrow.{sem};

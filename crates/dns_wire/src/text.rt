@@ -13,7 +13,7 @@ use crate::error::{ParseError, TruncationError};
 use crate::in_message::{BuildInMessage, build_whole};
 use crate::parse::{ParseBytes, ParseMessageBytes, parse_without_compression};
 
-/// All the octets, where they are UTF-8.
+/// All the octets, if they are UTF-8.
 impl<'a> ParseBytes<'a> for &'a str {
     ghost Seen = { List ℕ };
 
@@ -27,7 +27,7 @@ impl<'a> ParseBytes<'a> for &'a str {
 
     ghost ends_within = { plain_ends text text_leaves };
 
-    /// Reads the text that all the octets are. `ParseError` comes exactly where they are not UTF-8
+    /// Reads the text that all the octets are. `ParseError` comes exactly if they are not UTF-8
     /// (RFC 3629 section 4).
     fn parse_bytes(bytes: &'a [u8]) -> Result<&'a str, ParseError>
         ensures exact { Gives (λ v. v.now) result (all_of (text bytes.now)) }

@@ -1,6 +1,6 @@
 //! Readers and writers of std as sources and sinks, where a call fails in mid-stream.
 //!
-//! No contract of std's says that a call was passed on, or what is in a buffer where nothing was read:
+//! No contract of std's says that a call was passed on, or what is in a buffer if nothing was read:
 //! for the adapters the tests show it, with a reader and writer that fails.
 
 use crate::holds::all_hold;
@@ -80,6 +80,12 @@ fn writer_is_passed_on() -> bool {
     sink.write(b"abc") == Ok(3) && sink.flush() == Ok(())
 }
 
+/// Whether a piece of 65,537 octets, more than a pipe holds, reaches a writer whole.
+fn long_piece_is_passed_on() -> bool {
+    let piece = [0u8; 65_537];
+    WriteSink::new(io::sink()).write(&piece) == Ok(65_537)
+}
+
 #[test]
 fn adapters_pass_octets_on(rt: HostRuntime) {
     all_hold(
@@ -87,6 +93,7 @@ fn adapters_pass_octets_on(rt: HostRuntime) {
         &[
             ("a reader", reader_is_passed_on()),
             ("a writer", writer_is_passed_on()),
+            ("a long piece", long_piece_is_passed_on()),
         ],
     );
 }
@@ -142,7 +149,7 @@ fn reads_nothing() -> bool {
     source.read(&mut []) == Ok(0) && reader.calls == 1
 }
 
-/// Whether a write of nothing is no fault where a write of an octet is one.
+/// Whether a write of nothing is no fault if a write of an octet is one.
 fn writes_nothing() -> bool {
     let mut buffer = [0u8; 1];
     let mut sink = WriteSink::new(&mut buffer[..0]);

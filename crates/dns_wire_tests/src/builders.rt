@@ -6,18 +6,18 @@ use dns_wire::{BuildBytes, BuildInMessage};
 use std::alloc::Global;
 use std::rc::Rc;
 
-/// Whether the value is written as the octets, and refused where an octet of room is missing.
+/// Whether the value is written as the octets, and refused if an octet of room is missing.
 fn builds_plainly<T: BuildBytes>(value: &T, octets: &[u8]) -> bool {
     writes(value, octets) && (octets.is_empty() || is_refused(value, octets.len()))
 }
 
-/// Whether the value is written in a message as the octets, and refused where an octet of room is missing.
+/// Whether the value is written in a message as the octets, and refused if an octet of room is missing.
 fn builds_in_message<T: BuildInMessage>(value: &T, octets: &[u8]) -> bool {
     writes_in_message(value, octets)
         && (octets.is_empty() || is_refused_in_message(value, octets.len()))
 }
 
-/// Whether the value is written as the octets, in a message too, and refused where an octet of room is
+/// Whether the value is written as the octets, in a message too, and refused if an octet of room is
 /// missing.
 fn builds<T: BuildBytes + BuildInMessage>(value: &T, octets: &[u8]) -> bool {
     builds_plainly(value, octets) && builds_in_message(value, octets)

@@ -4,7 +4,7 @@ use crate::holds::all_hold;
 use dns_wire::{Failed, NullSink, PlainSource, Sink, Source, TextSink, TextSource};
 
 /// Whether a source of three octets a read fails at its second and fourth reads, and loses nothing.
-fn source_fails_where_told() -> bool {
+fn source_fails_where_set() -> bool {
     let mut into = [0u8; 4];
     let mut source = TextSource::new(b"abcdef", 3, &[1, 3]);
     let first = source.read(&mut into) == Ok(3) && source.read(&mut into) == Err(Failed);
@@ -23,17 +23,17 @@ fn plain_source_gives_all() -> bool {
 }
 
 #[test]
-fn sources_fail_where_they_are_told(rt: HostRuntime) {
+fn sources_fail_where_they_are_set(rt: HostRuntime) {
     all_hold(
         &rt,
         &[
-            ("a source that fails", source_fails_where_told()),
+            ("a source that fails", source_fails_where_set()),
             ("a source that never fails", plain_source_gives_all()),
         ],
     );
 }
 
-/// Whether a sink of three octets a write keeps what it took where a flush fails, and then fills up.
+/// Whether a sink of three octets a write keeps what it took if a flush fails, and then fills up.
 fn sink_takes_pieces() -> bool {
     let mut buffer = [0u8; 4];
     let mut sink = TextSink::new(&mut buffer, 3, &[1, 5]);
@@ -60,7 +60,7 @@ fn flush_fails_once() -> bool {
 }
 
 #[test]
-fn sinks_fail_where_they_are_told_and_where_they_are_full(rt: HostRuntime) {
+fn sinks_fail_where_they_are_set_and_where_they_are_full(rt: HostRuntime) {
     all_hold(
         &rt,
         &[

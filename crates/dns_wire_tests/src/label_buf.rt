@@ -34,7 +34,7 @@ fn is_reversed() -> bool {
     }
 }
 
-/// Cuts the label to two octets, where it has that many.
+/// Cuts the label to two octets, if it has that many.
 fn cut(label: &mut LabelBuf) {
     if label.as_label().contents().len() >= 2 {
         label.truncate(2);

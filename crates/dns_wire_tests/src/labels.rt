@@ -87,7 +87,7 @@ fn has_its_octets(octets: &[u8]) -> bool {
     }
 }
 
-/// Whether the label is written as its octets, and refused where an octet of room is missing.
+/// Whether the label is written as its octets, and refused if an octet of room is missing.
 fn is_written(octets: &[u8]) -> bool {
     match Label::parse_bytes(octets) {
         Ok(label) => {

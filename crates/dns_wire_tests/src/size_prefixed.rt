@@ -5,7 +5,7 @@ use crate::writing::{is_refused, writes, writes_in_message};
 use dns_num::{SizePrefixed, U16, U32};
 use dns_wire::{BuildBytes, BuildInMessage};
 
-/// Whether the value is written as the octets, in a message too, and refused where an octet of room is
+/// Whether the value is written as the octets, in a message too, and refused if an octet of room is
 /// missing.
 fn builds<T: BuildBytes + BuildInMessage>(value: &T, octets: &[u8]) -> bool {
     writes(value, octets) && is_refused(value, octets.len()) && writes_in_message(value, octets)

@@ -11,7 +11,7 @@ pub(crate) fn writes<T: BuildBytes>(value: &T, octets: &[u8]) -> bool {
     }
 }
 
-/// Whether the value is refused where an octet of room is missing.
+/// Whether the value is refused if an octet of room is missing.
 pub(crate) fn is_refused<T: BuildBytes>(value: &T, size: usize) -> bool {
     let mut buffer = [0xee; 16];
     let size = size.clamp(1, 16);
@@ -34,7 +34,7 @@ pub(crate) fn writes_in_message<T: BuildInMessage>(value: &T, octets: &[u8]) -> 
     }
 }
 
-/// Whether the value is refused in a message where an octet of room is missing, and no name is recorded.
+/// Whether the value is refused in a message if an octet of room is missing, and no name is recorded.
 pub(crate) fn is_refused_in_message<T: BuildInMessage>(value: &T, size: usize) -> bool {
     let mut contents = [0xee; 16];
     let mut compressor = NameCompressor::new();

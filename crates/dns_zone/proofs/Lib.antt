@@ -1,7 +1,7 @@
 -- The crate's own lemmas.
 pub mod Lines
 pub mod Members
-pub mod Outcomes
+pub mod ZoneOutcomes
 pub mod ReadSoFar
 pub mod SameZones
 pub mod Streams

@@ -4,7 +4,7 @@ use Rattle.std.specs.List.{slice_split}
 use Rattle.std.proofs.lemmas.Bool.{eq-eqb}
 use Rattle.std.proofs.lemmas.List.Splits.{length-slice_split}
 use Rattle.std.proofs.lemmas.List.Sums.{count_by-le-length}
-use Rattle.dns_wire.specs.Hexadecimal.{SpellsNothing, is_blank, spelled, trim, trim_cons}
+use Rattle.dns_wire.specs.Hexadecimal.{SpellsNothing, is_whitespace, spelled, trim, trim_cons}
 use Rattle.dns_wire.specs.Steps.{◌>>=◌}
 use Rattle.dns_text.specs.Spelled.{all_spelled}
 use Rattle.dns_text.specs.Outcomes.{RefusesFor}
@@ -58,7 +58,7 @@ trimmed_long [] = omega arith
 trimmed_long (b ∷ rest) = by (trim rest) (trimmed_long rest) where
   by : (left : List ℕ) → length left ≤ length rest → length (trim_cons b left) ≤ suc (length rest)
   by (c ∷ left) within = omega (arith, within)
-  by [] within = blank (is_blank b) where
+  by [] within = blank (is_whitespace b) where
     blank : (t : Bool) → length (cond t [] (b ∷ [])) ≤ suc (length rest)
     blank true = omega arith
     blank false = omega arith
@@ -67,7 +67,7 @@ trimmed_long (b ∷ rest) = by (trim rest) (trimmed_long rest) where
 pub few_lines : (text : List ℕ) → length (slice_split (λ c. c == 10) (trim text)) ≤ length text + 1
 few_lines text = omega (arith, length-slice_split (λ c. c == 10) (trim text), count_by-le-length (λ c. c == 10) (trim text), trimmed_long text)
 
--- where one of the texts spells nothing, all together do not
+-- if one of the texts spells nothing, all together do not
 pub none_spelled : (texts : List (List ℕ)) (k : ℕ) (text : List ℕ) → k < length texts → get_or texts k text ≡ text → SpellsNothing text → all_spelled texts ≡ None
 none_spelled [] k text within is nothing = absurd (omega (arith, within))
 none_spelled (first ∷ texts) zero text within is nothing = ap (λ (o : Option (List ℕ)). o >>= (λ m. all_spelled texts >>= (λ ms. Some (m ∷ ms)))) (ap (λ (l : List ℕ). spelled (trim l)) is ∙ nothing)

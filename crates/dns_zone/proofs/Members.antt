@@ -117,10 +117,10 @@ soa_words apex rs = (
   λ e. from (Any-from_list_any (is_soa_of apex) rs e),
   λ h.
       list_any-from_Any (is_soa_of apex) rs (
-        h.stands.0,
+        h.occurs.0,
         h.soa,
-        h.stands.1,
-        h.stands.2,
+        h.occurs.1,
+        h.occurs.2,
         both_true (h.soa.rtype == 6 && h.soa.class == 1) (is_apex apex h.soa.owner) (both_true (h.soa.rtype == 6) (h.soa.class == 1) (eq-eqb h.soa.rtype 6 h.rtype) (eq-eqb h.soa.class 1 h.class))
             ((apex_tested apex h.soa.owner).1 h.owner),
       ),
@@ -129,7 +129,7 @@ soa_words apex rs = (
   from (k, soa, within, is, test) =
       let p = both (soa.rtype == 6 && soa.class == 1) (is_apex apex soa.owner) test in
       let q = both (soa.rtype == 6) (soa.class == 1) p.0 in
-      record { soa = soa; stands = (k, within, is); owner = (apex_tested apex soa.owner).0 p.1; class = eqb-true soa.class 1 q.1; rtype = eqb-true soa.rtype 6 q.0 }
+      record { soa = soa; occurs = (k, within, is); owner = (apex_tested apex soa.owner).0 p.1; class = eqb-true soa.class 1 q.1; rtype = eqb-true soa.rtype 6 q.0 }
 
 -- ---- data of signatures
 

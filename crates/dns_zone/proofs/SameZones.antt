@@ -20,7 +20,7 @@ use Rattle.dns_message.proofs.Whole.{lower_twice}
 use Rattle.dns_zone.specs.Texts.{HasRecords, PrintsZone}
 use Rattle.dns_zone.specs.Zone.{in_zone, is_in_zone, labels_eq, signs_zonemd}
 use Rattle.dns_zone.proofs.Members.{starts_two, two_octets}
-use Rattle.dns_zone.proofs.Outcomes.{same_printed}
+use Rattle.dns_zone.proofs.ZoneOutcomes.{same_printed}
 use Rattle.dns_zone.proofs.Suffixes.{tests_same}
 
 -- ---- the octets of canonical data, up to the case of letters
@@ -118,41 +118,41 @@ kept p (y ∷ ys) x (inr deep) is = by (p y) (kept p ys x deep is) where
 
 module _ (apex : List (List ℕ)) where
   into_zone : (rs : List RecordValue) (r : RecordValue) → Contains rs r → is_in_zone apex r ≡ true → Contains (in_zone apex rs) r
-  into_zone rs r stands is = contains (in_zone apex rs) r (kept (is_in_zone apex) rs r (among rs r stands) is)
+  into_zone rs r occurs is = contains (in_zone apex rs) r (kept (is_in_zone apex) rs r (among rs r occurs) is)
 
   from_zone : (rs : List RecordValue) (r : RecordValue) → Contains (in_zone apex rs) r → Contains rs r × (is_in_zone apex r ≡ true)
-  from_zone rs r stands = (
-    All-contains (Contains rs) (in_zone apex rs) r (All-filter (is_in_zone apex) (Contains rs) rs (All-contains_itself rs)) stands,
-    All-contains (λ (x : RecordValue). is_in_zone apex x ≡ true) (in_zone apex rs) r (filter_passes (is_in_zone apex) rs) stands,
+  from_zone rs r occurs = (
+    All-contains (Contains rs) (in_zone apex rs) r (All-filter (is_in_zone apex) (Contains rs) rs (All-contains_itself rs)) occurs,
+    All-contains (λ (x : RecordValue). is_in_zone apex x ≡ true) (in_zone apex rs) r (filter_passes (is_in_zone apex) rs) occurs,
   )
 
   -- ---- records with the least times to live
 
   least_of_all : (rs : List RecordValue) (x : RecordValue) → IsLeast (in_zone apex rs) x → IsLeast rs x
   least_of_all rs x h =
-      let there = from_zone rs h.found h.stands in
+      let there = from_zone rs h.found h.occurs in
       record {
         found = h.found;
-        stands = there.0;
+        occurs = there.0;
         not_opt = h.not_opt;
         lowercased = h.lowercased;
-        least = λ other stands alike. h.least other (into_zone rs other stands (in_zone_alike apex other h.found alike ∙ there.1)) alike;
+        least = λ other occurs alike. h.least other (into_zone rs other occurs (in_zone_alike apex other h.found alike ∙ there.1)) alike;
       }
 
   least_in_zone : (rs : List RecordValue) (x : RecordValue) (h : IsLeast rs x) → is_in_zone apex h.found ≡ true → IsLeast (in_zone apex rs) x
   least_in_zone rs x h is = record {
     found = h.found;
-    stands = into_zone rs h.found h.stands is;
+    occurs = into_zone rs h.found h.occurs is;
     not_opt = h.not_opt;
     lowercased = h.lowercased;
-    least = λ other stands alike. h.least other (from_zone rs other stands).0 alike;
+    least = λ other occurs alike. h.least other (from_zone rs other occurs).0 alike;
   }
 
   least_there : (rs ss : List RecordValue) (x : RecordValue) → (IsLeast rs x → IsLeast ss x) → IsLeast (in_zone apex rs) x → IsLeast (in_zone apex ss) x
   least_there rs ss x to h =
       let other = to (least_of_all rs x h) in
       let alike = alike_lowercased other.found h.found (other.lowercased ∙ sym h.lowercased) in
-      least_in_zone ss x other (in_zone_alike apex other.found h.found alike ∙ (from_zone rs h.found h.stands).1)
+      least_in_zone ss x other (in_zone_alike apex other.found h.found alike ∙ (from_zone rs h.found h.occurs).1)
 
   pub zones_same : (rs ss : List RecordValue) → Same rs ss → Same (in_zone apex rs) (in_zone apex ss)
   zones_same rs ss same = λ x. (least_there rs ss x (same x).0, least_there ss rs x (same x).1)

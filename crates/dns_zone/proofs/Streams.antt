@@ -9,7 +9,7 @@ use Rattle.std.proofs.lemmas.List.Folds.{concat-append}
 use Rattle.dns_message.specs.Canonical.{canonical_wire, is_not_opt}
 use Rattle.dns_message.specs.Messages.{RecordValue}
 use Rattle.dns_message.specs.Order.{collapsed}
-use Rattle.dns_zone.specs.Zone.{belongs, members, text_of}
+use Rattle.dns_zone.specs.Zone.{belongs, members, zone_output}
 use Rattle.dns_zone.proofs.Members.{in_zone_kept, in_zone_not_opt}
 
 -- the octets of one more
@@ -31,7 +31,7 @@ longer vs f i total size v within is size-is total-is = omega (arith, size-is, t
 pub members_kept : (apex : List (List ℕ)) (rs : List RecordValue) → map canonical_wire (collapsed (filter (belongs apex) (filter is_not_opt rs))) ≡ members apex rs
 members_kept apex rs = ap (λ (l : List RecordValue). map canonical_wire (collapsed l)) (in_zone_kept apex rs ∙ sym (in_zone_not_opt apex rs))
 
--- octets that are written to the start of others stand there
+-- octets that are written to the start of others are there
 pub record_put : (items new held wire : List ℕ) (len size : ℕ) → len ≡ length items → length new ≡ length items → held ≡ take len (new ++ drop (length new) items) → size ≡ length wire → take (length wire) new ≡ wire
     → (length held ≡ length items) × (take size held ≡ wire)
 record_put items new held wire len size len-is long held-is size-is put =
@@ -40,5 +40,5 @@ record_put items new held wire len size len-is long held-is size-is put =
 
 -- the printed text
 pub text_is : (count octets : ℕ) (lists : List (List ℕ)) (digits : List ℕ) → count ≡ length lists → octets ≡ length (concat lists) → digits ≡ flat_map shown (sha384 (concat lists))
-    → codes "records " ++ (decimal count ++ (codes " octets " ++ (decimal octets ++ (10 ∷ codes "digest " ++ (digits ++ 10 ∷ []))))) ≡ text_of lists
+    → codes "records " ++ (decimal count ++ (codes " octets " ++ (decimal octets ++ (10 ∷ codes "digest " ++ (digits ++ 10 ∷ []))))) ≡ zone_output lists
 text_is count octets lists digits c o d = λ i. codes "records " ++ (decimal (c i) ++ (codes " octets " ++ (decimal (o i) ++ (10 ∷ codes "digest " ++ (d i ++ 10 ∷ [])))))

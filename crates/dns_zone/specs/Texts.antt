@@ -1,5 +1,5 @@
 -- The messages of a zone in a text, a line each, and the outcome that a text calls for.
-use Rattle.std.specs.Prelude.{◌≡◌, ◌==◌, ℕ, List, [], ◌∷◌, bytes_eq, codes, flat_map, map, Option, Some, None, if◌then◌else◌}
+use Rattle.std.specs.Prelude.{◌≡◌, ◌==◌, ℕ, List, [], ◌∷◌, bytes_eq, codes, flat_map, map, Option, Some, None, if◌then◌else◌, true}
 use Rattle.std.specs.List.{slice_split}
 use Rattle.std.specs.Result.{result_ok}
 use Rattle.dns_wire.specs.Octets.{Octets, Labels}
@@ -22,13 +22,13 @@ use Rattle.dns_message.specs.declared.canon_error.CanonError.TheVariants as cano
 use Rattle.dns_zone.specs.Zone.{has_soa, zone_text}
 use Rattle.dns_zone.specs.declared.refusal.Refusal.{Refusal}
 use Rattle.dns_zone.specs.declared.refusal.Refusal.TheVariants.{BadHex, Short, Item, NoSoa}
-use Rattle.dns_zone.specs.declared.refusal.TheConstants.{LIMIT}
+use Rattle.dns_zone.specs.declared.refusal.TheConstants.{ZONE_TEXT_LIMIT}
 use Rattle.dns_zone.specs.declared.status.ZoneStatus.{ZoneStatus}
 use Rattle.dns_zone.specs.declared.status.ZoneStatus.TheVariants as status
 
 -- ---- words
 
--- the apex that a text is, where it is the text of a name
+-- the apex that a text is, if it is the text of a name
 abbrev pub apex_named : Octets → Octets → Option Labels
 apex_named word text = if bytes_eq word (codes "zone") then result_ok (parsed_name text) else None
 
@@ -41,7 +41,7 @@ apex_of (word ∷ text ∷ other ∷ more) = None
 
 -- ---- messages
 
--- the lines of a text that has no blanks at its end; an empty text has none
+-- the lines of a text that has no whitespace at its end; an empty text has none
 abbrev pub lines_of : Octets → List Octets
 lines_of [] = []
 lines_of (b ∷ text) = slice_split (λ c. c == 10) (b ∷ text)
@@ -63,7 +63,7 @@ message_error message canon.Short = print.Refused (Short message)
 message_error message (canon.Item section index) = print.Refused (Item message section index)
 message_error message canon.Memory = print.Memory
 
--- the same, where memory is not refused for
+-- the same, if memory is not refused for
 abbrev pub message_refusal : ℕ → CanonError → Option Refusal
 message_refusal message canon.Short = Some (Short message)
 message_refusal message (canon.Item section index) = Some (Item message section index)
@@ -77,7 +77,7 @@ on_first (Some (message, error)) = message_refusal message error
 abbrev pub first_refusal : List Octets → Option Refusal
 first_refusal messages = on_first (first_refused 0 (map message_reading messages))
 
--- where all messages are valid, they are refused exactly where they have no SOA record of the apex
+-- if all messages are valid, they are refused exactly if they have no SOA record of the apex
 abbrev pub on_records : Labels → List RecordValue → Option Refusal → Option Refusal
 on_records apex rs (Some refusal) = Some refusal
 on_records apex rs None = if has_soa apex rs then None else Some NoSoa
@@ -87,12 +87,12 @@ abbrev pub on_messages : Labels → Option (List Octets) → Option Refusal
 on_messages apex None = Some BadHex
 on_messages apex (Some messages) = on_records apex (all_records messages) (first_refusal messages)
 
--- why a text is refused; none where the zone's digest is printed for it
+-- why a text is refused; `None` if the zone's digest is printed for it
 abbrev pub zone_refusal : Labels → Octets → Option Refusal
 zone_refusal apex text = on_messages apex (all_spelled (texts_in text))
 
 abbrev pub zone_limit : Labels → ℕ
-zone_limit apex = LIMIT
+zone_limit apex = ZONE_TEXT_LIMIT
 
 -- the outcome that a text calls for; `zone_statuses_in_words` says it in other words
 abbrev pub zone_outcome : Option Labels → Octets → Outcome Refusal
@@ -123,7 +123,7 @@ zone_note NoSoa = note_line (codes "no soa") []
 
 -- the rules of the command
 abbrev pub zone_rules : Rules Labels (Outcome Refusal)
-zone_rules = text_rules zone_limit zone_refusal PrintsZone
+zone_rules = text_rules (λ command. true) zone_limit zone_refusal PrintsZone
 
 -- a status as an outcome
 abbrev pub outcome_of : ZoneStatus → Outcome Refusal

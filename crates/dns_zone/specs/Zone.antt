@@ -51,7 +51,7 @@ abbrev pub is_digest_record : RecordValue → Bool
 is_digest_record r = r.rtype == zonemd_number || (r.rtype == rrsig_number && signs_zonemd r.content)
 
 -- whether a record of another type than OPT is in the zone: of class IN, at the apex or below it, and not one of the zone's own digests or
--- of the signatures over these, which stand at the apex
+-- of the signatures over these, which are at the apex
 abbrev pub belongs : Labels → RecordValue → Bool
 belongs apex r = r.class == internet_number && is_at_or_below apex r.owner && not (is_apex apex r.owner && is_digest_record r)
 
@@ -83,13 +83,13 @@ abbrev pub stream : Labels → List RecordValue → Octets
 stream apex rs = concat (members apex rs)
 
 -- the text for some members: how many they are, how many octets they have, and their digest by SHA-384
-abbrev pub text_of : List Octets → Octets
-text_of lists =
+abbrev pub zone_output : List Octets → Octets
+zone_output lists =
     codes "records " ++ (decimal (length lists) ++ (codes " octets " ++ (decimal (length (concat lists)) ++ (10 ∷ codes "digest " ++ line (sha384 (concat lists))))))
 
 -- the text for the zone of an apex
 abbrev pub zone_text : Labels → List RecordValue → Octets
-zone_text apex rs = text_of (members apex rs)
+zone_text apex rs = zone_output (members apex rs)
 
 -- ---- in words
 
@@ -113,7 +113,7 @@ pub record IsInZone (apex : Labels) (r : RecordValue) : Type 0 where
 -- one of the records is the SOA record of the apex (RFC 1035 section 3.3.13)
 pub record HasSoa (apex : Labels) (rs : List RecordValue) : Type 0 where
   pub soa : RecordValue
-  pub stands : Contains rs soa
+  pub occurs : Contains rs soa
   pub owner : lowered soa.owner ≡ lowered apex
   pub class : soa.class ≡ internet_number
   pub rtype : soa.rtype ≡ soa_number

@@ -1,6 +1,6 @@
 //! The command `zone APEX`.
 
-ghost use Rattle.std.specs.Prelude.{◌≡◌, ◌≤◌, ℕ, List, length};
+ghost use Rattle.std.specs.Prelude.{◌≡◌, ◌≤◌, ℕ, true, List, length};
 ghost use Rattle.dns_text.specs.Endings.{Ran};
 ghost use Rattle.dns_text.specs.Outcomes.{RefusesFor, note_of};
 ghost use Rattle.dns_zone.specs.Texts.{PrintsZone, apex_of, outcome_of, zone_limit, zone_note, zone_refusal, zone_rules};
@@ -9,11 +9,11 @@ ghost use Rattle.dns_zone.specs.Zone.{has_soa};
 use crate::digest::zone_text;
 use crate::member::is_soa_of;
 use crate::messages::{messages_in, records_in};
-use crate::refusal::{LIMIT, Refusal};
+use crate::refusal::{Refusal, ZONE_TEXT_LIMIT};
 use crate::status::ZoneStatus;
 use dns_message::CanonicalRecord;
 use dns_name::RevNameBuf;
-use dns_text::{Args, Command, Notice, PrintError, put_line, put_notice, run_command};
+use dns_text::{Args, Notice, PrintError, TextCommand, put_line, put_notice, run_command};
 use dns_wire::{Failed, Sink, Source};
 use std::alloc::Global;
 use std::marker::Model;
@@ -25,9 +25,9 @@ struct Zone {
 }
 
 impl Model for Zone {
-    ghost use Rattle.std.specs.Prelude.{ℕ, List};
+    ghost use Rattle.dns_wire.specs.Octets.{Labels};
 
-    ghost Value = { List (List ℕ) };
+    ghost Value = { Labels };
 
     ghost view = { λ z. z.apex };
 }
@@ -39,8 +39,10 @@ fn has_soa(records: &[CanonicalRecord<'_>], apex: &RevNameBuf) -> bool
     records.iter().any(|found| is_soa_of(found, apex))
 }
 
-impl Command for Zone {
+impl TextCommand for Zone {
     type Refusal = Refusal;
+
+    ghost reads = { λ command. true };
 
     ghost limit = { zone_limit };
 
@@ -50,8 +52,12 @@ impl Command for Zone {
 
     ghost refusal_note = { zone_note };
 
+    fn reads_text(&self) -> bool {
+        true
+    }
+
     fn text_limit(&self) -> usize {
-        LIMIT
+        ZONE_TEXT_LIMIT
     }
 
     fn print(&self, alloc: Global, text: &[u8]) -> Result<Vec<u8>, PrintError<Refusal>> {
@@ -85,7 +91,7 @@ impl Command for Zone {
     }
 }
 
-/// The zone that the words `zone APEX` name; none where they are other words, or APEX is not the text of a name.
+/// The zone that the words `zone APEX` name; `None` if they are other words, or APEX is not the text of a name.
 fn zone_of(args: &Args) -> Option<Zone>
     ensures { result ≡ apex_of args.now }
 {

@@ -5,7 +5,7 @@ ghost use Rattle.std.specs.List.{concat};
 ghost use Rattle.sha2.specs.Sha512.{sha384};
 ghost use Rattle.dns_message.specs.Canonical.{canonical_wire};
 ghost use Rattle.dns_message.specs.Order.{collapsed};
-ghost use Rattle.dns_zone.specs.Zone.{belongs, text_of};
+ghost use Rattle.dns_zone.specs.Zone.{belongs, zone_output};
 
 use crate::member::belongs;
 use dns_message::{CanonicalRecord, collapsed, put_canonical};
@@ -40,7 +40,7 @@ fn octets_in(records: &[&CanonicalRecord<'_>]) -> u128
 
 /// The text for members in order: how many they are, how many octets they have, and their digest.
 fn text_for(alloc: Global, records: &[&CanonicalRecord<'_>]) -> Result<Vec<u8>, AllocError>
-    ensures { IfOk result (λ text. text.items ≡ text_of (map (λ r. canonical_wire r.now) records.now)) }
+    ensures { IfOk result (λ text. text.items ≡ zone_output (map (λ r. canonical_wire r.now) records.now)) }
 {
     let digest = digest_of(alloc, records)?;
     let digits = hex::encode(alloc, digest.as_slice())?;
@@ -59,7 +59,7 @@ pub(crate) fn zone_text(
     mut records: Vec<CanonicalRecord<'_>>,
     apex: &RevNameBuf,
 ) -> Result<Vec<u8>, AllocError>
-    ensures { IfOk result (λ text. text.items ≡ text_of (map canonical_wire (collapsed (filter (belongs apex.now) records.entry.items)))) }
+    ensures { IfOk result (λ text. text.items ≡ zone_output (map canonical_wire (collapsed (filter (belongs apex.now) records.entry.items)))) }
 {
     records.retain(|found| belongs(found, apex));
     let order = collapsed(alloc, &records)?;

@@ -7,62 +7,68 @@ ghost use Rattle.dns_name.specs.Text.{parsed_name};
 ghost use Rattle.dns_message.specs.Messages.{RecordValue};
 ghost use Rattle.dns_message.specs.Same.{Same};
 ghost use Rattle.dns_message.specs.declared.canon_error.CanonError.TheVariants as canon;
+ghost use Rattle.dns_wire.specs.Octets.{Octets, Labels};
 ghost use Rattle.dns_zone.specs.Texts.{HasRecords, PrintsZone, RefusesMessage, apex_of, outcome_of, texts_in, zone_outcome};
 ghost use Rattle.dns_zone.specs.Zone.{HasSoa, IsInZone, has_soa, in_zone, is_in_zone, zone_text};
-ghost use Rattle.dns_zone.specs.declared.refusal.TheConstants.{LIMIT};
+ghost use Rattle.dns_zone.specs.declared.refusal.TheConstants.{ZONE_TEXT_LIMIT};
 
 use crate::status::ZoneStatus;
 
-/// A record is a member exactly where it is in the zone: of class IN, of another type than OPT, and at the apex or below it, and at the
+/// A record is a member exactly if it is in the zone: of class IN, of another type than OPT, and at the apex or below it, and at the
 /// apex neither a ZONEMD record nor a signature over one (RFC 8976 section 3.3.1.1).
 pub fn members_in_words()
-    ensures { (apex : List (List ℕ)) (r : RecordValue) → (is_in_zone apex r ≡ true) ↔ IsInZone apex r }
+    ensures { (apex : Labels) (r : RecordValue) → (is_in_zone apex r ≡ true) ↔ IsInZone apex r }
 {}
 
-/// Records have the SOA record of the apex exactly where one of them is.
+/// Records have the SOA record of the apex exactly if one of them is.
 pub fn apex_soas()
-    ensures { (apex : List (List ℕ)) (rs : List RecordValue) → (has_soa apex rs ≡ true) ↔ HasSoa apex rs }
+    ensures { (apex : Labels) (rs : List RecordValue) → (has_soa apex rs ≡ true) ↔ HasSoa apex rs }
 {}
 
 /// Two inputs that have the same records in the zone have the same text, whatever the order of their messages and records, and however
 /// these are divided.
 pub fn equal_zones()
-    ensures texts { (apex : List (List ℕ)) (rs ss : List RecordValue) → Same (in_zone apex rs) (in_zone apex ss) → zone_text apex rs ≡ zone_text apex ss }
-    ensures printed { (apex : List (List ℕ)) (t u printed other : List ℕ) (rs ss : List RecordValue) → HasRecords t rs → HasRecords u ss → Same (in_zone apex rs) (in_zone apex ss) →
+    ensures texts { (apex : Labels) (rs ss : List RecordValue) → Same (in_zone apex rs) (in_zone apex ss) → zone_text apex rs ≡ zone_text apex ss }
+    ensures printed { (apex : Labels) (t u printed other : Octets) (rs ss : List RecordValue) → HasRecords t rs → HasRecords u ss → Same (in_zone apex rs) (in_zone apex ss) →
         PrintsZone apex t printed → PrintsZone apex u other → printed ≡ other }
 {}
 
 /// Lists of records that are the same have the same records in the zone of an apex. So two inputs whose messages have the same records have
 /// the same text.
 pub fn same_zones()
-    ensures zones { (apex : List (List ℕ)) (rs ss : List RecordValue) → Same rs ss → Same (in_zone apex rs) (in_zone apex ss) }
-    ensures printed { (apex : List (List ℕ)) (t u printed other : List ℕ) (rs ss : List RecordValue) → HasRecords t rs → HasRecords u ss → Same rs ss →
+    ensures zones { (apex : Labels) (rs ss : List RecordValue) → Same rs ss → Same (in_zone apex rs) (in_zone apex ss) }
+    ensures printed { (apex : Labels) (t u printed other : Octets) (rs ss : List RecordValue) → HasRecords t rs → HasRecords u ss → Same rs ss →
         PrintsZone apex t printed → PrintsZone apex u other → printed ≡ other }
 {}
 
 /// The words of the command are `zone` and the text of a name, and no others.
 pub fn words_of_zones()
-    ensures { (words apex : List (List ℕ)) → (apex_of words ≡ Some apex) ↔ ((text : List ℕ) × (words ≡ codes "zone" ∷ text ∷ []) × (parsed_name text ≡ Ok apex)) }
+    ensures { (words : List Octets) (apex : Labels) → (apex_of words ≡ Some apex) ↔ ((text : Octets) × (words ≡ codes "zone" ∷ text ∷ []) × (parsed_name text ≡ Ok apex)) }
 {}
 
 /// The status that a text calls for, in words, for each that one calls for. A text over the limit is refused first, then a line that is no
 /// digits, then the first message that is not valid, and at last messages without the SOA record of the apex.
 pub fn zone_statuses_in_words()
-    ensures done { (apex : List (List ℕ)) (t : List ℕ) → (zone_outcome (Some apex) t ≡ outcome_of ZoneStatus.Done)
-        ↔ ((length t ≤ LIMIT) × ((rs : List RecordValue) × HasRecords t rs × HasSoa apex rs)) }
-    ensures no_soa { (apex : List (List ℕ)) (t : List ℕ) → (zone_outcome (Some apex) t ≡ outcome_of ZoneStatus.NoSoa)
-        ↔ ((length t ≤ LIMIT) × ((rs : List RecordValue) × HasRecords t rs × ¬ HasSoa apex rs)) }
-    ensures short { (apex : List (List ℕ)) (t : List ℕ) (message : ℕ) → (zone_outcome (Some apex) t ≡ outcome_of (ZoneStatus.Short message))
-        ↔ ((length t ≤ LIMIT) × RefusesMessage t message canon.Short) }
-    ensures item { (apex : List (List ℕ)) (t : List ℕ) (message section index : ℕ) → (zone_outcome (Some apex) t ≡ outcome_of (ZoneStatus.Item message section index))
-        ↔ ((length t ≤ LIMIT) × RefusesMessage t message (canon.Item section index)) }
-    ensures bad_hex { (apex : List (List ℕ)) (t : List ℕ) → (zone_outcome (Some apex) t ≡ outcome_of ZoneStatus.BadHex)
-        ↔ ((length t ≤ LIMIT) × Any SpellsNothing (texts_in t)) }
-    ensures too_long { (apex : List (List ℕ)) (t : List ℕ) → (zone_outcome (Some apex) t ≡ outcome_of ZoneStatus.TooLong) ↔ (LIMIT < length t) }
-    ensures usage { (t : List ℕ) → zone_outcome None t ≡ outcome_of ZoneStatus.Usage }
+    ensures done { (apex : Labels) (t : Octets) → (zone_outcome (Some apex) t ≡ outcome_of ZoneStatus.Done)
+        ↔ ((length t ≤ ZONE_TEXT_LIMIT) × ((rs : List RecordValue) × HasRecords t rs × HasSoa apex rs)) }
+    ensures no_soa { (apex : Labels) (t : Octets) → (zone_outcome (Some apex) t ≡ outcome_of ZoneStatus.NoSoa)
+        ↔ ((length t ≤ ZONE_TEXT_LIMIT) × ((rs : List RecordValue) × HasRecords t rs × ¬ HasSoa apex rs)) }
+    ensures short { (apex : Labels) (t : Octets) (message : ℕ) → (zone_outcome (Some apex) t ≡ outcome_of (ZoneStatus.Short message))
+        ↔ ((length t ≤ ZONE_TEXT_LIMIT) × RefusesMessage t message canon.Short) }
+    ensures item { (apex : Labels) (t : Octets) (message section index : ℕ) → (zone_outcome (Some apex) t ≡ outcome_of (ZoneStatus.Item message section index))
+        ↔ ((length t ≤ ZONE_TEXT_LIMIT) × RefusesMessage t message (canon.Item section index)) }
+    ensures bad_hex { (apex : Labels) (t : Octets) → (zone_outcome (Some apex) t ≡ outcome_of ZoneStatus.BadHex)
+        ↔ ((length t ≤ ZONE_TEXT_LIMIT) × Any SpellsNothing (texts_in t)) }
+    ensures too_long { (apex : Labels) (t : Octets) → (zone_outcome (Some apex) t ≡ outcome_of ZoneStatus.TooLong) ↔ (ZONE_TEXT_LIMIT < length t) }
+    ensures usage { (t : Octets) → zone_outcome None t ≡ outcome_of ZoneStatus.Usage }
 {}
 
-/// Statuses are equal exactly where they are the same.
+/// Statuses are equal exactly if they are the same.
 pub fn equal_statuses()
     ensures { (a b : _) → IsTrue (⟦<ZoneStatus as PartialEq>⟧.eq a b) ↔ (a ≡ b) }
+{}
+
+/// The text of a zone has at most 4,194,304 octets.
+pub fn limits()
+    ensures { ZONE_TEXT_LIMIT ≡ 4194304 }
 {}

@@ -11,8 +11,8 @@ mod status;
 
 pub use command::run_zone;
 pub use laws::{
-    apex_soas, equal_statuses, equal_zones, members_in_words, same_zones, words_of_zones,
+    apex_soas, equal_statuses, equal_zones, limits, members_in_words, same_zones, words_of_zones,
     zone_statuses_in_words,
 };
-pub use refusal::LIMIT;
+pub use refusal::ZONE_TEXT_LIMIT;
 pub use status::ZoneStatus;

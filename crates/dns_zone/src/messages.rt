@@ -27,7 +27,7 @@ fn message_in(alloc: Global, line: &[u8]) -> Result<Vec<u8>, PrintError<Refusal>
     }
 }
 
-/// The octets of the messages in a text, a line each; blanks at the end of the text and of a line do not count.
+/// The octets of the messages in a text, a line each; whitespace at the end of the text and of a line does not count.
 pub(crate) fn messages_in(alloc: Global, text: &[u8]) -> Result<Vec<Vec<u8>>, PrintError<Refusal>>
     ensures spelled { IfOk result (λ messages. all_spelled (texts_in text.now) ≡ Some (map (λ m. m.items) messages.items)) }
     ensures few { IfOk result (λ messages. vec_len messages ≤ length text.now + 1) }

@@ -1,7 +1,7 @@
 //! Why the text of a zone is refused.
 
 /// The most octets of the text of a zone.
-pub const LIMIT: usize = 4_194_304;
+pub const ZONE_TEXT_LIMIT: usize = 4_194_304;
 
 /// Why the text of a zone is refused.
 #[derive(Clone, Copy, Debug, PartialEq, Eq)]

@@ -1,5 +1,5 @@
 //! Answers cases: each line of standard input is a case, and what `dns_zone::run_zone` does for it is printed. A case is a
-//! kind, a name and the fields of the kind, with a blank between two. A line that begins with a number sign is a
+//! kind, a name and the fields of the kind, with a space between two. A line that begins with a number sign is a
 //! comment.
 #![tactic(auto)]
 
@@ -52,7 +52,7 @@ fn show_answer(
     show(rt, name, &found)
 }
 
-/// Prints the answer to the words for a text, where a device fails at a call.
+/// Prints the answer to the words for a text, if a device fails at a call.
 fn show_failing(
     rt: &impl Print,
     alloc: Global,
@@ -65,7 +65,7 @@ fn show_failing(
     show(rt, name, &found)
 }
 
-/// A text with blanks after it, up to this number of octets.
+/// A text with spaces after it, up to this number of octets.
 fn padded(alloc: Global, text: &str, count: usize) -> Result<Vec<u8>, AllocError> {
     let mut octets = octets_of(alloc, text)?;
     for _missing in octets.len()..count {
@@ -74,7 +74,7 @@ fn padded(alloc: Global, text: &str, count: usize) -> Result<Vec<u8>, AllocError
     Ok(octets)
 }
 
-/// Prints the answer to the words for a text with blanks after it.
+/// Prints the answer to the words for a text with spaces after it.
 fn show_padded(
     rt: &impl Print,
     alloc: Global,
@@ -83,6 +83,31 @@ fn show_padded(
     (text, count): (&str, usize),
 ) -> io::Result<()> {
     let text = padded(alloc, text, count)?;
+    let found = answer_to(alloc, words, &text, SOUND)?;
+    show(rt, name, &found)
+}
+
+/// A text with that many records after it, as short as records are: the root, one of each type from 1,000 on, class IN, no data.
+fn with_shortest(alloc: Global, text: &str, count: u16) -> Result<Vec<u8>, AllocError> {
+    let mut octets = octets_of(alloc, text)?;
+    for index in 0..count {
+        let number = index.wrapping_add(1000);
+        octets.extend_from_slice(b"00")?;
+        octets.extend_from_slice(hex::encode(alloc, &number.to_be_bytes())?.as_bytes())?;
+        octets.extend_from_slice(b"0001000000000000")?;
+    }
+    Ok(octets)
+}
+
+/// Prints the answer to the words for a text with that many of the shortest records after it.
+fn show_shortest(
+    rt: &impl Print,
+    alloc: Global,
+    name: &str,
+    words: &str,
+    (text, count): (&str, usize),
+) -> io::Result<()> {
+    let text = with_shortest(alloc, text, (count % 65_536) as u16)?;
     let found = answer_to(alloc, words, &text, SOUND)?;
     show(rt, name, &found)
 }
@@ -101,6 +126,7 @@ fn show_case(rt: &impl Print, alloc: Global, case: &str) -> io::Result<()> {
         "read" => show_read(rt, alloc, name, number_of(words), text),
         "words" => show_words(rt, name, &words_of(alloc, words)?),
         "padded" => show_padded(rt, alloc, name, words, (text, number)),
+        "shortest" => show_shortest(rt, alloc, name, words, (text, number)),
         _ => show_failing(rt, alloc, name, failing(kind, number), (words, text)),
     }
 }

@@ -1,9 +1,10 @@
 //! One call over all commands.
 
 ghost use Rattle.std.specs.Prelude.{◌≡◌, codes, map, string_bytes};
-ghost use Rattle.dnscanon.specs.Dispatch.{Keeps, first_is};
+ghost use Rattle.dnscanon.specs.Dispatch.{Dispatched, first_is, names_denial};
 
 use dns_canon::{Status, Words, run};
+use dns_denial::{DenialStatus, run_denial};
 use dns_normal::{NormalStatus, run_normal};
 use dns_text::Args;
 use dns_wire::{Sink, Source};
@@ -11,7 +12,7 @@ use dns_zone::{ZoneStatus, run_zone};
 use std::alloc::Global;
 
 /// What the words of a command line came to.
-#[derive(Clone, Copy, Debug, PartialEq, Eq)]
+#[derive(Clone, Copy, Debug)]
 pub enum Answer {
     /// How `canon`, `same` or `make` ended, or that the words are no command.
     Canon(Status),
@@ -19,6 +20,8 @@ pub enum Answer {
     Zone(ZoneStatus),
     /// How `normal` ended.
     Normal(NormalStatus),
+    /// How `hash`, `covers`, `signed` or `keytags` ended.
+    Denial(DenialStatus),
 }
 
 impl Answer {
@@ -32,6 +35,7 @@ impl Answer {
             Answer::Canon(status) => status.code(),
             Answer::Zone(status) => status.code(),
             Answer::Normal(status) => status.code(),
+            Answer::Denial(status) => status.code(),
         }
     }
 }
@@ -56,7 +60,21 @@ fn names_normal(words: &[String]) -> bool
     }
 }
 
-/// Answers the words of a command line: `zone` by `run_zone`, `normal` by `run_normal`, and all others by `run`.
+/// Whether the first word is `hash`, `covers`, `signed` or `keytags`.
+fn names_denial(words: &[String]) -> bool
+    ensures { result ≡ names_denial (map string_bytes words.now) }
+{
+    match words {
+        [first, ..] => {
+            let word = first.as_str();
+            word == "hash" || word == "covers" || word == "signed" || word == "keytags"
+        }
+        [] => false,
+    }
+}
+
+/// Answers the words of a command line: `zone` by `run_zone`, `normal` by `run_normal`, `hash`, `covers`, `signed` and `keytags` by
+/// `run_denial`, and all others by `run`.
 pub fn dispatch<S: Source, K: Sink, N: Sink>(
     alloc: Global,
     words: Vec<String>,
@@ -64,12 +82,14 @@ pub fn dispatch<S: Source, K: Sink, N: Sink>(
     sink: &mut K,
     notes: &mut N,
 ) -> Answer
-    ensures { Keeps S.Source K.Sink N.Sink (map string_bytes words.items) source.old source.new sink.old sink.new notes.old notes.new result }
+    ensures { Dispatched S.Source K.Sink N.Sink (map string_bytes words.items) source.old source.new sink.old sink.new notes.old notes.new result }
 {
     if names_zone(&words) {
         Answer::Zone(run_zone(alloc, &Args::new(words), source, sink, notes))
     } else if names_normal(&words) {
         Answer::Normal(run_normal(alloc, &Args::new(words), source, sink, notes))
+    } else if names_denial(&words) {
+        Answer::Denial(run_denial(alloc, &Args::new(words), source, sink, notes))
     } else {
         Answer::Canon(run(alloc, &Words::new(words), source, sink, notes))
     }

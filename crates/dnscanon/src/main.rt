@@ -21,7 +21,7 @@ fn words_of(rt: &HostRuntime) -> io::Result<Vec<String>> {
     Ok(words)
 }
 
-/// The code for an error with which the words could not be had.
+/// The code for an error with which the words could not be read.
 fn code_without_words(error: &io::Error) -> u8 {
     match error.kind() {
         io::ErrorKind::OutOfMemory => Status::Memory.code(),

@@ -2,6 +2,7 @@
 
 ghost use Rattle.std.specs.Prelude.{◌≡◌, ◌≤◌, ◌<◌, ℕ, List, Some, [], ◌∷◌, length, take, IfSome, IfNone};
 ghost use Rattle.std.specs.List.{AllByRecursion};
+ghost use Rattle.dns_wire.specs.Octets.{Octets};
 ghost use Rattle.dns_wire.specs.Reading.{all_of};
 ghost use Rattle.dns_wire.specs.Names.{plain_name, name_labels};
 ghost use Rattle.dns_wire.specs.Reversed.{reversed_name, reversed_name_labels};
@@ -54,13 +55,13 @@ impl NameCompressor {
     pub fn truncate(&mut self, len: usize)
         requires { len ≤ length self.old }
         ensures exact { self.new ≡ take len self.old }
-        ensures fits { (contents : List ℕ) → FitsIn self.old contents → FitsIn self.new contents }
+        ensures fits { (contents : Octets) → FitsIn self.old contents → FitsIn self.new contents }
     {
         self.recorded.truncate(len);
     }
 
     /// The longest suffix of the name that is the name at a recorded place, ignoring ASCII case: how many octets
-    /// of the name are before it, and the smallest such place. It is none exactly where no suffix of at
+    /// of the name are before it, and the smallest such place. It is `None` exactly if no suffix of at
     /// least one label is at a recorded place.
     pub fn compress_name(&self, contents: &[u8], name: &[u8]) -> Option<(usize, u16)>
         requires { all_of (plain_name name.now) ≡ Some (name_labels name.now) }

@@ -1,14 +1,14 @@
-//! Suffixes of a name that stand in a message already.
+//! Suffixes of a name that are in a message already.
 
 ghost use Rattle.std.specs.Prelude.{◌≡◌, ◌<◌, ◌≤◌, length, Some, [], MatchOption, IfSome};
 ghost use Rattle.dns_wire.specs.Reading.{all_of};
 ghost use Rattle.dns_wire.specs.Names.{plain_name, name_labels};
-ghost use Rattle.dns_wire.specs.Compression.{stands_at};
+ghost use Rattle.dns_wire.specs.Compression.{occurs_at};
 ghost use Rattle.dns_wire.specs.Searching.{FirstOf, count_at, suffix_at, before_limit};
 
 use crate::name_cursor::{LabelType, NameCursor};
 
-/// The first label of a name's octets, and the octets of the name after it; none where the name is the
+/// The first label of a name's octets, and the octets of the name after it; `None` if the name is the
 /// root.
 fn first_label(name: &[u8]) -> Option<(&[u8], &[u8])>
     requires { all_of (plain_name name.now) ≡ Some (name_labels name.now) }
@@ -64,7 +64,7 @@ fn count_labels_at(contents: &[u8], place: usize, most: usize) -> Option<usize>
 /// Whether the name at the place is this one, ignoring ASCII case.
 fn is_name_at(contents: &[u8], place: usize, name: &[u8]) -> bool
     requires { all_of (plain_name name.now) ≡ Some (name_labels name.now) }
-    ensures { result ≡ stands_at contents.now (name_labels name.now) place }
+    ensures { result ≡ occurs_at contents.now (name_labels name.now) place }
 {
     let mut rest = name;
     let mut cursor = NameCursor::new(place);
@@ -88,7 +88,7 @@ fn is_name_at(contents: &[u8], place: usize, name: &[u8]) -> bool
 }
 
 /// After how many of its octets the name, which has `count` labels, has a suffix that is the name at the
-/// place; none where that is none before `limit` octets. The suffix has as many labels as the name at the
+/// place; `None` if that is none before `limit` octets. The suffix has as many labels as the name at the
 /// place, so that one comparison is enough.
 pub(crate) fn suffix_before(
     contents: &[u8],

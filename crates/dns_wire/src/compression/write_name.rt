@@ -36,7 +36,7 @@ fn put_cut(
 
 /// Writes a name at a place of the contents, which are the octets after the header, and gives the place
 /// where it ends. The longest suffix that the compressor knows is a pointer, and the places of the labels
-/// before it are noted (RFC 1035 section 4.1.4). It is accepted exactly where there is room. After
+/// before it are noted (RFC 1035 section 4.1.4). It is accepted exactly if there is room. After
 /// `TruncationError` the octets before `start` and the compressor are as before.
 pub fn put_name(
     name: &[u8],

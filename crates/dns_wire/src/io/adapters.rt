@@ -47,7 +47,7 @@ impl<R: Read> Source for ReadSource<R> {
 }
 
 /// A writer of std. Each of its errors is a fault, one of the kind `Interrupted` too: no call is tried
-/// again. It is a fault as well where the writer takes no octet though it was given some.
+/// again. It is a fault as well if the writer takes no octet though it was given some.
 #[derive(Drop)]
 pub struct WriteSink<W> {
     writer: W,

@@ -116,7 +116,7 @@ impl<'a> Source for PlainSource<'a> {
     }
 }
 
-/// Takes octets into a buffer, and fails at the calls whose numbers it was given and where the buffer
+/// Takes octets into a buffer, and fails at the calls whose numbers it was given and if the buffer
 /// is full.
 #[derive(Drop)]
 pub struct TextSink<'b> {
@@ -186,7 +186,7 @@ impl<'b> TextSink<'b> {
     }
 
     /// Ends the sink, and gives the buffer back: the octets that were taken, and after them those that
-    /// stood there before.
+    /// were there before.
     pub fn into_buffer(self) -> &'b mut [u8]
         ensures { result.now ≡ self.entry.written ++ self.entry.free }
     {

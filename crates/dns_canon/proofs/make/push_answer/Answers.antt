@@ -13,7 +13,7 @@ unwrap-requires c =
       ttl = ap (λ r. r.ttl.value.value) c.new-record.ensures ∙ c.from-ttl.ensures ∙ ap (λ n. 60 + n) c.from.ensures;
       content = ap (λ r. data_seen r.rdata) c.new-record.ensures ∙ c.requires.content;
     } in
-    push_is_accepted c.args.index c.new-record.result c.requires.few is c.args.builder.now c.push_answer.result c.requires.before c.push_answer.ensures.answered
+    push_is_accepted c.args.index c.new-record.result c.requires.few is c.args.builder.now c.push_answer.result c.requires.before c.push_answer.ensures.result_is
 
 pub returns : goal.returns
 returns c =

@@ -3,7 +3,7 @@ use Rattle.dns_name.proofs.CountedSteps.{Counted}
 use Rattle.dns_name.proofs.Followed.{Followed}
 use Rattle.dns_name.proofs.name_buf.read_name.Given as goal
 
--- the labels so far stand in the buffer
+-- the labels so far are in the buffer
 abbrev pub invariant-loop-buffer : goal.invariant-loop-buffer
 invariant-loop-buffer g l = record { array : length l.buffer ≡ 255; room : l.size < 255; followed : Followed l.contents l.start l.cursor.start l.cursor.at l.cursor.end (take l.size l.buffer); counted : Counted l.contents l.start l.cursor.start l.cursor.at l.fn.steps l.steps l.size }
 

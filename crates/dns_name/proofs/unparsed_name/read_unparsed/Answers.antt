@@ -1,6 +1,6 @@
 use Rattle.std.proofs.Common.{arith, ◌+◌, inl, inr, refl, Some, None, get_or}
 use Rattle.dns_wire.proofs.Walk.{walked_more}
-use Rattle.dns_name.specs.Unparsed.{pointed_offset}
+use Rattle.dns_name.specs.Unparsed.{offset_of_pointer}
 use Rattle.dns_name.proofs.UnparsedNames.{UnparsedEnds, walked_to_root, walked_to_pointer, walked_on, walked_to_bad, walked_to_half}
 use Rattle.dns_name.proofs.unparsed_name.read_unparsed.Goals as goal
 use Rattle.dns_name.proofs.unparsed_name.read_unparsed.Goals.{Then-octet-eq0, Else-left-lt2, then-size-gt-MAX_LABEL_SIZE-via-then-size-gt-MAX_LABEL_SIZE, then-size-gt-MAX_LABEL_SIZE-via-else-size-gt-MAX_LABEL_SIZE+then-left-size}
@@ -17,7 +17,7 @@ returns-then-octet-eq0-clause-whole c = (at_root (goal.at.returns-then-octet-eq0
 pub returns-then-octet-eq0-clause-pointer : goal.returns-then-octet-eq0-clause-pointer
 returns-then-octet-eq0-clause-pointer c = (at_root (goal.at.returns-then-octet-eq0-clause-pointer c).Then-octet-eq0).pointer_is
 
-at_pointer : (c : Else-left-lt2) → UnparsedEnds c.args.bytes.now (c.loop-at.at + 2) (Some (pointed_offset (get_or c.args.bytes.now c.loop-at.at 0, get_or c.args.bytes.now (c.loop-at.at + 1) 0)))
+at_pointer : (c : Else-left-lt2) → UnparsedEnds c.args.bytes.now (c.loop-at.at + 2) (Some (offset_of_pointer (get_or c.args.bytes.now c.loop-at.at 0, get_or c.args.bytes.now (c.loop-at.at + 1) 0)))
 at_pointer c = walked_to_pointer _ _ c.loop-at.invariant _ c.loop-at-test.true c.if-at.true refl c.if-octet-ge-POINTER_TAG.true c.if-left-lt2.false
 
 pub returns-then-left-lt2-clause-refused : goal.returns-then-left-lt2-clause-refused

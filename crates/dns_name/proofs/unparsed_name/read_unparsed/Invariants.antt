@@ -2,7 +2,7 @@ use Rattle.std.proofs.Common.{length, ◌-◌}
 use Rattle.dns_wire.proofs.Walk.{Walked}
 use Rattle.dns_name.proofs.unparsed_name.read_unparsed.Given as goal
 
--- labels stand before the place
+-- labels are before the place
 abbrev pub invariant-loop-at : goal.invariant-loop-at
 invariant-loop-at l = Walked l.bytes l.at
 

@@ -13,7 +13,7 @@ was_ok : {A E : Type 0} (result : Result A E) (value : A) → Some value ≡ res
 was_ok (Ok found) value is = cc
 was_ok (Err error) value is = absurd cc
 
--- one label type further, where it is not the root
+-- one label type further, if it is not the root
 counted_on : (contents : List ℕ) (offset count size : ℕ) (cursor : NameCursor) (label_type : LabelType) → ¬ (label_type ≡ Root) → label_type_at contents cursor.start cursor.at ≡ Some label_type → LabelTypeFits contents cursor.start cursor.at label_type → Counted contents offset cursor.start cursor.at 0 count size → (more : ℕ) × Counted contents offset (after cursor label_type).start (after cursor label_type).at 0 (count + 1) more
 counted_on contents offset count size cursor Root other is fits counted = absurd (other cc)
 counted_on contents offset count size cursor (Label label) other is fits counted =

@@ -1,5 +1,5 @@
 use Rattle.dns_normal.proofs.NormalForms.{same_normal, other_normal}
-use Rattle.dns_normal.proofs.Outcomes.{same_printed}
+use Rattle.dns_normal.proofs.NormalOutcomes.{same_printed}
 use Rattle.dns_normal.proofs.laws.equal_normal_forms.Goals as goal
 
 pub returns : goal.returns

@@ -1,7 +1,7 @@
 use Rattle.std.proofs.Common.{refl}
 use Rattle.dns_text.specs.declared.outcome.Outcome.TheVariants.{Done, Refused, TooLong}
 use Rattle.dns_normal.specs.declared.refusal.Refusal.TheVariants.{BadHex, Item, Short, TooLarge}
-use Rattle.dns_normal.proofs.Outcomes.{outcome_words}
+use Rattle.dns_normal.proofs.NormalOutcomes.{outcome_words}
 use Rattle.dns_normal.proofs.laws.normal_statuses_in_words.Goals as goal
 
 pub returns : goal.returns

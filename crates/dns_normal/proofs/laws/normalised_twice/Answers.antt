@@ -1,4 +1,4 @@
-use Rattle.dns_normal.proofs.Outcomes.{printed_accepted, printed_itself}
+use Rattle.dns_normal.proofs.NormalOutcomes.{printed_accepted, printed_itself}
 use Rattle.dns_normal.proofs.laws.normalised_twice.Goals as goal
 
 pub returns : goal.returns

@@ -4,7 +4,7 @@ use Rattle.dns_message.specs.Canonical.{lowercase_names}
 use Rattle.dns_message.specs.Headers.{header_bits}
 use Rattle.dns_normal.specs.Normal.{answers_message}
 use Rattle.dns_normal.proofs.AnswersLemmas.{if_accepted, if_refused, message_is, message_short, no_answers}
-use Rattle.dns_normal.proofs.Outcomes.{refused_size}
+use Rattle.dns_normal.proofs.NormalOutcomes.{refused_size}
 use Rattle.dns_normal.proofs.message.answers_line.Goals as goal
 
 pub push_records-requires-clause-none : goal.push_records-requires-clause-none

@@ -10,7 +10,7 @@ use Rattle.dns_message.proofs.WellFormedLemmas.{all_well}
 use Rattle.dns_normal.specs.Answers.{AreRecordsOf}
 use Rattle.dns_normal.specs.Normal.{normal_form}
 use Rattle.dns_normal.proofs.NormalForms.{left_well}
-use Rattle.dns_normal.proofs.Outcomes.{accepted_size, valid_refusal}
+use Rattle.dns_normal.proofs.NormalOutcomes.{accepted_size, valid_refusal}
 use Rattle.dns_normal.proofs.message.normal_line.Goals as goal
 
 pub answers_line-requires : goal.answers_line-requires

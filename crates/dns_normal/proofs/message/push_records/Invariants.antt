@@ -4,6 +4,6 @@ use Rattle.dns_message.specs.Messages.{RecordValue}
 use Rattle.dns_normal.specs.Answers.{AreRecordsOf, HasAnswers}
 use Rattle.dns_normal.proofs.message.push_records.Given as goal
 
--- the records so far stand as answers
+-- the records so far are the answers
 abbrev pub invariant-loop-found : goal.invariant-loop-found
 invariant-loop-found l = (rs : List RecordValue) → AreRecordsOf (map (λ r. canonical_wire r.now) l.records) rs → HasAnswers (map lowercase_names (take l.found-index rs)) l.builder

@@ -2,8 +2,8 @@ use Rattle.std.proofs.NetLemmas.Texts.{IsZeroRun-longest_zero_run, longest_zero_
 use Rattle.dns_plain.proofs.address_laws.runs_of_zero.Goals as goal
 
 -- src/address_laws.rt:22:1
-pub returns-clause-stands : goal.returns-clause-stands
-returns-clause-stands c groups = (IsZeroRun-longest_zero_run groups).1
+pub returns-clause-occurs : goal.returns-clause-occurs
+returns-clause-occurs c groups = (IsZeroRun-longest_zero_run groups).1
 
 -- src/address_laws.rt:22:1
 pub returns-clause-longest : goal.returns-clause-longest

@@ -3,7 +3,7 @@ use Rattle.std.specs.Prelude.{IsSome}
 use Rattle.std.specs.Io.KnownBytes.{Appends}
 use Rattle.dns_text.proofs.transfer.put_all.Given as goal
 
--- the sink has got what has been sent, it still tells its flag, and nothing has failed
+-- the sink has got what has been sent, it still reports its flag, and nothing has failed
 abbrev pub invariant-loop-sent : goal.invariant-loop-sent
 invariant-loop-sent g l = record {
   within : l.sent ≤ length l.text;

@@ -3,11 +3,11 @@ use Rattle.std.proofs.lemmas.Fn.{filter_same}
 use Rattle.dns_message.specs.Canonical.{canonical_wire}
 use Rattle.dns_message.specs.Messages.{RecordValue}
 use Rattle.dns_message.specs.Order.{collapsed}
-use Rattle.dns_zone.specs.Zone.{belongs, text_of}
+use Rattle.dns_zone.specs.Zone.{belongs, zone_output}
 use Rattle.dns_zone.proofs.digest.zone_text.Goals as goal
 
 pub returns : goal.returns
 returns c =
     let kept = filter_same _ (belongs c.args.apex.now) _ (λ x b f k. search rules) _ _ c.retain.ensures.filtered in
     let lists = ap (map (λ r. canonical_wire r.now)) c.deref-2.ensures.value ∙ c.in_ok-order.ensures.octets ∙ ap (λ (l : List RecordValue). map canonical_wire (collapsed l)) (c.deref.ensures.value ∙ kept) in
-    subst (λ (l : List (List ℕ)). IfOk c.text_for.result (λ text. text.items ≡ text_of l)) lists c.text_for.ensures
+    subst (λ (l : List (List ℕ)). IfOk c.text_for.result (λ text. text.items ≡ zone_output l)) lists c.text_for.ensures

@@ -1,4 +1,4 @@
-use Rattle.dns_zone.proofs.Outcomes.{same_printed, same_texts}
+use Rattle.dns_zone.proofs.ZoneOutcomes.{same_printed, same_texts}
 use Rattle.dns_zone.proofs.laws.equal_zones.Goals as goal
 
 pub returns : goal.returns

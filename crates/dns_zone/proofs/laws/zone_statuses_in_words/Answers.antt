@@ -1,7 +1,7 @@
 use Rattle.std.proofs.Common.{refl}
 use Rattle.dns_text.specs.declared.outcome.Outcome.TheVariants.{Done, Refused, TooLong}
 use Rattle.dns_zone.specs.declared.refusal.Refusal.TheVariants.{BadHex, Item, NoSoa, Short}
-use Rattle.dns_zone.proofs.Outcomes.{outcome_words}
+use Rattle.dns_zone.proofs.ZoneOutcomes.{outcome_words}
 use Rattle.dns_zone.proofs.laws.zone_statuses_in_words.Goals as goal
 
 pub returns : goal.returns

@@ -1,4 +1,4 @@
--- `respond_into` lends the rest of the buffer, and the cookie's octets stand before it. Assumes `Logic`.
+-- `respond_into` returns a borrow of the rest of the buffer, and the cookie's octets are before it. Assumes `Logic`.
 use Rattle.std.proofs.Common.{◌≡◌, ℕ, ◌+◌, ◌-◌, ◌*◌, ◌^◌, ◌<◌, ◌≤◌, List, [], ◌∷◌, length, take, drop as drop_list, sym, refl, ap, ◌∙◌, lit<, arith, Result, Ok, Err, MutBor}
 use Rattle.std.proofs.raw_atomic.Walks.{proved}
 use Rattle.std.proofs.lemmas.List.{take-append-drop, length-drop, take_at, drop_at}
@@ -39,7 +39,7 @@ use types.Run.{stop, fld, hop, from, addr, lit, bin, and_then, no_more, of_opd, 
 use types.Tokens.{lft_new, lft_end}
 use Rattle.std.specs.contracts.result.Result as RS
 use Rattle.std.specs.Prelude.{⊤}
-use Rattle.dns_wire.specs.Building.{Builds, Stands}
+use Rattle.dns_wire.specs.Building.{Builds, Occurs}
 use Rattle.dns_wire.specs.contracts.error.TruncationError as TE
 use Rattle.dns_record.specs.contracts.serial.Serial as SE
 use Rattle.dns_edns.specs.contracts.address.Address as AD
@@ -114,11 +114,11 @@ respond_into_spec 𝓤 𝓛 𝓜 𝓡 wired X L g d met =
     ⊛ some (λ (ws : Unit {0} × (Unit {0} × (Unit {0} × (Unit {0} × (Unit {0} × (List ℕ × Unit {0})))))). ‵ (lasts (G.ended X g d) z.0.0 z.0.3 ws) ⊛ raw (fact 𝓤 ((length octets ≡ 24) × Builds ⊤ octets xs 0 ws.1.1.1.1.1.0 res)))))) (id⊢ 𝓤 _) $ await ! tt $ pick ! (λ res.
     split ! $ split ! $ split ! $ move ! (1 ∷ []) $ split ! $ move ! (1 ∷ []) $ split ! $ move ! (1 ∷ []) $ split ! $ move ! (1 ∷ []) $ split ! $ move ! (1 ∷ []) $ drop ! $
     -- [a token; α's; three tokens; the result; what the function says; what the lender keeps]
-    move ! (6 ∷ []) $ pick ! (λ ws. split ! $ move ! (1 ∷ []) $ heard ! _ (λ told.
+    move ! (6 ∷ []) $ pick ! (λ ws. split ! $ move ! (1 ∷ []) $ heard ! _ (λ checked.
     fsplit ! $ move ! (1 ∷ []) $ fsplit ! $ move ! (1 ∷ []) $ fsplit ! $ move ! (1 ∷ []) $ fsplit ! $ move ! (1 ∷ []) $ fsplit ! $ move ! (1 ∷ []) $ fsplit ! $ fsplit ! $ fsplit ! $
     move ! (1 ∷ []) $ drop ! $ move ! (1 ∷ []) $ drop ! $ move ! (1 ∷ []) $ drop ! $ move ! (1 ∷ []) $ drop ! $ move ! (1 ∷ []) $ drop ! $ move ! (1 ∷ []) $ drop ! $ move ! (1 ∷ []) $ drop ! $ move ! (1 ∷ []) $ drop ! $
     -- [the last value under δ; a token; α's; three tokens; the result; what the lender keeps]
-    let eight : length octets ≡ 24 = told.0 in let built = told.1 in
+    let eight : length octets ≡ 24 = checked.0 in let built = checked.1 in
     let ys : List ℕ = ws.1.1.1.1.1.0 in
     move ! (2 ∷ []) $ lft_end ! tt $ move ! (0 ∷ 7 ∷ 1 ∷ []) $
     use3 𝓛 (later (given (length ys ≡ length xs) (‵ ((Table.MutSlice erased κ u8).own_val (record { ref_ptr = (b, o); ghost_name = γ; now = ys })) ⊛ ‵ (flft κ q)))) (sl_relent_backˡ 𝓛 u8 κ q (α ∷ []) b o γ δ xs ys) $ await ! tt $ learn ! (λ same. split ! $
@@ -126,9 +126,9 @@ respond_into_spec 𝓤 𝓛 𝓜 𝓡 wired X L g d met =
     let Then : After 𝓤 H = any_q (after_seq 𝓤 H (Wp 𝓤 H C Λ En (after 4 fn.body) (at_return 𝓤 H En (W.post y))) (at_return 𝓤 H En (W.post y))) in
     move ! (6 ∷ []) $ cases ! (λ (t : Result ℕ (TE.the_row).Denot). Builds ⊤ octets xs 0 ys t) res v built
     (λ end said fits is.
-    let stands : Stands octets xs 0 ys end = said.ok.1 in
+    let occurs : Occurs octets xs 0 ys end = said.ok.1 in
     let prefix : List ℕ = take end ys in let back : List ℕ = drop_list end ys in
-    let le : end ≤ length xs = stands.within in
+    let le : end ≤ length xs = occurs.within in
     let good : length xs - end < 2 ^ 64 = omega arith in
     lands_as ! is refl (tt, (record { fits = lit< tt }, (record { fits = fits }, tt))) $
     first ! $ switches_on ! (get_tag ! (vrt ! refl (fld ! refl (stop !))) (whole !)) $ exec ! C Λ En (arm_body 0 (head (after 3 fn.body))) Then $
@@ -140,9 +140,9 @@ respond_into_spec 𝓤 𝓛 𝓜 𝓡 wired X L g d met =
     sets_last ! (agg ! (and_then ! (lit ! tt) (and_then ! (get ! refl) (no_more !)))) refl (tt, (record { fits = lit< tt }, ((tt, (record { fits = good }, tt)), tt))) $
     exec ! C Λ En (after 4 fn.body) (at_ret En (W.post y)) $
     sets ! (of_opd ! (get ! refl)) refl (tt, (record { fits = lit< tt }, ((tt, (record { fits = good }, tt)), tt))) $
-    let long : length octets ≡ end = omega (arith, stands.end_is) in
-    let at_prefix : prefix ≡ octets = ap (take end) stands.new_is ∙ take_at octets (drop_list end xs) end long in
-    let at_back : back ≡ drop_list 24 xs = ap (drop_list end) stands.new_is ∙ drop_at octets (drop_list end xs) end long ∙ ap (λ (n : ℕ). drop_list n xs) (sym long ∙ eight) in
+    let long : length octets ≡ end = omega (arith, occurs.end_is) in
+    let at_prefix : prefix ≡ octets = ap (take end) occurs.new_is ∙ take_at octets (drop_list end xs) end long in
+    let at_back : back ≡ drop_list 24 xs = ap (drop_list end) occurs.new_is ∙ drop_at octets (drop_list end xs) end long ∙ ap (λ (n : ℕ). drop_list n xs) (sym long ∙ eight) in
     let left : length back ≡ length xs - end = length-drop end ys ∙ ap (λ (n : ℕ). n - end) same in
     let on : at o 1 (length prefix) ≡ end + o = at_mul o 1 (length prefix) ∙ omega (arith, long, ap length at_prefix) in
     fsplit ! $ feq_i ! (List Val) (slice_val (b, o) (length ys) ∷ []) (slice_val (b, o) (length ys) ∷ []) refl $ fjoin ! $ fjoin ! $

@@ -2,7 +2,7 @@ use Rattle.std.proofs.Common.{length, ◌-◌}
 use Rattle.dns_name.proofs.Turned.{Turned}
 use Rattle.dns_name.proofs.relative_name.RelativeName.put_reversed.Given as goal
 
--- the labels before the place stand in the buffer
+-- the labels before the place are in the buffer
 abbrev pub invariant-loop-at : goal.invariant-loop-at
 invariant-loop-at l = Turned l.self.slice.now l.fn.bytes l.end l.at l.bytes
 

@@ -1,10 +1,10 @@
 use Rattle.std.proofs.Common.{arith, refl, ap, get_or}
 use Rattle.dns_name.specs.Unparsed.{Unparsed}
-use Rattle.dns_name.proofs.UnparsedNames.{FirstStanding, first_label_type, first_standing, unparsed_size}
+use Rattle.dns_name.proofs.UnparsedNames.{FirstFound, first_label_type, first_standing, unparsed_size}
 use Rattle.dns_name.proofs.unparsed_name.UnparsedName.split_first.Goals as goal
 use Rattle.dns_name.proofs.unparsed_name.UnparsedName.split_first.Goals.{Else-size-ge-POINTER_TAG, then-size-eq0-via-then-size-eq0, then-size-eq0-via-else-size-eq0+then-size-ge-POINTER_TAG}
 
-first : (c : Else-size-ge-POINTER_TAG) → FirstStanding c.args.self.now.slice.now (get_or c.args.self.now.slice.now 0 0)
+first : (c : Else-size-ge-POINTER_TAG) → FirstFound c.args.self.now.slice.now (get_or c.args.self.now.slice.now 0 0)
 first c = first_standing _ _ c.args.self.now.is_name refl (omega arith) c.if-size-ge-POINTER_TAG.false
 
 pub bounds-self-0 : goal.bounds-self-0

@@ -12,7 +12,7 @@ alike : (same rest : Bool) → false ≡ not same → rest ≡ (same && rest)
 alike true rest e = refl
 alike false rest e = absurd cc
 
--- nothing is the same as what is left exactly where nothing is
+-- nothing is the same as what is left exactly if nothing is
 ended : {A : Type 0} (view : A → List ℕ) (next : Option A) (rest later : List (List ℕ)) (none : Bool) → MatchOption next ((rest ≡ []) × (later ≡ [])) (λ x. rest ≡ view x ∷ later) → is_some next ≡ not none → none ≡ same_strings [] rest
 ended view None rest later true e is = λ i. same_strings [] (sym e.0 i)
 ended view None rest later false e is = absurd cc

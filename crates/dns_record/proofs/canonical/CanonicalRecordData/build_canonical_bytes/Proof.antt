@@ -1,4 +1,4 @@
--- `build_canonical_bytes` lends the rest of the buffer, and the canonical octets stand before it. Assumes `Logic`.
+-- `build_canonical_bytes` returns a borrow of the rest of the buffer, and the canonical octets are before it. Assumes `Logic`.
 use Rattle.std.proofs.Common.{◌≡◌, ℕ, ◌+◌, ◌-◌, ◌*◌, ◌^◌, ◌<◌, ◌≤◌, List, [], ◌∷◌, length, take, drop as drop_list, sym, refl, ap, ◌∙◌, lit<, arith, w64, Result, Ok, Err, MutBor}
 use Rattle.std.proofs.raw_atomic.Walks.{proved}
 use Rattle.std.proofs.lemmas.List.{take-append-drop, length-drop, take_at, drop_at}
@@ -37,7 +37,7 @@ use types.Run.{stop, fld, hop, from, addr, lit, bin, and_then, no_more, of_opd, 
 use types.Tokens.{lft_new, lft_end}
 use Rattle.std.specs.contracts.result.Result as RS
 use Rattle.std.specs.Prelude.{⊤}
-use Rattle.dns_wire.specs.Building.{Builds, Stands}
+use Rattle.dns_wire.specs.Building.{Builds, Occurs}
 use Rattle.dns_wire.specs.contracts.error.TruncationError as TE
 use Rattle.dns_record.specs.contracts.canonical.CanonicalRecordData.build_canonical_at as G
 use Rattle.dns_record.specs.contracts.canonical.CanonicalRecordData.build_canonical_bytes as F
@@ -100,9 +100,9 @@ build_canonical_bytes_spec 𝓤 𝓛 𝓜 𝓡 wired X L g d gb db met _ =
     move ! (4 ∷ []) $ cases ! (λ (t : Result ℕ (TE.the_row).Denot). Builds ⊤ (g.canonical a.0.now) xs 0 ys t) res v built
     (λ end said fits is.
     let octets : List ℕ = g.canonical a.0.now in
-    let stands : Stands octets xs 0 ys end = said.ok.1 in
+    let occurs : Occurs octets xs 0 ys end = said.ok.1 in
     let prefix : List ℕ = take end ys in let back : List ℕ = drop_list end ys in
-    let le : end ≤ length xs = stands.within in
+    let le : end ≤ length xs = occurs.within in
     let good : length xs - end < 2 ^ 64 = omega arith in
     lands_as ! is refl (tt, (record { fits = lit< tt }, (record { fits = fits }, tt))) $
     first ! $ switches_on ! (get_tag ! (vrt ! refl (fld ! refl (stop !))) (whole !)) $ exec ! C Λ En (arm_body 0 (head (after 3 fn.body))) Then $
@@ -114,9 +114,9 @@ build_canonical_bytes_spec 𝓤 𝓛 𝓜 𝓡 wired X L g d gb db met _ =
     sets_last ! (agg ! (and_then ! (lit ! tt) (and_then ! (get ! refl) (no_more !)))) refl (tt, (record { fits = lit< tt }, ((tt, (record { fits = good }, tt)), tt))) $
     exec ! C Λ En (after 4 fn.body) (at_ret En (W.post y)) $
     sets ! (of_opd ! (get ! refl)) refl (tt, (record { fits = lit< tt }, ((tt, (record { fits = good }, tt)), tt))) $
-    let long : length octets ≡ end = omega (arith, stands.end_is) in
-    let at_prefix : prefix ≡ octets = ap (take end) stands.new_is ∙ take_at octets (drop_list end xs) end long in
-    let at_back : back ≡ drop_list (length octets) xs = ap (drop_list end) stands.new_is ∙ drop_at octets (drop_list end xs) end long ∙ ap (λ (n : ℕ). drop_list n xs) (sym long) in
+    let long : length octets ≡ end = omega (arith, occurs.end_is) in
+    let at_prefix : prefix ≡ octets = ap (take end) occurs.new_is ∙ take_at octets (drop_list end xs) end long in
+    let at_back : back ≡ drop_list (length octets) xs = ap (drop_list end) occurs.new_is ∙ drop_at octets (drop_list end xs) end long ∙ ap (λ (n : ℕ). drop_list n xs) (sym long) in
     let left : length back ≡ length xs - end = length-drop end ys ∙ ap (λ (n : ℕ). n - end) same in
     let on : at o 1 (length prefix) ≡ end + o = at_mul o 1 (length prefix) ∙ omega (arith, long, ap length at_prefix) in
     fsplit ! $ feq_i ! (List Val) (slice_val (b, o) (length ys) ∷ []) (slice_val (b, o) (length ys) ∷ []) refl $ fjoin ! $ fjoin ! $

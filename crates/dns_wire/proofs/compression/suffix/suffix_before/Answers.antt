@@ -1,7 +1,7 @@
 use Rattle.std.proofs.Common.{◌≡◌, arith, ap, sym, ◌∙◌, refl, length, None, Bool}
 use Rattle.std.proofs.lemmas.List.{length-append}
 use Rattle.dns_wire.specs.Names.{name_labels}
-use Rattle.dns_wire.specs.Compression.{stands_at}
+use Rattle.dns_wire.specs.Compression.{occurs_at}
 use Rattle.dns_wire.specs.Searching.{else_later, before_limit}
 use Rattle.dns_wire.proofs.Spelled.{name_short}
 use Rattle.dns_wire.proofs.Longest.{limit_before, limit_reached, counts_of, suffix_later, suffix_only, suffix_uncounted, suffix_empty}
@@ -39,7 +39,7 @@ returns-else-size-gt0 c =
       | else-size-gt0-via-then-size-gt0+then-prefix-limit+else-is_name_at w ↦
           ap (before_limit c.args.limit) (ap (λ (b : Bool). else_later c.loop-left.prefix b None) w.if-is_name_at.ensures ∙ sym (suffix_only _ _ _ counts c.loop-left.prefix _ long (omega arith)) ∙ c.loop-left.invariant.same)
       | else-size-gt0-via-then-size-gt0+else-prefix-limit w ↦
-          sym (limit_reached c.args.limit c.loop-left.prefix (stands_at c.args.contents.now (name_labels c.loop-left.rest.now) c.args.place) (omega arith))
+          sym (limit_reached c.args.limit c.loop-left.prefix (occurs_at c.args.contents.now (name_labels c.loop-left.rest.now) c.args.place) (omega arith))
           ∙ ap (before_limit c.args.limit) (sym (suffix_only _ _ _ counts c.loop-left.prefix _ long (omega arith)) ∙ c.loop-left.invariant.same)
       | else-size-gt0-via-else-size-gt0 w ↦
           ap (before_limit c.args.limit) (sym (suffix_empty _ _ c.loop-left.prefix _ _ counts (omega arith)) ∙ c.loop-left.invariant.same)

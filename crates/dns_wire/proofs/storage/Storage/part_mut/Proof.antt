@@ -1,4 +1,4 @@
--- `part_mut` lends octets of the array, from one place up to another. Assumes `Logic`.
+-- `part_mut` borrows octets of the array, from one place up to another. Assumes `Logic`.
 use Rattle.std.proofs.Common.{◌≡◌, ℕ, ◌+◌, ◌-◌, ◌^◌, ◌<◌, ◌≤◌, List, [], ◌∷◌, ◌++◌, length, take, drop as drop_list, refl, sym, ap, ◌∙◌, arith, w64}
 use Rattle.std.proofs.lemmas.List.{take-append-drop, length-append, length-drop, length-take-le, drop-drop, take_all}
 use seplogic.Ra.Ura.{Ura}

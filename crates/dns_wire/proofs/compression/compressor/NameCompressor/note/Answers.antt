@@ -27,7 +27,7 @@ all_recorded c =
       | then-size-eq0-via-else-size-eq0+then-size-gt-MAX_LABEL_SIZE w ↦ inr (omega (arith, same))
     ])
 
--- they fitted what stands before start in what has been written too
+-- they fitted what comes before start in what has been written too
 fitted : (c : Joined-then-size-eq0) → FitsIn c.args.self.now (take c.args.start (take c.args.end c.args.contents.now))
 fitted c =
     let order : c.args.start ≤ c.args.end = omega (arith, run_within _ _ c.requires.run, length-take c.args.end c.args.contents.now) in

@@ -1,0 +1,10 @@
+-- The crate's own lemmas.
+pub mod Circle
+pub mod Coverages
+pub mod Groups
+pub mod Lines
+pub mod Outcomes
+pub mod SaltLemmas
+pub mod Signatures
+pub mod Ungroups
+pub mod WordLemmas

@@ -1,0 +1,225 @@
+//! What is printed for the records of a message.
+
+ghost use Rattle.std.specs.Prelude.{◌≡◌, ◌≤◌, ◌++◌, Option, Some, None, List, IfOk, IfErr, filter, length, map};
+ghost use Rattle.dns_wire.specs.Hexadecimal.{line};
+ghost use Rattle.dns_text.specs.Outcomes.{RefusesFor};
+ghost use Rattle.dns_message.specs.Canonical.{canonical_wire, is_not_opt};
+ghost use Rattle.dns_message.specs.Messages.{RecordValue, Valid, message_reading};
+ghost use Rattle.dns_message.specs.Order.{SortKey, sort_key};
+ghost use Rattle.dns_denial.specs.Coverage.{coverage_line, coverage_text, coverage_word};
+ghost use Rattle.dns_denial.specs.KeyTags.{key_line, key_tags_text, tag_line};
+ghost use Rattle.dns_denial.specs.Signed.{signature_refusal, signed_octets, signed_refusal, signed_text};
+ghost use Rattle.dns_denial.specs.Texts.{members, members_refusal, reading_refusal};
+
+use crate::coverage::{Coverage, nsec_coverage, nsec3_coverage};
+use crate::refusal::Refusal;
+use crate::signed::{Signature, signature_at, signed_octets};
+use crate::tag::{is_rsa_md5, tag_of};
+use crate::words::DenialCommand;
+use dns_message::{CanonError, CanonicalRecord, collapsed, put_canonical, read_records};
+use dns_name::{CanonicalName, RevNameBuf};
+use dns_rdata::RecordData;
+use dns_record::RType;
+use dns_text::PrintError;
+use std::alloc::{AllocError, Global};
+
+/// The canonical octets of a record's data, among all its canonical octets: they come after the owner and ten octets of type, class, TTL and
+/// their number (RFC 1035 section 3.2.1).
+pub(crate) fn data_of<'o>(found: &CanonicalRecord<'_>, octets: &'o [u8]) -> &'o [u8]
+    requires { octets.now ≡ canonical_wire found.now }
+    ensures { result.now ≡ (sort_key found.now).octets }
+{
+    &octets[found.owner().composed_size() + 10..]
+}
+
+/// The line of a key's data: its tag, or `-` for RSA/MD5.
+fn tag_line(alloc: Global, octets: &[u8]) -> Result<Vec<u8>, AllocError>
+    requires { length octets.now ≤ CanonicalRecord.MAX_SIZE }
+    ensures { IfOk result (λ line. line.items ≡ tag_line octets.now) }
+{
+    if is_rsa_md5(octets) {
+        return Vec::from_slice(alloc, b"-\n");
+    }
+    let line = format!(in alloc; "{}\n", tag_of(octets))?;
+    Ok(line.into_bytes())
+}
+
+/// The line of a record, if it is a key. There is room for the record's canonical octets.
+fn key_line(
+    alloc: Global,
+    found: &CanonicalRecord<'_>,
+    octets: &mut [u8],
+) -> Result<Vec<u8>, AllocError>
+    requires { CanonicalRecord.MAX_SIZE ≤ length octets.old }
+    ensures { IfOk result (λ line. line.items ≡ key_line (sort_key found.now)) }
+{
+    if found.rtype() != RType::DNSKEY {
+        return Ok(Vec::new(alloc));
+    }
+    let size = found.size();
+    put_canonical(found, octets);
+    tag_line(alloc, data_of(found, &octets[..size]))
+}
+
+/// The lines of the keys among records.
+fn key_tags_text(alloc: Global, records: &[&CanonicalRecord<'_>]) -> Result<Vec<u8>, AllocError>
+    ensures { IfOk result (λ text. text.items ≡ key_tags_text (map (λ r. sort_key r.now) records.now)) }
+{
+    let mut octets = vec![in alloc; 0; CanonicalRecord::MAX_SIZE]?;
+    let mut text = Vec::new(alloc);
+    for found in records {
+        let line = key_line(alloc, found, &mut octets)?;
+        text.extend_from_slice(&line)?;
+    }
+    Ok(text)
+}
+
+/// The line of what a record of a type says of a name.
+fn said(alloc: Global, rtype: &[u8], coverage: Coverage) -> Result<Vec<u8>, AllocError>
+    ensures { IfOk result (λ line. line.items ≡ rtype.now ++ coverage_word coverage) }
+{
+    let mut line = Vec::from_slice(alloc, rtype)?;
+    line.extend_from_slice(coverage.word())?;
+    Ok(line)
+}
+
+/// The line of a record, if it is of type NSEC or NSEC3.
+fn coverage_line(
+    alloc: Global,
+    found: &CanonicalRecord<'_>,
+    name: &RevNameBuf,
+) -> Result<Vec<u8>, AllocError>
+    ensures { IfOk result (λ line. line.items ≡ coverage_line name.now (sort_key found.now)) }
+{
+    match found.rdata() {
+        RecordData::Nsec(nsec) => {
+            let coverage = nsec_coverage(found.owner(), nsec, name);
+            said(alloc, b"nsec ", coverage)
+        }
+        RecordData::Nsec3(nsec3) => {
+            let coverage = nsec3_coverage(found.owner(), nsec3, name);
+            said(alloc, b"nsec3 ", coverage)
+        }
+        _ => Ok(Vec::new(alloc)),
+    }
+}
+
+/// The lines of the NSEC and NSEC3 records among records.
+fn coverage_text(
+    alloc: Global,
+    records: &[&CanonicalRecord<'_>],
+    name: &RevNameBuf,
+) -> Result<Vec<u8>, AllocError>
+    ensures { IfOk result (λ text. text.items ≡ coverage_text name.now (map (λ r. sort_key r.now) records.now)) }
+{
+    let mut text = Vec::new(alloc);
+    for found in records {
+        let line = coverage_line(alloc, found, name)?;
+        text.extend_from_slice(&line)?;
+    }
+    Ok(text)
+}
+
+/// The records of a message other than OPT.
+fn records_in(
+    alloc: Global,
+    message: &[u8],
+) -> Result<Vec<CanonicalRecord<'_>>, PrintError<Refusal>>
+    ensures read { IfOk result (λ records. (rs : List RecordValue) × Valid message.now rs × (records.items ≡ filter is_not_opt rs)) }
+    ensures refused { (refusal : List SortKey → Option Refusal) → IfErr result (RefusesFor (reading_refusal refusal (message_reading message.now))) }
+{
+    match read_records(alloc, message) {
+        Ok(records) => Ok(records),
+        Err(CanonError::Short) => Err(PrintError::Refused(Refusal::Short)),
+        Err(CanonError::Item { section, index }) => {
+            Err(PrintError::Refused(Refusal::Item { section, index }))
+        }
+        Err(CanonError::Memory) => Err(PrintError::Memory),
+    }
+}
+
+/// The lines of the tags of the keys in a message, in canonical order and alike ones once.
+pub(crate) fn tags_in(alloc: Global, message: &[u8]) -> Result<Vec<u8>, PrintError<Refusal>>
+    ensures printed { IfOk result (λ text. (rs : List RecordValue) × Valid message.now rs × (text.items ≡ key_tags_text (members rs))) }
+    ensures accepted { IfOk result (λ _. reading_refusal (members_refusal DenialCommand.KeyTags) (message_reading message.now) ≡ None) }
+    ensures refused { IfErr result (RefusesFor (reading_refusal (members_refusal DenialCommand.KeyTags) (message_reading message.now))) }
+{
+    let records = records_in(alloc, message)?;
+    let order = collapsed(alloc, &records)?;
+    let text = key_tags_text(alloc, &order)?;
+    Ok(text)
+}
+
+/// The lines of what the NSEC and NSEC3 records in a message say of a name, in canonical order and alike ones once.
+pub(crate) fn coverages_in(
+    alloc: Global,
+    message: &[u8],
+    name: &RevNameBuf,
+) -> Result<Vec<u8>, PrintError<Refusal>>
+    ensures printed { IfOk result (λ text. (rs : List RecordValue) × Valid message.now rs × (text.items ≡ coverage_text name.now (members rs))) }
+    ensures accepted { IfOk result (λ _. reading_refusal (members_refusal (DenialCommand.Covers name.now)) (message_reading message.now) ≡ None) }
+    ensures refused { IfErr result (RefusesFor (reading_refusal (members_refusal (DenialCommand.Covers name.now)) (message_reading message.now))) }
+{
+    let records = records_in(alloc, message)?;
+    let order = collapsed(alloc, &records)?;
+    let text = coverage_text(alloc, &order, name)?;
+    Ok(text)
+}
+
+/// The digits of octets, and LF.
+fn line_of(alloc: Global, octets: &[u8]) -> Result<Vec<u8>, AllocError>
+    ensures { IfOk result (λ text. text.items ≡ line octets.now) }
+{
+    let digits = hex::encode(alloc, octets)?;
+    let text = format!(in alloc; "{}\n", digits)?;
+    Ok(text.into_bytes())
+}
+
+/// The line of the octets that a signature is over.
+fn signed_line(
+    alloc: Global,
+    records: &[&CanonicalRecord<'_>],
+    signature: &Signature<'_, '_>,
+) -> Result<Vec<u8>, PrintError<Refusal>>
+    ensures printed { IfOk result (λ text. text.items ≡ line (signed_octets (map (λ r. sort_key r.now) records.now) (sort_key signature.now.found.now))) }
+    ensures accepted { IfOk result (λ _. signature_refusal (Some (sort_key signature.now.found.now)) ≡ None) }
+    ensures refused { IfErr result (RefusesFor (signature_refusal (Some (sort_key signature.now.found.now)))) }
+{
+    if signature.has_too_many_labels() {
+        return Err(PrintError::Refused(Refusal::TooManyLabels));
+    }
+    let octets = signed_octets(alloc, records, signature)?;
+    let line = line_of(alloc, &octets)?;
+    Ok(line)
+}
+
+/// The line of the octets that the signature of a number is over.
+fn signed_text(
+    alloc: Global,
+    records: &[&CanonicalRecord<'_>],
+    number: u16,
+) -> Result<Vec<u8>, PrintError<Refusal>>
+    ensures printed { IfOk result (λ text. text.items ≡ signed_text number (map (λ r. sort_key r.now) records.now)) }
+    ensures accepted { IfOk result (λ _. signed_refusal number (map (λ r. sort_key r.now) records.now) ≡ None) }
+    ensures refused { IfErr result (RefusesFor (signed_refusal number (map (λ r. sort_key r.now) records.now))) }
+{
+    match signature_at(records, number) {
+        Some(signature) => signed_line(alloc, records, &signature),
+        None => Err(PrintError::Refused(Refusal::NoSignature)),
+    }
+}
+
+/// The line of the octets that the signature of a number in a message is over, the signatures in canonical order and alike ones once.
+pub(crate) fn signed_in(
+    alloc: Global,
+    message: &[u8],
+    number: u16,
+) -> Result<Vec<u8>, PrintError<Refusal>>
+    ensures printed { IfOk result (λ text. (rs : List RecordValue) × Valid message.now rs × (text.items ≡ signed_text number (members rs))) }
+    ensures accepted { IfOk result (λ _. reading_refusal (members_refusal (DenialCommand.Signed number)) (message_reading message.now) ≡ None) }
+    ensures refused { IfErr result (RefusesFor (reading_refusal (members_refusal (DenialCommand.Signed number)) (message_reading message.now))) }
+{
+    let records = records_in(alloc, message)?;
+    let order = collapsed(alloc, &records)?;
+    signed_text(alloc, &order, number)
+}

@@ -1,5 +1,0 @@
-use Rattle.dns_wire.proofs.Following.{name_at_one, name_at_name, segment_ends}
-use Rattle.dns_wire.proofs.laws.pointed_names.Goals as goal
-
-pub returns : goal.returns
-returns c = record { one = name_at_one; name = name_at_name; within = λ contents at labels end is. segment_ends contents is.reads }
