@@ -21,7 +21,8 @@ static void keep(ldns_rr_list *all, ldns_rr_list *section) {
     }
 }
 
-static void read_message(ldns_rr_list *all, const char *line, size_t digits) {
+/* Adds the records of a message to a list, and gives the message, which owns them. */
+static ldns_pkt *read_message(ldns_rr_list *all, const char *line, size_t digits) {
     static uint8_t message[65536];
     for (size_t i = 0; i + 1 < digits; i += 2) message[i / 2] = value(line[i]) << 4 | value(line[i + 1]);
     ldns_pkt *pkt;
@@ -29,6 +30,7 @@ static void read_message(ldns_rr_list *all, const char *line, size_t digits) {
     keep(all, ldns_pkt_answer(pkt));
     keep(all, ldns_pkt_authority(pkt));
     keep(all, ldns_pkt_additional(pkt));
+    return pkt;
 }
 
 /* Writes the canonical octets of the record at `i` to the buffer, and gives where the next one is. Alike records are together, since

@@ -30,12 +30,17 @@ def key(found):
     return [label.lower() for label in reversed(owner.labels)], rclass, rtype, data, ttl
 
 
-def main():
-    octets = bytes.fromhex(sys.stdin.read().strip())
+def lines_of(octets):
+    """The canonical octets of each record, in order."""
     for _, alike in itertools.groupby(sorted(records(octets), key=key), lambda found: key(found)[:-1]):
         owner, rclass, rtype, data, ttl = next(alike)
-        line = owner.to_digestable() + struct.pack(">HHIH", rtype, rclass, ttl, len(data)) + data
+        yield owner.to_digestable() + struct.pack(">HHIH", rtype, rclass, ttl, len(data)) + data
+
+
+def main():
+    for line in lines_of(bytes.fromhex(sys.stdin.read().strip())):
         print(line.hex())
 
 
-main()
+if __name__ == "__main__":
+    main()

@@ -63,6 +63,12 @@ REPLY = (
 REPLY_NORMAL = (
     b"00000000000000020000000003776562076578616d706c65036f7267000001000100000e100004c000020103777777c0100005000100000e100002c00c\n"
 )
+# The canonical octets of the reply's two records, by hand, give its digest.
+REPLY_RECORDS = bytes.fromhex(
+    "03776562076578616d706c65036f7267000001000100000e100004c0000201"
+    "03777777076578616d706c65036f7267000005000100000e10001103776562076578616d706c65036f726700"
+)
+REPLY_DIGEST = hashlib.sha384(REPLY_RECORDS).hexdigest().encode() + b"\n"
 
 # The hash of `example.` in RFC 5155 appendix A, an NSEC record from `a.` to `c.`, a key whose tag RFC 4034 appendix B gives, and a
 # wildcard's signature with its record and the octets that it is over (RFC 4034 section 3.1.8.1).

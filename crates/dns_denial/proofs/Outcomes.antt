@@ -17,7 +17,9 @@ use Rattle.dns_message.proofs.Phrased.{short_reading}
 use Rattle.dns_denial.specs.Coverage.{coverage_text}
 use Rattle.dns_denial.specs.KeyTags.{key_tags_text}
 use Rattle.dns_denial.specs.Signed.{labels_field, signature_refusal, signatures, signed_text}
-use Rattle.dns_denial.specs.Texts.{HasRecords, HasTooManyLabels, LacksSignature, PrintsDenial, Suits, denial_outcome, denial_reads, denial_refusal, members, members_refusal, message_refusal, reading_refusal, spelling_refusal}
+use Rattle.dns_message.specs.Texts.{HasRecords}
+use Rattle.dns_message.proofs.TextLemmas.{one_records}
+use Rattle.dns_denial.specs.Texts.{HasTooManyLabels, LacksSignature, PrintsDenial, Suits, denial_outcome, denial_reads, denial_refusal, members, members_refusal, message_refusal, reading_refusal, spelling_refusal}
 use Rattle.dns_denial.specs.declared.refusal.Refusal.{Refusal}
 use Rattle.dns_denial.specs.declared.refusal.Refusal.TheVariants as refusal
 use Rattle.dns_denial.specs.declared.words.DenialCommand.{DenialCommand}
@@ -28,11 +30,6 @@ use Rattle.dns_denial.specs.declared.words.DenialCommand.TheVariants.{Hash, Cove
 -- a valid message is refused by its members
 pub valid_refusal : (refusal : List SortKey → Option Refusal) (m : List ℕ) (rs : List RecordValue) → Valid m rs → reading_refusal refusal (message_reading m) ≡ refusal (members rs)
 valid_refusal refusal m rs (items, end, is, are) = ap (reading_refusal refusal) is ∙ ap (λ (l : List RecordValue). refusal (members l)) (sym are)
-
-one_records : (t : List ℕ) (rs ss : List RecordValue) → HasRecords t rs → HasRecords t ss → rs ≡ ss
-one_records t rs ss (m, spells, valid) (n, also, other) =
-    let same : m ≡ n = (let e = sym spells ∙ also in cc) in
-    valid_one n rs ss (subst (λ (l : List ℕ). Valid l rs) same valid) other
 
 -- what is printed for the members of one of two texts with the same records is printed for the other's
 one_output : (f : List SortKey → List ℕ) (t u printed other : List ℕ) (rs ss : List RecordValue) → HasRecords t rs → HasRecords u ss → Same rs ss

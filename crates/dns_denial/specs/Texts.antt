@@ -1,7 +1,7 @@
 -- The message in a text, the outcome that a text calls for, and what is printed for it.
 use Rattle.std.specs.Prelude.{◌≡◌, ◌≤◌, ◌<◌, ℕ, Bool, true, false, List, [], codes, filter, length, map, Option, Some, None, ⊤}
 use Rattle.dns_wire.specs.Octets.{Octets}
-use Rattle.dns_wire.specs.Hexadecimal.{Spells, spelled, trim}
+use Rattle.dns_wire.specs.Hexadecimal.{spelled, trim}
 use Rattle.dns_text.specs.Notes.{note_line, notice_line}
 use Rattle.dns_text.specs.declared.notice.Notice.TheVariants as notice
 use Rattle.dns_text.specs.Endings.{Rules}
@@ -9,8 +9,9 @@ use Rattle.dns_text.specs.Outcomes.{expected_outcome, text_rules}
 use Rattle.dns_text.specs.declared.outcome.Outcome.{Outcome}
 use Rattle.dns_text.specs.declared.outcome.Outcome.TheVariants as outcome
 use Rattle.dns_message.specs.Canonical.{is_not_opt}
-use Rattle.dns_message.specs.Messages.{Reading, RecordValue, Valid, message_reading, records_among}
+use Rattle.dns_message.specs.Messages.{Reading, RecordValue, message_reading, records_among}
 use Rattle.dns_message.specs.Messages.Reading.{Short as TooShort, Stopped, Whole}
+use Rattle.dns_message.specs.Texts.{HasRecords}
 use Rattle.dns_message.specs.Order.{SortKey, collapsed, sort_key}
 use Rattle.dns_denial.specs.Coverage.{coverage_text}
 use Rattle.dns_denial.specs.Hashes.{hash_line}
@@ -25,10 +26,6 @@ use Rattle.dns_denial.specs.declared.words.DenialCommand.{DenialCommand}
 use Rattle.dns_denial.specs.declared.words.DenialCommand.TheVariants.{Hash, Covers, Signed, KeyTags}
 
 -- ---- records
-
--- the text spells a valid message, and these are its records
-abbrev pub HasRecords : Octets → List RecordValue → Type 0
-HasRecords text rs = (m : Octets) × Spells text m × Valid m rs
 
 -- what is compared of the records other than OPT, in canonical order, alike ones once and with the least time to live: of each the owner in
 -- lowercase from the root on, the class, the type, the canonical octets of the data, and the time to live

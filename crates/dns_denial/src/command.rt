@@ -16,7 +16,7 @@ use crate::nsec3::nsec3_hash;
 use crate::refusal::Refusal;
 use crate::status::DenialStatus;
 use crate::words::{DenialCommand, command_of};
-use dns_name::Name;
+use dns_name::{Name, RevNameBuf};
 use dns_text::{
     Args, HexError, MESSAGE_TEXT_LIMIT, Notice, PrintError, TextCommand, octets_of, put_line,
     put_notice, run_command,
@@ -50,6 +50,40 @@ fn message_of(alloc: Global, text: &[u8]) -> Result<Vec<u8>, PrintError<Refusal>
         Err(HexError::BadHex) => Err(PrintError::Refused(Refusal::BadHex)),
         Err(HexError::Memory) => Err(PrintError::Memory),
     }
+}
+
+/// What `covers` prints.
+fn print_coverages(
+    alloc: Global,
+    text: &[u8],
+    name: &RevNameBuf,
+) -> Result<Vec<u8>, PrintError<Refusal>>
+    ensures printed { IfOk result (λ printed. PrintsDenial (DenialCommand.Covers name.now) text.now printed.items) }
+    ensures accepted { IfOk result (λ _. denial_refusal (DenialCommand.Covers name.now) text.now ≡ None) }
+    ensures refused { IfErr result (RefusesFor (denial_refusal (DenialCommand.Covers name.now) text.now)) }
+{
+    let message = message_of(alloc, text)?;
+    coverages_in(alloc, &message, name)
+}
+
+/// What `signed` prints.
+fn print_signed(alloc: Global, text: &[u8], number: u16) -> Result<Vec<u8>, PrintError<Refusal>>
+    ensures printed { IfOk result (λ printed. PrintsDenial (DenialCommand.Signed number) text.now printed.items) }
+    ensures accepted { IfOk result (λ _. denial_refusal (DenialCommand.Signed number) text.now ≡ None) }
+    ensures refused { IfErr result (RefusesFor (denial_refusal (DenialCommand.Signed number) text.now)) }
+{
+    let message = message_of(alloc, text)?;
+    signed_in(alloc, &message, number)
+}
+
+/// What `keytags` prints.
+fn print_tags(alloc: Global, text: &[u8]) -> Result<Vec<u8>, PrintError<Refusal>>
+    ensures printed { IfOk result (λ printed. PrintsDenial DenialCommand.KeyTags text.now printed.items) }
+    ensures accepted { IfOk result (λ _. denial_refusal DenialCommand.KeyTags text.now ≡ None) }
+    ensures refused { IfErr result (RefusesFor (denial_refusal DenialCommand.KeyTags text.now)) }
+{
+    let message = message_of(alloc, text)?;
+    tags_in(alloc, &message)
 }
 
 impl TextCommand for DenialCommand {
@@ -87,18 +121,9 @@ impl TextCommand for DenialCommand {
                 let line = hash_line(alloc, name.as_name(), salt.as_slice(), *iterations)?;
                 Ok(line)
             }
-            DenialCommand::Covers { name } => {
-                let message = message_of(alloc, text)?;
-                coverages_in(alloc, &message, name)
-            }
-            DenialCommand::Signed { number } => {
-                let message = message_of(alloc, text)?;
-                signed_in(alloc, &message, *number)
-            }
-            DenialCommand::KeyTags => {
-                let message = message_of(alloc, text)?;
-                tags_in(alloc, &message)
-            }
+            DenialCommand::Covers { name } => print_coverages(alloc, text, name),
+            DenialCommand::Signed { number } => print_signed(alloc, text, *number),
+            DenialCommand::KeyTags => print_tags(alloc, text),
         }
     }
 

@@ -20,7 +20,7 @@ use dns_message::{CanonError, CanonicalRecord, collapsed, put_canonical, read_re
 use dns_name::{CanonicalName, RevNameBuf};
 use dns_rdata::RecordData;
 use dns_record::RType;
-use dns_text::PrintError;
+use dns_text::{PrintError, hex_line};
 use std::alloc::{AllocError, Global};
 
 /// The canonical octets of a record's data, among all its canonical octets: they come after the owner and ten octets of type, class, TTL and
@@ -166,15 +166,6 @@ pub(crate) fn coverages_in(
     Ok(text)
 }
 
-/// The digits of octets, and LF.
-fn line_of(alloc: Global, octets: &[u8]) -> Result<Vec<u8>, AllocError>
-    ensures { IfOk result (λ text. text.items ≡ line octets.now) }
-{
-    let digits = hex::encode(alloc, octets)?;
-    let text = format!(in alloc; "{}\n", digits)?;
-    Ok(text.into_bytes())
-}
-
 /// The line of the octets that a signature is over.
 fn signed_line(
     alloc: Global,
@@ -189,7 +180,7 @@ fn signed_line(
         return Err(PrintError::Refused(Refusal::TooManyLabels));
     }
     let octets = signed_octets(alloc, records, signature)?;
-    let line = line_of(alloc, &octets)?;
+    let line = hex_line(alloc, &octets)?;
     Ok(line)
 }
 

@@ -5,16 +5,13 @@ use Rattle.std.specs.List.{flat_map, list_any}
 use Rattle.std.specs.Result.{result_map_both}
 use Rattle.std.specs.Char.{is_ascii_alphanumeric, is_ascii_digit, is_ascii_graphic}
 use Rattle.dns_wire.specs.Octets.{Octets}
+use Rattle.dns_wire.specs.Texts.{backslash_octet}
 use Rattle.dns_label.specs.declared.text_error.ScanFault.{ScanFault}
 use Rattle.dns_label.specs.declared.text_error.ScanFault.TheVariants.{Overlong, CutEscape, WrongEscape}
 use Rattle.dns_label.specs.declared.text_error.LabelParseError.{LabelParseError}
 use Rattle.dns_label.specs.declared.text_error.LabelParseError.TheVariants as parse_errors
 use Rattle.dns_label.specs.declared.text_error.LabelSplitError.{LabelSplitError}
 use Rattle.dns_label.specs.declared.text_error.LabelSplitError.TheVariants as split_errors
-
--- the octet of a backslash, which begins an escape
-abbrev pub backslash_octet : ℕ
-backslash_octet = 92
 
 -- ---- printing
 

@@ -34,5 +34,6 @@ pub mod ItemLemmas
 pub mod KindLemmas
 pub mod Surviving
 pub mod ListTexts
+pub mod TextLemmas
 pub mod WellFormedLemmas
 pub mod Whole

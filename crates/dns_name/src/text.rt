@@ -3,7 +3,7 @@
 ghost use Rattle.std.specs.Prelude.{◌≡◌, ◌∷◌, Some, MatchOption};
 ghost use Rattle.dns_wire.specs.Names.{name_labels};
 ghost use Rattle.dns_label.specs.Text.{GivesResult};
-ghost use Rattle.dns_name.specs.Text.{NoDot, label_prefix, of_prefix, parsed_name, name_scan, shown_name, split_name};
+ghost use Rattle.dns_name.specs.Text.{NoDot, dot_octet, label_prefix, of_prefix, parsed_name, name_scan, shown_name, split_name};
 
 use crate::labels_buf::LabelsBuf;
 use crate::name::Name;
@@ -142,7 +142,7 @@ fn label_at(text: &[u8]) -> Result<(LabelBuf, &[u8]), NameParseError>
 
 /// The text after the dot that comes before it; `None` if none does.
 fn following_dot(text: &[u8]) -> Option<&[u8]>
-    ensures { MatchOption result (NoDot text.now) (λ rest. text.now ≡ 46 ∷ rest.now) }
+    ensures { MatchOption result (NoDot text.now) (λ rest. text.now ≡ dot_octet ∷ rest.now) }
 {
     match text.split_first() {
         Some((b'.', rest)) => Some(rest),

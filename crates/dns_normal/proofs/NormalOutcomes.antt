@@ -5,7 +5,6 @@ use Rattle.std.specs.List.{All}
 use Rattle.std.specs.Cmp.Lexicographic.{bytes_decides}
 use Rattle.std.proofs.lemmas.Bool.{cases_lt, le-ltb, lt-ltb}
 use Rattle.dns_wire.specs.Hexadecimal.{Spells, SpellsNothing, line, spelled, trim}
-use Rattle.dns_wire.proofs.HexadecimalLemmas.{spelled_octets}
 use Rattle.dns_text.specs.Outcomes.{refused_or_done}
 use Rattle.dns_text.specs.declared.outcome.Outcome.{Outcome}
 use Rattle.dns_text.specs.declared.outcome.Outcome.TheVariants.{Done, Usage, TooLong, Refused, ReadFault, WriteFault, Memory}
@@ -13,11 +12,12 @@ use Rattle.dns_message.specs.Messages.{BadAt, Reading, RecordValue, Valid, messa
 use Rattle.dns_message.specs.Messages.Reading.{Short as TooShort, Stopped, Whole}
 use Rattle.dns_message.specs.Same.{Same}
 use Rattle.dns_message.specs.WellFormed.{WellFormed}
-use Rattle.dns_message.proofs.OneReading.{three_kinds, valid_one}
+use Rattle.dns_message.proofs.OneReading.{three_kinds}
 use Rattle.dns_message.proofs.Phrased.{short_reading}
-use Rattle.dns_message.proofs.WellFormedLemmas.{all_well}
 use Rattle.dns_normal.specs.Normal.{normal_form}
-use Rattle.dns_normal.specs.Texts.{HasRecords, PrintsNormal, command_of, normal_outcome, normal_refusal, reading_refusal, size_refusal, spelling_refusal}
+use Rattle.dns_message.specs.Texts.{HasRecords}
+use Rattle.dns_message.proofs.TextLemmas.{one_records, text_well}
+use Rattle.dns_normal.specs.Texts.{PrintsNormal, command_of, form_refusal, normal_outcome, normal_refusal, reading_refusal, size_refusal, spelling_refusal}
 use Rattle.dns_normal.specs.declared.refusal.Refusal.{Refusal}
 use Rattle.dns_normal.specs.declared.refusal.Refusal.TheVariants as refusal
 use Rattle.dns_normal.proofs.NormalForms.{normal_octets, normal_read, same_normal}
@@ -31,19 +31,11 @@ accepted_size m short = ap (λ (b : Bool). cond b (Some refusal.TooLarge) None) 
 pub refused_size : (m : List ℕ) → 65535 < length m → size_refusal m ≡ Some refusal.TooLarge
 refused_size m long = ap (λ (b : Bool). cond b (Some refusal.TooLarge) None) (lt-ltb 65535 (length m) long)
 
--- a valid message is refused as its normal form is
-pub valid_refusal : (m : List ℕ) (rs : List RecordValue) → Valid m rs → reading_refusal (message_reading m) ≡ size_refusal (normal_form rs)
-valid_refusal m rs (items, end, is, are) = ap reading_refusal is ∙ ap (λ (l : List RecordValue). size_refusal (normal_form l)) (sym are)
+-- a valid message is refused by its records
+pub valid_refusal : (refusal : List RecordValue → Option Refusal) (m : List ℕ) (rs : List RecordValue) → Valid m rs → reading_refusal refusal (message_reading m) ≡ refusal rs
+valid_refusal refusal m rs (items, end, is, are) = ap (reading_refusal refusal) is ∙ ap refusal (sym are)
 
 -- ---- records
-
-pub text_well : (t : List ℕ) (rs : List RecordValue) → HasRecords t rs → All WellFormed rs
-text_well t rs (m, spells, valid) = all_well m rs (spelled_octets (trim t) m spells) valid
-
-one_records : (t : List ℕ) (rs ss : List RecordValue) → HasRecords t rs → HasRecords t ss → rs ≡ ss
-one_records t rs ss (m, spells, valid) (n, also, other) =
-    let same : m ≡ n = (let e = sym spells ∙ also in cc) in
-    valid_one n rs ss (subst (λ (l : List ℕ). Valid l rs) same valid) other
 
 pub same_printed : (t u printed other : List ℕ) (rs ss : List RecordValue) → HasRecords t rs → HasRecords u ss → Same rs ss → PrintsNormal tt t printed → PrintsNormal tt u other → printed ≡ other
 same_printed t u printed other rs ss first second same (rs', has, is) (ss', also, js) =
@@ -69,18 +61,18 @@ module _ (t : List ℕ) where
   within_limit : length t ≤ 131072 → normal_outcome (Some tt) t ≡ refused_or_done (normal_refusal tt t)
   within_limit within = ap (λ (b : Bool). cond b TooLong (refused_or_done (normal_refusal tt t))) (le-ltb 131072 (length t) within)
 
-  on_message : (m : List ℕ) → Spells t m → (r : Reading) → message_reading m ≡ r → normal_refusal tt t ≡ reading_refusal r
-  on_message m spells r is = ap spelling_refusal spells ∙ ap reading_refusal is
+  on_message : (m : List ℕ) → Spells t m → (r : Reading) → message_reading m ≡ r → normal_refusal tt t ≡ reading_refusal form_refusal r
+  on_message m spells r is = ap (spelling_refusal form_refusal) spells ∙ ap (reading_refusal form_refusal) is
 
   on_records : (rs : List RecordValue) → HasRecords t rs → normal_refusal tt t ≡ size_refusal (normal_form rs)
-  on_records rs (m, spells, valid) = ap spelling_refusal spells ∙ valid_refusal m rs valid
+  on_records rs (m, spells, valid) = ap (spelling_refusal form_refusal) spells ∙ valid_refusal form_refusal m rs valid
 
   pub called : (o : Outcome Refusal) → CallsFor t o → normal_outcome (Some tt) t ≡ o
   called Done (within, (rs, has, short)) = within_limit within ∙ ap refused_or_done (on_records rs has ∙ accepted_size (normal_form rs) short)
   called (Refused refusal.TooLarge) (within, (rs, has, long)) = within_limit within ∙ ap refused_or_done (on_records rs has ∙ refused_size (normal_form rs) long)
   called (Refused refusal.Short) (within, (m, spells, short)) = within_limit within ∙ ap refused_or_done (on_message m spells TooShort (short_reading m short))
   called (Refused (refusal.Item section index)) (within, (m, spells, (place, (items, is)))) = within_limit within ∙ ap refused_or_done (on_message m spells (Stopped items section index place) is)
-  called (Refused refusal.BadHex) (within, nothing) = within_limit within ∙ ap (λ (o : Option (List ℕ)). refused_or_done (spelling_refusal o)) nothing
+  called (Refused refusal.BadHex) (within, nothing) = within_limit within ∙ ap (λ (o : Option (List ℕ)). refused_or_done (spelling_refusal form_refusal o)) nothing
   called TooLong long = ap (λ (b : Bool). cond b TooLong (refused_or_done (normal_refusal tt t))) (lt-ltb 131072 (length t) long)
   called Usage none = absurd none
   called ReadFault none = absurd none

@@ -1,7 +1,7 @@
 -- The message in a text, and the outcome that a text calls for.
 use Rattle.std.specs.Prelude.{◌≡◌, ℕ, List, [], ◌∷◌, bytes_eq, codes, length, nat_lt, Option, Some, None, if◌then◌else◌, true, ⊤}
 use Rattle.dns_wire.specs.Octets.{Octets}
-use Rattle.dns_wire.specs.Hexadecimal.{Spells, line, spelled, trim}
+use Rattle.dns_wire.specs.Hexadecimal.{line, spelled, trim}
 use Rattle.dns_text.specs.Notes.{note_line, notice_line}
 use Rattle.dns_text.specs.declared.notice.Notice.TheVariants as notice
 use Rattle.dns_text.specs.declared.transfer.TheConstants.{MESSAGE_TEXT_LIMIT}
@@ -9,8 +9,9 @@ use Rattle.dns_text.specs.Endings.{Rules}
 use Rattle.dns_text.specs.Outcomes.{expected_outcome, text_rules}
 use Rattle.dns_text.specs.declared.outcome.Outcome.{Outcome}
 use Rattle.dns_text.specs.declared.outcome.Outcome.TheVariants as outcome
-use Rattle.dns_message.specs.Messages.{Reading, RecordValue, Valid, message_reading, records_among}
+use Rattle.dns_message.specs.Messages.{Reading, RecordValue, message_reading, records_among}
 use Rattle.dns_message.specs.Messages.Reading.{Short as TooShort, Stopped, Whole}
+use Rattle.dns_message.specs.Texts.{HasRecords}
 use Rattle.dns_message.specs.declared.message.TheConstants.{MAX_MESSAGE_SIZE}
 use Rattle.dns_normal.specs.Normal.{normal_form}
 use Rattle.dns_normal.specs.declared.refusal.Refusal.{Refusal}
@@ -32,20 +33,28 @@ command_of (word ∷ other ∷ more) = None
 abbrev pub size_refusal : Octets → Option Refusal
 size_refusal m = if nat_lt MAX_MESSAGE_SIZE (length m) then Some TooLarge else None
 
--- why a message is refused that is read so
-abbrev pub reading_refusal : Reading → Option Refusal
-reading_refusal TooShort = Some Short
-reading_refusal (Stopped items section index place) = Some (Item section index)
-reading_refusal (Whole items end) = size_refusal (normal_form (records_among items))
+-- why records are refused: their normal form has more octets than that
+abbrev pub form_refusal : List RecordValue → Option Refusal
+form_refusal rs = size_refusal (normal_form rs)
+
+-- why a message is refused that is read so; one that is read whole by its records
+abbrev pub reading_refusal : (List RecordValue → Option Refusal) → Reading → Option Refusal
+reading_refusal refusal TooShort = Some Short
+reading_refusal refusal (Stopped items section index place) = Some (Item section index)
+reading_refusal refusal (Whole items end) = refusal (records_among items)
 
 -- why a text is refused that does or does not spell octets
-abbrev pub spelling_refusal : Option Octets → Option Refusal
-spelling_refusal None = Some BadHex
-spelling_refusal (Some m) = reading_refusal (message_reading m)
+abbrev pub spelling_refusal : (List RecordValue → Option Refusal) → Option Octets → Option Refusal
+spelling_refusal refusal None = Some BadHex
+spelling_refusal refusal (Some m) = reading_refusal refusal (message_reading m)
+
+-- why a text is refused whose message is read
+abbrev pub message_refusal : (List RecordValue → Option Refusal) → Octets → Option Refusal
+message_refusal refusal text = spelling_refusal refusal (spelled (trim text))
 
 -- why a text is refused; `None` if the normal form of its message is printed for it
 abbrev pub normal_refusal : ⊤ → Octets → Option Refusal
-normal_refusal command text = spelling_refusal (spelled (trim text))
+normal_refusal command text = message_refusal form_refusal text
 
 abbrev pub normal_limit : ⊤ → ℕ
 normal_limit command = MESSAGE_TEXT_LIMIT
@@ -55,10 +64,6 @@ abbrev pub normal_outcome : Option ⊤ → Octets → Outcome Refusal
 normal_outcome = expected_outcome normal_limit normal_refusal
 
 -- ---- what is printed
-
--- the text spells a valid message, and these are its records
-abbrev pub HasRecords : Octets → List RecordValue → Type 0
-HasRecords text rs = (m : Octets) × Spells text m × Valid m rs
 
 -- what is printed for a text: the digits of the normal form of its message, and LF
 abbrev pub PrintsNormal : ⊤ → Octets → Octets → Type 0

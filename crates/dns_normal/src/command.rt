@@ -5,20 +5,20 @@ ghost use Rattle.dns_text.specs.Endings.{Ran};
 ghost use Rattle.dns_text.specs.Outcomes.{note_of};
 ghost use Rattle.dns_normal.specs.Texts.{PrintsNormal, command_of, normal_limit, normal_note, normal_refusal, normal_rules, outcome_of};
 
-use crate::message::normal_line;
+use crate::message::{message_of, normal_form};
 use crate::refusal::Refusal;
 use crate::status::NormalStatus;
 use dns_text::{
-    Args, HexError, MESSAGE_TEXT_LIMIT, Notice, PrintError, TextCommand, octets_of, put_line,
-    put_notice, run_command,
+    Args, MESSAGE_TEXT_LIMIT, Notice, PrintError, TextCommand, hex_line, put_line, put_notice,
+    run_command,
 };
 use dns_wire::{Failed, Sink, Source};
 use std::alloc::Global;
 use std::marker::Model;
 
-/// The normal form of a message.
+/// The command `normal`: prints the normal form of the message that a text of hexadecimal digits spells, as such digits, and LF.
 #[derive(Drop)]
-struct Normal;
+pub struct Normal;
 
 impl Model for Normal {
     ghost use Rattle.std.specs.Prelude.{⊤};
@@ -50,11 +50,10 @@ impl TextCommand for Normal {
     }
 
     fn print(&self, alloc: Global, text: &[u8]) -> Result<Vec<u8>, PrintError<Refusal>> {
-        match octets_of(alloc, text) {
-            Ok(message) => normal_line(alloc, &message),
-            Err(HexError::BadHex) => Err(PrintError::Refused(Refusal::BadHex)),
-            Err(HexError::Memory) => Err(PrintError::Memory),
-        }
+        let message = message_of(alloc, text)?;
+        let form = normal_form(alloc, &message)?;
+        let printed = hex_line(alloc, &form)?;
+        Ok(printed)
     }
 
     fn put_refusal<N: Sink>(refused: Refusal, notes: &mut N) -> Result<(), Failed> {

@@ -10,11 +10,13 @@ ghost use Rattle.dns_message.specs.Order.{canonical_list};
 ghost use Rattle.dns_message.specs.Same.{Same};
 ghost use Rattle.dns_message.specs.WellFormed.{WellFormed};
 ghost use Rattle.dns_normal.specs.Normal.{normal_form};
-ghost use Rattle.dns_normal.specs.Texts.{HasRecords, PrintsNormal, command_of, normal_outcome, outcome_of};
+ghost use Rattle.dns_message.specs.Texts.{HasRecords};
+ghost use Rattle.dns_normal.specs.Texts.{PrintsNormal, command_of, normal_outcome, outcome_of};
 ghost use Rattle.dns_message.specs.declared.message.TheConstants.{MAX_MESSAGE_SIZE};
 ghost use Rattle.dns_text.specs.declared.transfer.TheConstants.{MESSAGE_TEXT_LIMIT};
 ghost use Rattle.dns_wire.specs.declared.sizes.TheConstants.{HEADER_SIZE};
 
+use crate::refusal::Refusal;
 use crate::status::NormalStatus;
 
 /// Lists of records that are the same have one normal form. If it is no more than 65,535 octets, other records have another one.
@@ -62,7 +64,8 @@ pub fn normal_statuses_in_words()
     ensures usage { (t : Octets) → normal_outcome None t ≡ outcome_of NormalStatus.Usage }
 {}
 
-/// Statuses are equal exactly if they are the same.
+/// Statuses are equal exactly if they are the same, and so are refusals.
 pub fn equal_statuses()
-    ensures { (a b : _) → IsTrue (⟦<NormalStatus as PartialEq>⟧.eq a b) ↔ (a ≡ b) }
+    ensures status { (a b : _) → IsTrue (⟦<NormalStatus as PartialEq>⟧.eq a b) ↔ (a ≡ b) }
+    ensures refusal { (a b : _) → IsTrue (⟦<Refusal as PartialEq>⟧.eq a b) ↔ (a ≡ b) }
 {}

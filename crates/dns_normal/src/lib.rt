@@ -7,9 +7,11 @@ mod message;
 mod refusal;
 mod status;
 
-pub use command::run_normal;
+pub use command::{Normal, run_normal};
 pub use laws::{
     equal_normal_forms, equal_statuses, normal_forms_are_read, normal_statuses_in_words,
     normalised_twice, words_of_normal,
 };
+pub use message::{message_of, normal_form, records_in};
+pub use refusal::Refusal;
 pub use status::NormalStatus;

@@ -1,14 +1,14 @@
 //! The normal form of a message.
 
-ghost use Rattle.std.specs.Prelude.{◌≡◌, ◌≤◌, List, ◌++◌, ◌∷◌, [], None, IfOk, IfErr, filter, length, map};
-ghost use Rattle.dns_wire.specs.Hexadecimal.{line};
+ghost use Rattle.std.specs.Prelude.{◌≡◌, ◌≤◌, List, ◌++◌, ◌∷◌, [], Option, Some, None, IfOk, IfErr, filter, length, map, vec_len};
+ghost use Rattle.dns_wire.specs.Hexadecimal.{spelled, trim};
 ghost use Rattle.dns_text.specs.Outcomes.{RefusesFor};
 ghost use Rattle.dns_message.specs.Canonical.{canonical_wire, lowercase_names, is_not_opt};
 ghost use Rattle.dns_message.specs.Messages.{RecordValue, Valid, message_reading};
 ghost use Rattle.dns_message.specs.WellFormed.{WellFormed};
 ghost use Rattle.dns_normal.specs.Answers.{AreRecordsOf, HasAnswers, HasAnswersIfFew, HaveRecords, IsRecordOf};
 ghost use Rattle.dns_normal.specs.Normal.{answers_message, normal_form};
-ghost use Rattle.dns_normal.specs.Texts.{size_refusal, reading_refusal};
+ghost use Rattle.dns_normal.specs.Texts.{form_refusal, message_refusal, reading_refusal, size_refusal};
 
 use crate::refusal::Refusal;
 use dns_message::{
@@ -19,7 +19,7 @@ use dns_name::Name;
 use dns_num::U16;
 use dns_rdata::RecordData;
 use dns_record::Record;
-use dns_text::PrintError;
+use dns_text::{HexError, PrintError, octets_of};
 use dns_wire::{NameCompressor, SplitBytes};
 use std::alloc::{AllocError, Global};
 
@@ -60,47 +60,63 @@ fn push_records(
     Ok(())
 }
 
-/// The digits of octets, and LF.
-fn line_of(alloc: Global, octets: &[u8]) -> Result<Vec<u8>, AllocError>
-    ensures { IfOk result (λ text. text.items ≡ line octets.now) }
+/// So many octets 0, by copies of a piece: `vec!` would write them one by one. `AllocError` is out of memory.
+fn zeros(alloc: Global, count: usize) -> Result<Vec<u8>, AllocError>
+    ensures { IfOk result (λ octets. vec_len octets ≡ count) }
 {
-    let digits = hex::encode(alloc, octets)?;
-    let text = format!(in alloc; "{}\n", digits)?;
-    Ok(text.into_bytes())
+    let piece = [0u8; 4096];
+    let mut octets = Vec::with_capacity(alloc, count)?;
+    while octets.len() < count {
+        let more = (count - octets.len()).min(piece.len());
+        octets.extend_from_slice(&piece[..more])?;
+    }
+    Ok(octets)
 }
 
-/// The line of the message that has these records as answers, lowercased, with names that are written once.
-fn answers_line(
+/// The message that has these records as answers, lowercased, with names that are written once.
+fn answers_message(
     alloc: Global,
     records: &[&CanonicalRecord<'_>],
 ) -> Result<Vec<u8>, PrintError<Refusal>>
     requires { HaveRecords (map (λ r. canonical_wire r.now) records.now) }
-    ensures printed { (rs : List RecordValue) → AreRecordsOf (map (λ r. canonical_wire r.now) records.now) rs
-        → IfOk result (λ text. text.items ≡ line (answers_message (map lowercase_names rs))) }
+    ensures built { (rs : List RecordValue) → AreRecordsOf (map (λ r. canonical_wire r.now) records.now) rs
+        → IfOk result (λ octets. octets.items ≡ answers_message (map lowercase_names rs)) }
     ensures accepted { (rs : List RecordValue) → AreRecordsOf (map (λ r. canonical_wire r.now) records.now) rs
         → IfOk result (λ _. length (answers_message (map lowercase_names rs)) ≤ MAX_MESSAGE_SIZE) }
     ensures refused { (rs : List RecordValue) → AreRecordsOf (map (λ r. canonical_wire r.now) records.now) rs
         → IfErr result (RefusesFor (size_refusal (answers_message (map lowercase_names rs)))) }
 {
-    let mut octets = vec![in alloc; 0; CanonicalRecord::MAX_SIZE]?;
-    let mut buffer = vec![in alloc; 0; MAX_MESSAGE_SIZE]?;
+    let mut octets = zeros(alloc, CanonicalRecord::MAX_SIZE)?;
+    let mut buffer = zeros(alloc, MAX_MESSAGE_SIZE)?;
     let mut compressor = NameCompressor::new();
     let (id, flags) = (U16::new(0), HeaderFlags::from_bits(0));
     let mut builder = MessageBuilder::new(&mut buffer, &mut compressor, id, flags);
     if push_records(&mut builder, records, &mut octets).is_err() {
         return Err(PrintError::Refused(Refusal::TooLarge));
     }
-    let printed = line_of(alloc, builder.message().as_bytes())?;
-    Ok(printed)
+    let built = Vec::from_slice(alloc, builder.message().as_bytes())?;
+    Ok(built)
 }
 
-/// The records of a message other than OPT.
-fn records_in(
+/// The octets of the message that a text of hexadecimal digits spells, or `Refusal::BadHex`.
+pub fn message_of(alloc: Global, text: &[u8]) -> Result<Vec<u8>, PrintError<Refusal>>
+    ensures spelled { IfOk result (λ message. spelled (trim text.now) ≡ Some message.items) }
+    ensures refused { (refusal : List RecordValue → Option Refusal) → IfErr result (RefusesFor (message_refusal refusal text.now)) }
+{
+    match octets_of(alloc, text) {
+        Ok(message) => Ok(message),
+        Err(HexError::BadHex) => Err(PrintError::Refused(Refusal::BadHex)),
+        Err(HexError::Memory) => Err(PrintError::Memory),
+    }
+}
+
+/// The records of a message other than OPT. `Refusal::Short` and `Refusal::Item` are those of a message that is not valid.
+pub fn records_in(
     alloc: Global,
     message: &[u8],
 ) -> Result<Vec<CanonicalRecord<'_>>, PrintError<Refusal>>
     ensures read { IfOk result (λ records. (rs : List RecordValue) × Valid message.now rs × (records.items ≡ filter is_not_opt rs)) }
-    ensures refused { IfErr result (RefusesFor (reading_refusal (message_reading message.now))) }
+    ensures refused { (refusal : List RecordValue → Option Refusal) → IfErr result (RefusesFor (reading_refusal refusal (message_reading message.now))) }
 {
     match read_records(alloc, message) {
         Ok(records) => Ok(records),
@@ -112,13 +128,15 @@ fn records_in(
     }
 }
 
-/// The line of the normal form of a message.
-pub(crate) fn normal_line(alloc: Global, message: &[u8]) -> Result<Vec<u8>, PrintError<Refusal>>
-    ensures printed { IfOk result (λ text. (rs : List RecordValue) × Valid message.now rs × (text.items ≡ line (normal_form rs))) }
-    ensures accepted { IfOk result (λ _. reading_refusal (message_reading message.now) ≡ None) }
-    ensures refused { IfErr result (RefusesFor (reading_refusal (message_reading message.now))) }
+/// The normal form of a message: a message with its records other than OPT in canonical order, alike ones once, as answers whose names are
+/// in lowercase where canonical form has them so, and are written once (RFC 4034 section 6, RFC 1035 section 4.1.4). At most 65,535 octets;
+/// a longer one is `Refusal::TooLarge`, and `Refusal::Short` and `Refusal::Item` are those of a message that is not valid.
+pub fn normal_form(alloc: Global, message: &[u8]) -> Result<Vec<u8>, PrintError<Refusal>>
+    ensures formed { IfOk result (λ form. (rs : List RecordValue) × Valid message.now rs × (form.items ≡ normal_form rs)) }
+    ensures accepted { IfOk result (λ _. reading_refusal form_refusal (message_reading message.now) ≡ None) }
+    ensures refused { IfErr result (RefusesFor (reading_refusal form_refusal (message_reading message.now))) }
 {
     let records = records_in(alloc, message)?;
     let order = collapsed(alloc, &records)?;
-    answers_line(alloc, &order)
+    answers_message(alloc, &order)
 }

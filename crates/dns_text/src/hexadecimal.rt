@@ -1,11 +1,11 @@
 //! Octets as hexadecimal text (RFC 4648 section 8).
 
 ghost use Rattle.std.specs.Prelude.{◌≡◌, IfOk, IsErrOf};
-ghost use Rattle.dns_wire.specs.Hexadecimal.{Spells, SpellsNothing, trim, is_whitespace};
+ghost use Rattle.dns_wire.specs.Hexadecimal.{Spells, SpellsNothing, line, trim, is_whitespace};
 
 use crate::digit_pairs::put_octets;
 use crate::error::HexError;
-use std::alloc::Global;
+use std::alloc::{AllocError, Global};
 
 /// Whether an octet is a space, a tab, CR or LF.
 fn is_whitespace(octet: u8) -> bool
@@ -40,4 +40,13 @@ pub fn octets_of(alloc: Global, text: &[u8]) -> Result<Vec<u8>, HexError>
     } else {
         Err(HexError::BadHex)
     }
+}
+
+/// The digits of octets in lowercase, and LF.
+pub fn hex_line(alloc: Global, octets: &[u8]) -> Result<Vec<u8>, AllocError>
+    ensures { IfOk result (λ text. text.items ≡ line octets.now) }
+{
+    let digits = hex::encode(alloc, octets)?;
+    let text = format!(in alloc; "{}\n", digits)?;
+    Ok(text.into_bytes())
 }

@@ -17,7 +17,7 @@ pub use args::Args;
 pub use command::{TextCommand, run_command};
 pub use digit_pairs::put_octets;
 pub use error::{HexError, TextError};
-pub use hexadecimal::{octets_of, trimmed};
+pub use hexadecimal::{hex_line, octets_of, trimmed};
 pub use laws::{equal_errors, equal_outcomes, limits};
 pub use notice::{Notice, put_notice};
 pub use outcome::{Outcome, PrintError};

@@ -31,12 +31,10 @@ longer vs f i total size v within is size-is total-is = omega (arith, size-is, t
 pub members_kept : (apex : List (List ℕ)) (rs : List RecordValue) → map canonical_wire (collapsed (filter (belongs apex) (filter is_not_opt rs))) ≡ members apex rs
 members_kept apex rs = ap (λ (l : List RecordValue). map canonical_wire (collapsed l)) (in_zone_kept apex rs ∙ sym (in_zone_not_opt apex rs))
 
--- octets that are written to the start of others are there
-pub record_put : (items new held wire : List ℕ) (len size : ℕ) → len ≡ length items → length new ≡ length items → held ≡ take len (new ++ drop (length new) items) → size ≡ length wire → take (length wire) new ≡ wire
-    → (length held ≡ length items) × (take size held ≡ wire)
-record_put items new held wire len size len-is long held-is size-is put =
-    let whole : held ≡ new = held-is ∙ take_at new (drop (length new) items) len (omega (arith, len-is, long)) in
-    (ap length whole ∙ long, ap (take size) whole ∙ ap (λ (n : ℕ). take n new) size-is ∙ put)
+-- octets that are written over as many others are all that is there
+pub record_put : (items new held wire : List ℕ) (len : ℕ) → len ≡ length items → length items ≡ length wire → length new ≡ length items → held ≡ take len (new ++ drop (length new) items) → take (length wire) new ≡ wire → held ≡ wire
+record_put items new held wire len len-is size long held-is put =
+    held-is ∙ take_at new (drop (length new) items) len (omega (arith, len-is, long)) ∙ sym (take_all (length wire) new (omega (arith, size, long))) ∙ put
 
 -- the printed text
 pub text_is : (count octets : ℕ) (lists : List (List ℕ)) (digits : List ℕ) → count ≡ length lists → octets ≡ length (concat lists) → digits ≡ flat_map shown (sha384 (concat lists))

@@ -39,14 +39,26 @@ unspelled apex text error refuses = by (all_spelled (texts_in text)) error refus
   by None (print.Refused r) h = h
   by (Some messages) (print.Refused r) h = absurd cc
 
+-- the refusal of the first message that is not valid
+pub first_refusal_of : (apex : List (List ℕ)) (messages : List (List ℕ)) (error : PrintError Refusal) → RefusesFor (first_refusal messages) error → RefusesFor (on_messages apex (Some messages)) error
+first_refusal_of apex messages (print.Refused r) is = ap (on_records apex (all_records messages)) is
+first_refusal_of apex messages print.Memory is = tt
+
+-- why valid messages are refused
+pub on_valid_records : (apex : List (List ℕ)) (messages : List (List ℕ)) (soa : Bool) → first_refused 0 (map message_reading messages) ≡ None → has_soa apex (all_records messages) ≡ soa
+    → on_messages apex (Some messages) ≡ cond soa None (Some NoSoa)
+on_valid_records apex messages soa none has = ap (λ (o : Option (ℕ × CanonError)). on_records apex (all_records messages) (on_first o)) none ∙ ap (λ (b : Bool). cond b None (Some NoSoa)) has
+
 module _ (apex : List (List ℕ)) (text : List ℕ) (messages : List (List ℕ)) (spells : all_spelled (texts_in text) ≡ Some messages) where
+  -- what messages call for, the text that spells them does
+  pub spelled_refusal : zone_refusal apex text ≡ on_messages apex (Some messages)
+  spelled_refusal = ap (on_messages apex) spells
+
   pub first_error : (error : PrintError Refusal) → RefusesFor (first_refusal messages) error → RefusesFor (zone_refusal apex text) error
-  first_error (print.Refused r) is = ap (on_messages apex) spells ∙ ap (on_records apex (all_records messages)) is
-  first_error print.Memory is = tt
+  first_error error refuses = subst (λ (o : Option Refusal). RefusesFor o error) (sym spelled_refusal) (first_refusal_of apex messages error refuses)
 
   pub valid_refusal : (soa : Bool) → first_refused 0 (map message_reading messages) ≡ None → has_soa apex (all_records messages) ≡ soa → zone_refusal apex text ≡ cond soa None (Some NoSoa)
-  valid_refusal soa none has =
-      ap (on_messages apex) spells ∙ ap (λ (o : Option (ℕ × CanonError)). on_records apex (all_records messages) (on_first o)) none ∙ ap (λ (b : Bool). cond b None (Some NoSoa)) has
+  valid_refusal soa none has = spelled_refusal ∙ on_valid_records apex messages soa none has
 
   pub has_records : first_refused 0 (map message_reading messages) ≡ None → HasRecords text (all_records messages)
   has_records none = let valid = none_valid messages 0 none in (messages, valid.0, spells, valid.1, valid_records messages valid.0 valid.1)

@@ -4,14 +4,11 @@ ghost use Rattle.std.specs.Prelude.{◌≡◌, ◌≤◌, ℕ, true, List, lengt
 ghost use Rattle.dns_text.specs.Endings.{Ran};
 ghost use Rattle.dns_text.specs.Outcomes.{RefusesFor, note_of};
 ghost use Rattle.dns_zone.specs.Texts.{PrintsZone, apex_of, outcome_of, zone_limit, zone_note, zone_refusal, zone_rules};
-ghost use Rattle.dns_zone.specs.Zone.{has_soa};
 
-use crate::digest::zone_text;
-use crate::member::is_soa_of;
-use crate::messages::{messages_in, records_in};
+use crate::digest::{digest_text, zone_digest};
+use crate::messages::messages_in;
 use crate::refusal::{Refusal, ZONE_TEXT_LIMIT};
 use crate::status::ZoneStatus;
-use dns_message::CanonicalRecord;
 use dns_name::RevNameBuf;
 use dns_text::{Args, Notice, PrintError, TextCommand, put_line, put_notice, run_command};
 use dns_wire::{Failed, Sink, Source};
@@ -30,13 +27,6 @@ impl Model for Zone {
     ghost Value = { Labels };
 
     ghost view = { λ z. z.apex };
-}
-
-/// Whether one of the records is the SOA record of the apex.
-fn has_soa(records: &[CanonicalRecord<'_>], apex: &RevNameBuf) -> bool
-    ensures { result ≡ has_soa apex.now records.now }
-{
-    records.iter().any(|found| is_soa_of(found, apex))
 }
 
 impl TextCommand for Zone {
@@ -62,11 +52,8 @@ impl TextCommand for Zone {
 
     fn print(&self, alloc: Global, text: &[u8]) -> Result<Vec<u8>, PrintError<Refusal>> {
         let messages = messages_in(alloc, text)?;
-        let records = records_in(alloc, &messages)?;
-        if !has_soa(&records, &self.apex) {
-            return Err(PrintError::Refused(Refusal::NoSoa));
-        }
-        let printed = zone_text(alloc, records, &self.apex)?;
+        let digest = zone_digest(alloc, &messages, &self.apex)?;
+        let printed = digest_text(alloc, &digest)?;
         Ok(printed)
     }
 

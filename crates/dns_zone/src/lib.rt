@@ -10,9 +10,10 @@ mod refusal;
 mod status;
 
 pub use command::run_zone;
+pub use digest::{ZoneDigest, digest_of, zone_digest};
 pub use laws::{
     apex_soas, equal_statuses, equal_zones, limits, members_in_words, same_zones, words_of_zones,
     zone_statuses_in_words,
 };
-pub use refusal::ZONE_TEXT_LIMIT;
+pub use refusal::{Refusal, ZONE_TEXT_LIMIT};
 pub use status::ZoneStatus;

@@ -3,7 +3,7 @@
 ghost use Rattle.std.specs.Prelude.{◌≡◌};
 ghost use Rattle.dns_rdata.specs.Data.{IsDataOf};
 ghost use Rattle.dns_message.specs.Seen.{data_seen};
-ghost use Rattle.dns_zone.specs.Zone.{belongs, is_apex, is_at_or_below, is_digest_record, is_soa_of, rrsig_number, signs_zonemd};
+ghost use Rattle.dns_zone.specs.Zone.{belongs, has_soa, is_apex, is_at_or_below, is_digest_record, is_soa_of, rrsig_number, signs_zonemd};
 
 use dns_message::CanonicalRecord;
 use dns_name::{NameBuf, RevNameBuf};
@@ -60,8 +60,15 @@ pub(crate) fn belongs(found: &CanonicalRecord<'_>, apex: &RevNameBuf) -> bool
 }
 
 /// Whether a record is the SOA record of the apex.
-pub(crate) fn is_soa_of(found: &CanonicalRecord<'_>, apex: &RevNameBuf) -> bool
+fn is_soa_of(found: &CanonicalRecord<'_>, apex: &RevNameBuf) -> bool
     ensures { result ≡ is_soa_of apex.now found.now }
 {
     found.rtype() == RType::SOA && found.rclass() == RClass::IN && is_apex(found.owner(), apex)
+}
+
+/// Whether one of the records is the SOA record of the apex.
+pub(crate) fn has_soa(records: &[CanonicalRecord<'_>], apex: &RevNameBuf) -> bool
+    ensures { result ≡ has_soa apex.now records.now }
+{
+    records.iter().any(|found| is_soa_of(found, apex))
 }

@@ -1,11 +1,11 @@
-//! Why the text of a zone is refused.
+//! Why messages of a zone are refused.
 
 /// The most octets of the text of a zone.
 pub const ZONE_TEXT_LIMIT: usize = 4_194_304;
 
-/// Why the text of a zone is refused.
+/// Why a zone that is given as messages has no digest.
 #[derive(Clone, Copy, Debug, PartialEq, Eq)]
-pub(crate) enum Refusal {
+pub enum Refusal {
     /// A line is not pairs of hexadecimal digits.
     BadHex,
     /// A message has fewer than 12 octets. Messages count from 0.

@@ -1,0 +1,6 @@
+-- The crate's own lemmas.
+pub mod AnswerLemmas
+pub mod LineLemmas
+pub mod PieceLemmas
+pub mod RunLemmas
+pub mod ShownLemmas

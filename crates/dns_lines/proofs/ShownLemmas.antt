@@ -1,0 +1,155 @@
+-- Each answer is one line, and digits are no marked line.
+use Rattle.std.proofs.Common.{◌≡◌, ◌≢◌, eqb, ℕ, zero, suc, ◌+◌, ◌/◌, ◌%◌, ◌≤◌, Bool, true, false, cond, List, [], ◌∷◌, ◌++◌, length, flat_map, codes, slice_index, nat_lt, Option, Some, None, refl, sym, ap, subst, ◌∙◌, inl, inr, append_assoc, arith, decimal, drop, get_or}
+use Rattle.std.specs.Fmt.{digit_glyph, digits, digits_onto}
+use Rattle.std.specs.Option.{option_map}
+use Rattle.std.specs.List.{All, concat, list_any}
+use Rattle.sha2.specs.Sha512.{sha384}
+use Rattle.dns_message.specs.Order.{canonical_list}
+use Rattle.std.proofs.lemmas.Bool.{agree_below_at, cases_lt}
+use Rattle.std.proofs.lemmas.List.{get_or_past}
+use Rattle.std.proofs.lemmas.List.Concat.{flat_map-cons}
+use Rattle.dns_wire.specs.Hexadecimal.{line, shown, spelled, trim}
+use Rattle.dns_text.specs.Notes.{note_line, notice_line, spaced}
+use Rattle.dns_text.specs.declared.notice.Notice.TheVariants as notice
+use Rattle.dns_message.specs.Messages.{RecordValue}
+use Rattle.dns_message.specs.Same.{Same}
+use Rattle.dns_message.specs.Texts.{HasRecords}
+use Rattle.dns_message.specs.WellFormed.{WellFormed}
+use Rattle.dns_wire.specs.Reading.{AreOctets}
+use Rattle.dns_message.proofs.TextLemmas.{one_records, text_well}
+use Rattle.dns_normal.specs.Normal.{normal_form}
+use Rattle.dns_normal.specs.Texts.{normal_note}
+use Rattle.dns_normal.specs.declared.refusal.Refusal.{Refusal}
+use Rattle.dns_normal.specs.declared.refusal.Refusal.TheVariants.{BadHex, Short, Item, TooLarge}
+use Rattle.dns_normal.proofs.NormalForms.{normal_octets, other_normal}
+use Rattle.dns_normal.proofs.NormalOutcomes.{accepted_size}
+use Rattle.dns_normal.proofs.NormalTexts.{line_back}
+use Rattle.dns_lines.specs.Answers.{IsAnswer, PrintsFor, marked, refusal_for, refusal_line}
+use Rattle.dns_lines.specs.Lines.{IsLine, ended}
+use Rattle.dns_lines.specs.declared.command.LineCommand.{LineCommand}
+use Rattle.dns_lines.specs.declared.command.LineCommand.TheVariants.{Normal, Digest}
+use Rattle.dns_lines.proofs.LineLemmas.{all_append}
+use Rattle.dns_lines.proofs.AnswerLemmas.{answer_printed, answer_refused, long_line, records_refusal, short_line}
+
+-- octets that are one line with its LF
+abbrev IsOneLine : List ℕ → Type 0
+IsOneLine octets = (shown : List ℕ) × IsLine shown × (octets ≡ ended shown)
+
+-- ---- digits
+
+digit_line : (n : ℕ) → slice_index (codes "0123456789abcdef") n ≢ 10
+digit_line n is = elim (cases_lt n 16) [
+  | inl below ↦ (
+      let none = agree_below_at (λ (k : ℕ). eqb (slice_index (codes "0123456789abcdef") k) 10) (λ (k : ℕ). false) 16 n refl below in
+      let clash = sym none ∙ ap (λ (k : ℕ). eqb k 10) is in absurd cc
+      )
+  | inr past ↦ (let clash = sym (get_or_past (codes "0123456789abcdef") n 0 past) ∙ is in absurd (omega (arith, clash)))
+]
+
+shown_line : (octets : List ℕ) → IsLine (flat_map shown octets)
+shown_line [] = tt
+shown_line (b ∷ octets) = subst IsLine (sym (flat_map-cons shown b octets)) (digit_line (b / 16), (digit_line (b % 16), shown_line octets))
+
+-- ---- notes
+
+glyph_line : (d : ℕ) → digit_glyph false d ≢ 10
+glyph_line d is = by (nat_lt d 10) refl where
+  by : (b : Bool) → nat_lt d 10 ≡ b → ⊥
+  by true e = (let at = ap (λ (b : Bool). cond b (48 + d) (87 + d)) e in absurd (omega (arith, sym at ∙ is)))
+  by false e = (let at = ap (λ (b : Bool). cond b (48 + d) (87 + d)) e in absurd (omega (arith, sym at ∙ is)))
+
+onto_line : (k n : ℕ) (after : List ℕ) → IsLine after → IsLine (digits_onto k 10 false n after)
+onto_line zero n after is = is
+onto_line (suc k) n after is = by (eqb (n / 10) 0) refl (onto_line k (n / 10) (digit_glyph false (n % 10) ∷ after) (glyph_line (n % 10), is)) where
+  by : (b : Bool) → eqb (n / 10) 0 ≡ b → IsLine (digits_onto k 10 false (n / 10) (digit_glyph false (n % 10) ∷ after)) → IsLine (digits_onto (suc k) 10 false n after)
+  by true e more = rw e (glyph_line (n % 10), is)
+  by false e more = rw e more
+
+decimal_line : (n : ℕ) → IsLine (decimal n)
+unfolding digits
+decimal_line n = onto_line 64 n [] tt
+
+numbers_line : (numbers : List ℕ) → IsLine (flat_map spaced numbers)
+numbers_line [] = tt
+numbers_line (n ∷ numbers) =
+    subst IsLine (sym (flat_map-cons spaced n numbers)) ((λ e. absurd cc), all_append (λ b. b ≢ 10) (decimal n) (flat_map spaced numbers) (decimal_line n) (numbers_line numbers))
+
+no_feed_line : (text : List ℕ) → list_any (λ b. eqb b 10) text ≡ false → IsLine text
+no_feed_line [] none = tt
+no_feed_line (b ∷ text) none =
+    (λ is. (let same = ap (λ (k : ℕ). eqb k 10) is in absurd (by (eqb b 10) refl same)), no_feed_line text (rest (eqb b 10) refl)) where
+      by : (c : Bool) → eqb b 10 ≡ c → eqb b 10 ≡ true → ⊥
+      by true e same = (let clash = sym none in absurd cc)
+      by false e same = absurd cc
+
+      rest : (c : Bool) → eqb b 10 ≡ c → list_any (λ b. eqb b 10) text ≡ false
+      rest true e = absurd cc
+      rest false e = cc
+
+note_is_line : (word numbers : List ℕ) → list_any (λ b. eqb b 10) word ≡ false → IsOneLine (marked (note_line word numbers))
+note_is_line word numbers none = (
+  codes "! " ++ (word ++ flat_map spaced numbers),
+  ((λ e. absurd cc), ((λ e. absurd cc), all_append (λ b. b ≢ 10) word (flat_map spaced numbers) (no_feed_line word none) (numbers_line numbers))),
+  ap (λ (l : List ℕ). codes "! " ++ l) (sym (append_assoc word (flat_map spaced numbers) (10 ∷ []))),
+)
+
+refusal_is_line : (refused : Refusal) → IsOneLine (marked (normal_note refused))
+refusal_is_line BadHex = note_is_line (codes "bad hex") [] refl
+refusal_is_line Short = note_is_line (codes "short") (0 ∷ []) refl
+refusal_is_line (Item section index) = note_is_line (codes "item") (0 ∷ section ∷ index ∷ []) refl
+refusal_is_line TooLarge = note_is_line (codes "too large") [] refl
+
+-- ---- answers
+
+printed_line : (command : LineCommand) (t printed : List ℕ) → PrintsFor command t printed → IsOneLine printed
+printed_line Normal t printed (rs, has, is) = (flat_map shown (normal_form rs), shown_line (normal_form rs), is)
+printed_line Digest t printed (rs, has, is) = let octets = sha384 (concat (canonical_list rs)) in (flat_map shown octets, shown_line octets, is)
+
+pub answer_is_line : (command : LineCommand) (t answer : List ℕ) → IsAnswer command t answer → IsOneLine answer
+answer_is_line command t answer is = elim (cases_lt 131072 (length t)) [
+  | inl long ↦ subst IsOneLine (sym (answer_refused command t (notice_line notice.TooLong) answer (long_line command t long) is)) (note_is_line (codes "too long") [] refl)
+  | inr short ↦ on_refusal (short_line command t short) (refusal_for command t) refl
+] where
+  on_refusal : refusal_line command t ≡ option_map normal_note (refusal_for command t) → (o : Option Refusal) → refusal_for command t ≡ o → IsOneLine answer
+  on_refusal e None f = printed_line command t answer (answer_printed command t answer (e ∙ ap (option_map normal_note) f) is)
+  on_refusal e (Some r) f = subst IsOneLine (sym (answer_refused command t (normal_note r) answer (e ∙ ap (option_map normal_note) f) is)) (refusal_is_line r)
+
+-- ---- equal answers to lines with other records
+
+-- what an octet 0 begins is shown with the digit 0 first
+first_digit : (octets : List ℕ) → (rest : List ℕ) × (line (0 ∷ octets) ≡ 48 ∷ rest)
+first_digit octets = ((48 ∷ flat_map shown octets) ++ 10 ∷ [], ap (λ (l : List ℕ). l ++ 10 ∷ []) (flat_map-cons shown 0 octets))
+
+-- a normal form begins with the octet 0
+first_octet : (rs : List RecordValue) → (rest : List ℕ) × (normal_form rs ≡ 0 ∷ rest)
+first_octet rs = (drop 1 (normal_form rs), refl)
+
+-- digits are no marked line
+no_digits : (rs : List RecordValue) (note answer : List ℕ) → answer ≡ line (normal_form rs) → answer ≡ marked note → ⊥
+no_digits rs note answer digits-are is =
+    let octets = first_octet rs in
+    let digits = first_digit octets.0 in
+    let same : 48 ∷ digits.0 ≡ marked note = sym digits.1 ∙ ap line (sym octets.1) ∙ sym digits-are ∙ is in
+    omega (arith, ap (λ (l : List ℕ). get_or l 0 0) same)
+
+-- equal digits are those of equal octets
+one_form : (octets others : List ℕ) → AreOctets octets → AreOctets others → line octets ≡ line others → octets ≡ others
+one_form octets others are also is =
+    let both : Some octets ≡ Some others = sym (line_back octets are) ∙ ap (λ (l : List ℕ). spelled (trim l)) is ∙ line_back others also in cc
+
+-- the digits that are printed for the text of a message
+printed_digits : (t answer : List ℕ) (rs : List RecordValue) → HasRecords t rs → PrintsFor Normal t answer → answer ≡ line (normal_form rs)
+printed_digits t answer rs has (ss, also, is) = is ∙ ap (λ (l : List RecordValue). line (normal_form l)) (one_records t ss rs also has)
+
+on_refusal : (u answer : List ℕ) (rs ss : List RecordValue) → All WellFormed rs → All WellFormed ss → HasRecords u ss → length (normal_form rs) ≤ 65535 → answer ≡ line (normal_form rs) → IsAnswer Normal u answer → (o : Option (List ℕ)) → refusal_line Normal u ≡ o → Same rs ss
+on_refusal u answer rs ss well others second small digits-are also None f =
+    other_normal rs ss well others small
+    (one_form (normal_form rs) (normal_form ss) (normal_octets rs well) (normal_octets ss others) (sym digits-are ∙ printed_digits u answer ss second (answer_printed Normal u answer f also)))
+on_refusal u answer rs ss well others second small digits-are also (Some note) f = absurd (no_digits rs note answer digits-are (answer_refused Normal u note answer f also))
+
+pub different_answers : (t u answer : List ℕ) (rs ss : List RecordValue) → HasRecords t rs → HasRecords u ss → length t ≤ 131072 → length u ≤ 131072 → length (normal_form rs) ≤ 65535
+    → IsAnswer Normal t answer → IsAnswer Normal u answer → Same rs ss
+different_answers t u answer rs ss first second short few small is also =
+    let accepted = short_line Normal t short ∙ ap (option_map normal_note) (records_refusal Normal t rs first ∙ accepted_size (normal_form rs) small) in
+    let digits-are = printed_digits t answer rs first (answer_printed Normal t answer accepted is) in
+    on_refusal u answer rs ss (text_well t rs first) (text_well u ss second) second small digits-are also (refusal_line Normal u) refl

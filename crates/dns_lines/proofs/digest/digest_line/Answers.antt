@@ -1,0 +1,8 @@
+use Rattle.std.proofs.Common.{None, rules}
+use Rattle.dns_lines.proofs.digest.digest_line.Goals as goal
+
+pub returns-in_err-message-clause-refused : goal.returns-in_err-message-clause-refused
+returns-in_err-message-clause-refused c = let refused = c.in_err-message.ensures.refused (λ rs. None) in search (rules, refused)
+
+pub returns-in_err-records-clause-refused : goal.returns-in_err-records-clause-refused
+returns-in_err-records-clause-refused c = let refused = c.in_err-records.ensures.refused (λ rs. None) in search (rules, refused)

@@ -1,0 +1,73 @@
+-- The line that answers a line.
+use Rattle.std.specs.Prelude.{◌≡◌, ◌++◌, List, [], ◌∷◌, ⊤, codes, length, nat_lt, Option, Some, None, if◌then◌else◌}
+use Rattle.std.specs.List.{concat}
+use Rattle.std.specs.Option.{option_map}
+use Rattle.sha2.specs.Sha512.{sha384}
+use Rattle.dns_wire.specs.Hexadecimal.{line}
+use Rattle.dns_wire.specs.Octets.{Octets}
+use Rattle.dns_text.specs.Notes.{notice_line}
+use Rattle.dns_text.specs.declared.notice.Notice.TheVariants.{TooLong}
+use Rattle.dns_message.specs.Messages.{RecordValue}
+use Rattle.dns_message.specs.Order.{canonical_list}
+use Rattle.dns_message.specs.Texts.{HasRecords}
+use Rattle.dns_normal.specs.Texts.{PrintsNormal, message_refusal, normal_note, normal_refusal}
+use Rattle.dns_normal.specs.declared.refusal.Refusal.{Refusal}
+use Rattle.dns_lines.specs.Lines.{HasLines}
+use Rattle.dns_lines.specs.declared.command.LineCommand.{LineCommand}
+use Rattle.dns_lines.specs.declared.command.LineCommand.TheVariants.{Normal, Digest}
+use Rattle.dns_lines.specs.declared.line.TheConstants.{LINE_LIMIT}
+
+-- ---- the digest of a message
+
+-- why the text of a message is refused for which a digest is asked
+abbrev pub digest_refusal : Octets → Option Refusal
+digest_refusal text = message_refusal (λ rs. None) text
+
+-- what is printed: the digits of the digest of the canonical octets of the message's records, one after another, and LF
+abbrev pub PrintsDigest : Octets → Octets → Type 0
+PrintsDigest text printed = (rs : List RecordValue) × HasRecords text rs × (printed ≡ line (sha384 (concat (canonical_list rs))))
+
+-- ---- by command
+
+-- why the text of a message is refused; `None` if a text is printed for it
+abbrev pub refusal_for : LineCommand → Octets → Option Refusal
+refusal_for Normal text = normal_refusal tt text
+refusal_for Digest text = digest_refusal text
+
+-- what is printed for the text of a message
+abbrev pub PrintsFor : LineCommand → Octets → Octets → Type 0
+PrintsFor Normal text printed = PrintsNormal tt text printed
+PrintsFor Digest text printed = PrintsDigest text printed
+
+-- ---- answers
+
+-- `!`, a space, and the line
+abbrev pub marked : Octets → Octets
+marked note = codes "! " ++ note
+
+-- the line for the refusal of a line: first of one that is too long, and then of its message
+abbrev pub refusal_line : LineCommand → Octets → Option Octets
+refusal_line command text = if nat_lt LINE_LIMIT (length text) then Some (notice_line TooLong) else option_map normal_note (refusal_for command text)
+
+abbrev pub IsAnswerAs : LineCommand → Octets → Option Octets → Octets → Type 0
+IsAnswerAs command text None answer = PrintsFor command text answer
+IsAnswerAs command text (Some note) answer = answer ≡ marked note
+
+-- the answer to a line: what is printed for the message in it, or the line for its refusal, marked
+abbrev pub IsAnswer : LineCommand → Octets → Octets → Type 0
+IsAnswer command text answer = IsAnswerAs command text (refusal_line command text) answer
+
+-- an answer for each line, in their order
+abbrev pub AreAnswers : LineCommand → List Octets → List Octets → Type 0
+AreAnswers command [] [] = ⊤
+AreAnswers command [] (answer ∷ answers) = ⊥
+AreAnswers command (text ∷ lines) [] = ⊥
+AreAnswers command (text ∷ lines) (answer ∷ answers) = IsAnswer command text answer × AreAnswers command lines answers
+
+-- what is written for a whole text: the answers to its lines, one after another
+pub record Answers (command : LineCommand) (text written : Octets) : Type 0 where
+  pub lines : List Octets
+  pub answers : List Octets
+  pub has : HasLines text lines
+  pub are : AreAnswers command lines answers
+  pub written_is : written ≡ concat answers

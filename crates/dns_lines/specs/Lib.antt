@@ -1,0 +1,6 @@
+-- What the contracts of messages by the line cite.
+pub mod Answers
+pub mod Lines
+pub mod Pieces
+pub mod Runs
+pub mod Words

@@ -1,0 +1,19 @@
+//! Messages by the line: for each line of a text, one line that answers it.
+#![tactic(auto)]
+
+mod answer;
+mod command;
+mod digest;
+mod filter;
+mod laws;
+mod line;
+mod note;
+mod status;
+
+pub use command::{LineCommand, run_lines};
+pub use laws::{
+    answers_are_lines, answers_of_parts, different_records, equal_records, equal_values, limits,
+    lines_of_texts, one_answer, words_of_lines,
+};
+pub use line::LINE_LIMIT;
+pub use status::LinesStatus;

@@ -1,0 +1,5 @@
+-- What the contracts of the calls for C cite.
+pub mod Buffers
+pub mod Calls
+pub mod Refused
+pub mod Zones

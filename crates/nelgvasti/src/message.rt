@@ -1,0 +1,128 @@
+//! Canonical lists, and whether two messages carry the same records.
+
+ghost use Rattle.std.specs.Prelude.{◌≡◌, ◌≢◌, ◌<◌, ◌⊎◌, [], ◌∷◌, List, length};
+ghost use Rattle.dns_message.specs.Messages.{RecordValue, Valid, BadAt, message_reading};
+ghost use Rattle.dns_message.specs.Order.{canonical_list};
+ghost use Rattle.dns_message.specs.Same.{Same};
+ghost use Rattle.dns_message.specs.Several.{IsFirstRefused};
+ghost use Rattle.dns_message.specs.declared.canon_error.CanonError.TheVariants as canon;
+ghost use Rattle.dns_wire.specs.declared.sizes.TheConstants.{HEADER_SIZE};
+ghost use Rattle.nelgvasti.specs.Buffers.{Fills, room_answer};
+ghost use Rattle.nelgvasti.specs.Refused.{message_place};
+ghost use Rattle.nelgvasti.specs.Calls.{AnswersOrMemory, SaysWhether, list_octets, reading_answer};
+
+use crate::answers::{DONE, ITEM, MEMORY, SHORT, TOO_SMALL};
+use crate::ordered::{are_alike, octets_in, put_records};
+use crate::place::Place;
+use dns_message::{collapsed, read_records};
+use std::alloc::Global;
+
+/// How many octets and how many records the canonical list of a message has (RFC 4034 section 6).
+#[unsafe(no_mangle)]
+pub extern "C" fn nelgvasti_canonical_size(
+    alloc: Global,
+    message: &[u8],
+    octets: &mut usize,
+    records: &mut usize,
+    place: &mut Place,
+) -> u32
+    // What is written.
+    ensures done { result ≡ DONE → (rs : List RecordValue) × Valid message.now rs
+        × (octets.new ≡ length (list_octets rs)) × (records.new ≡ length (canonical_list rs)) }
+    ensures unwritten { result ≢ DONE → (octets.new ≡ octets.old) × (records.new ≡ records.old) }
+
+    // Why nothing is written. Except for memory, the answer is the one that the message calls for.
+    ensures short { result ≡ SHORT → (length message.now < HEADER_SIZE) × (place.new ≡ message_place 0) }
+    ensures item { result ≡ ITEM → BadAt message.now place.new.section place.new.index × (place.new.message ≡ 0) }
+    ensures place { result ≢ SHORT → result ≢ ITEM → place.new ≡ place.old }
+    ensures expected { AnswersOrMemory (reading_answer (λ rs. DONE) (message_reading message.now)) result }
+{
+    let read = match read_records(alloc, message) {
+        Ok(read) => read,
+        Err(error) => return place.refuse(0, error),
+    };
+    let Ok(order) = collapsed(alloc, &read) else {
+        return MEMORY;
+    };
+    *octets = octets_in(&order);
+    *records = order.len();
+    DONE
+}
+
+/// Writes the canonical list of a message, its records one after the other (RFC 4034 section 6), and the number of these octets: the
+/// canonical octets of each record other than OPT, in order, and records that are alike once, with the least TTL (RFC 2181 section 5.2).
+#[unsafe(no_mangle)]
+pub extern "C" fn nelgvasti_canonical(
+    alloc: Global,
+    message: &[u8],
+    out: &mut [u8],
+    out_length: &mut usize,
+    place: &mut Place,
+) -> u32
+    // What is written.
+    ensures done { result ≡ DONE → (rs : List RecordValue) × Valid message.now rs
+        × Fills (list_octets rs) out.old out.new × (out_length.new ≡ length (list_octets rs)) }
+    ensures too_small { result ≡ TOO_SMALL → (rs : List RecordValue) × Valid message.now rs
+        × (length out.old < length (list_octets rs)) × (out_length.new ≡ length (list_octets rs)) }
+    ensures unwritten { result ≢ DONE → out.new ≡ out.old }
+    ensures length { result ≢ DONE → result ≢ TOO_SMALL → out_length.new ≡ out_length.old }
+
+    // Why nothing is written. Except for memory, the answer is the one that the message and the room call for.
+    ensures short { result ≡ SHORT → (length message.now < HEADER_SIZE) × (place.new ≡ message_place 0) }
+    ensures item { result ≡ ITEM → BadAt message.now place.new.section place.new.index × (place.new.message ≡ 0) }
+    ensures place { result ≢ SHORT → result ≢ ITEM → place.new ≡ place.old }
+    ensures expected { AnswersOrMemory (reading_answer (λ rs. room_answer (list_octets rs) (length out.old)) (message_reading message.now)) result }
+{
+    let read = match read_records(alloc, message) {
+        Ok(read) => read,
+        Err(error) => return place.refuse(0, error),
+    };
+    let Ok(order) = collapsed(alloc, &read) else {
+        return MEMORY;
+    };
+    let length = octets_in(&order);
+    *out_length = length;
+    if out.len() < length {
+        return TOO_SMALL;
+    }
+    put_records(&order, out);
+    DONE
+}
+
+/// Writes 1 if two messages carry the same records other than OPT, and else 0. Records that are alike count once, with the least TTL, and
+/// ASCII case does not count in owners and in the names of nine types (RFC 4034 section 6.2, RFC 2181 section 5.2).
+#[unsafe(no_mangle)]
+pub extern "C" fn nelgvasti_same(
+    alloc: Global,
+    first: &[u8],
+    second: &[u8],
+    same: &mut u32,
+    place: &mut Place,
+) -> u32
+    // What is written.
+    ensures done { result ≡ DONE → (rs ss : List RecordValue) × Valid first.now rs × Valid second.now ss × SaysWhether (Same rs ss) same.new }
+    ensures unwritten { result ≢ DONE → same.new ≡ same.old }
+
+    // Why nothing is written. Except for memory, the answer is the one that the messages call for.
+    ensures short { result ≡ SHORT → IsFirstRefused (first.now ∷ second.now ∷ []) place.new.message canon.Short × (place.new ≡ message_place place.new.message) }
+    ensures item { result ≡ ITEM → IsFirstRefused (first.now ∷ second.now ∷ []) place.new.message (canon.Item place.new.section place.new.index) }
+    ensures place { result ≢ SHORT → result ≢ ITEM → place.new ≡ place.old }
+    ensures expected { AnswersOrMemory (reading_answer (λ rs. reading_answer (λ ss. DONE) (message_reading second.now)) (message_reading first.now)) result }
+{
+    let first_read = match read_records(alloc, first) {
+        Ok(read) => read,
+        Err(error) => return place.refuse(0, error),
+    };
+    let second_read = match read_records(alloc, second) {
+        Ok(read) => read,
+        Err(error) => return place.refuse(1, error),
+    };
+    let Ok(first_order) = collapsed(alloc, &first_read) else {
+        return MEMORY;
+    };
+    let Ok(second_order) = collapsed(alloc, &second_read) else {
+        return MEMORY;
+    };
+    *same = u32::from(are_alike(&first_order, &second_order));
+    DONE
+}

@@ -1,0 +1,65 @@
+//! Normal forms.
+
+ghost use Rattle.std.specs.Prelude.{◌≡◌, ◌≢◌, ◌<◌, List, length};
+ghost use Rattle.dns_message.specs.Messages.{RecordValue, Valid, BadAt, message_reading};
+ghost use Rattle.dns_message.specs.declared.message.TheConstants.{MAX_MESSAGE_SIZE};
+ghost use Rattle.dns_normal.specs.Normal.{normal_form};
+ghost use Rattle.dns_wire.specs.declared.sizes.TheConstants.{HEADER_SIZE};
+ghost use Rattle.nelgvasti.specs.Buffers.{Fills};
+ghost use Rattle.nelgvasti.specs.Calls.{AnswersOrMemory, normal_answer, reading_answer};
+ghost use Rattle.nelgvasti.specs.Refused.{form_answer, form_place, message_place};
+
+use crate::answers::{DONE, ITEM, MEMORY, SHORT, TOO_LARGE, TOO_SMALL, USAGE};
+use crate::place::Place;
+use crate::room::put_octets;
+use dns_message::CanonError;
+use dns_normal::{Refusal, normal_form};
+use dns_text::PrintError;
+use std::alloc::Global;
+
+/// The answer to a message that has no normal form. The place is written if the message can't be read.
+fn refuse_form(place: &mut Place, error: PrintError<Refusal>) -> u32
+    ensures answer { result ≡ form_answer error }
+    ensures place { place.new ≡ form_place error place.old }
+{
+    match error {
+        PrintError::Refused(Refusal::Short) => place.refuse(0, CanonError::Short),
+        PrintError::Refused(Refusal::Item { section, index }) => {
+            place.refuse(0, CanonError::Item { section, index })
+        }
+        PrintError::Refused(Refusal::TooLarge) => TOO_LARGE,
+        PrintError::Refused(Refusal::BadHex) => USAGE,
+        PrintError::Memory => MEMORY,
+    }
+}
+
+/// Writes the normal form of a message, and the number of its octets, which is at most 65,535: a message with its records other than OPT in
+/// canonical order, alike ones once, as answers whose names are written once (RFC 4034 section 6, RFC 1035 section 4.1.4).
+#[unsafe(no_mangle)]
+pub extern "C" fn nelgvasti_normal(
+    alloc: Global,
+    message: &[u8],
+    out: &mut [u8],
+    out_length: &mut usize,
+    place: &mut Place,
+) -> u32
+    // What is written.
+    ensures done { result ≡ DONE → (rs : List RecordValue) × Valid message.now rs
+        × Fills (normal_form rs) out.old out.new × (out_length.new ≡ length (normal_form rs)) }
+    ensures too_small { result ≡ TOO_SMALL → (rs : List RecordValue) × Valid message.now rs
+        × (length out.old < length (normal_form rs)) × (out_length.new ≡ length (normal_form rs)) }
+    ensures unwritten { result ≢ DONE → out.new ≡ out.old }
+    ensures length { result ≢ DONE → result ≢ TOO_SMALL → out_length.new ≡ out_length.old }
+
+    // Why nothing is written. Except for memory, the answer is the one that the message and the room call for.
+    ensures too_large { result ≡ TOO_LARGE → (rs : List RecordValue) × Valid message.now rs × (MAX_MESSAGE_SIZE < length (normal_form rs)) }
+    ensures short { result ≡ SHORT → (length message.now < HEADER_SIZE) × (place.new ≡ message_place 0) }
+    ensures item { result ≡ ITEM → BadAt message.now place.new.section place.new.index × (place.new.message ≡ 0) }
+    ensures place { result ≢ SHORT → result ≢ ITEM → place.new ≡ place.old }
+    ensures expected { AnswersOrMemory (reading_answer (λ rs. normal_answer (normal_form rs) (length out.old)) (message_reading message.now)) result }
+{
+    match normal_form(alloc, message) {
+        Ok(form) => put_octets(&form, out, out_length),
+        Err(error) => refuse_form(place, error),
+    }
+}
