@@ -2,8 +2,9 @@
 """Compares `keytags`, `covers` and `signed` on each sample with what dnspython computes from the same records. Each signature whose key is
 in one of the samples is verified over the octets that `signed` writes.
 
-It needs the program built, dnspython and cryptography. Names for `covers` are the owners of each sample, names below and beside them, and a
-few others."""
+It needs the program built, dnspython and cryptography. Names for `covers` are the owners of each sample, names below and beside them, the
+name of its question, the names above that and their wildcards, and a few others. Key tags are also compared with those that the programs
+printed which made the keys."""
 import subprocess
 import sys
 
@@ -20,6 +21,13 @@ from cryptography.hazmat.primitives.asymmetric.utils import encode_dss_signature
 
 PROGRAM = str(samples.ROOT / "crates" / "dnscanon" / "out" / "dnscanon")
 OTHERS = ["", "a.", "example.", "zzz.example.org.", "*.example.org."]
+# Algorithm and tag of each key in canonical order: as ldns-keygen, dnssec-keygen and dnssec-revoke name the files of their keys, and as
+# Debian's dns-root-data says of the root's.
+PRINTED = {
+    "keys-of-ldns-keygen": [(1, 26906), (5, 7377), (8, 10066), (13, 3122), (15, 53810)],
+    "keys-of-dnssec-keygen": [(5, 6156), (8, 42159), (15, 58759), (13, 57237)],
+    "keys-of-the-root": [(8, 20326), (8, 38696)],
+}
 
 
 def run(words, text):
@@ -27,9 +35,9 @@ def run(words, text):
     return ended.stdout.decode() if ended.returncode == 0 else ended.stderr.decode()
 
 
-def records(name):
-    """The records of a sample in canonical order, by its lines: owner, type, class, TTL and data."""
-    for line in samples.lines(name).splitlines():
+def records(lines):
+    """The records of a message in canonical order, by its lines: owner, type, class, TTL and data."""
+    for line in lines.splitlines():
         octets = bytes.fromhex(line.decode())
         owner, used = dns.name.from_wire(octets, 0)
         rtype, rclass = int.from_bytes(octets[used : used + 2]), int.from_bytes(octets[used + 2 : used + 4])
@@ -41,6 +49,10 @@ def tags(held):
     """A line for each key: its tag, or a hyphen for algorithm 1."""
     keys = [data for _, rtype, _, _, data in held if rtype == dns.rdatatype.DNSKEY]
     return "".join(f"{'-' if key.algorithm == 1 else dns.dnssec.key_id(key)}\n" for key in keys)
+
+
+def tags_of(printed):
+    return "".join(f"{'-' if algorithm == 1 else tag}\n" for algorithm, tag in printed)
 
 
 def is_between(owner, name, after):
@@ -100,7 +112,7 @@ def keys_of(names):
     """The keys in the samples, by owner, algorithm and tag."""
     keys = {}
     for name in names:
-        for owner, rtype, _, _, data in records(name):
+        for owner, rtype, _, _, data in records(samples.lines(name)):
             if rtype == dns.rdatatype.DNSKEY:
                 keys.setdefault((owner, data.algorithm, dns.dnssec.key_id(data)), []).append(data)
     return keys
@@ -117,8 +129,16 @@ def is_good(keys, signature, octets):
     return False
 
 
-def names_for(held):
+def names_above(name):
+    """The name, each name above it, and the wildcards of these."""
+    above = [dns.name.Name(name.labels[count:]) for count in range(len(name))]
+    return above + [dns.name.Name((b"*",) + other.labels) for other in above if len(other.to_wire()) < 250]
+
+
+def names_for(held, message):
     names = {dns.name.from_text(text) if text else dns.name.root for text in OTHERS}
+    if message[4:6] != b"\0\0":
+        names.update(names_above(dns.name.from_wire(message, 12)[0]))
     for owner, _, _, _, _ in held:
         names.add(owner)
         if len(owner) < 100 and len(owner.to_wire()) < 250:
@@ -136,10 +156,12 @@ def main():
     paths = sorted((samples.ROOT / "samples").glob("*.hex"))
     keys = keys_of(path.stem for path in paths)
     for path in paths:
-        held, text = list(records(path.stem)), samples.text(path.stem)
+        held, text = list(records(samples.lines(path.stem))), samples.text(path.stem)
         cases = [(["keytags"], tags(held))]
+        if path.stem in PRINTED:
+            cases.append((["keytags"], tags_of(PRINTED[path.stem])))
         if {dns.rdatatype.NSEC, dns.rdatatype.NSEC3} & {rtype for _, rtype, _, _, _ in held}:
-            cases += [(["covers", word_of(name)], coverages(held, name)) for name in names_for(held)]
+            cases += [(["covers", word_of(name)], coverages(held, name)) for name in names_for(held, samples.message(path.stem))]
         signatures = [(owner, data) for owner, rtype, _, _, data in held if rtype == dns.rdatatype.RRSIG]
         cases += [(["signed", str(number)], signed(held, number)) for number in range(len(signatures) + 1)]
         for words, wanted in cases:
@@ -161,4 +183,5 @@ def main():
     sys.exit(wrong + bad > 0)
 
 
-main()
+if __name__ == "__main__":
+    main()

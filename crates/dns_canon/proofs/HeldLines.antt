@@ -1,5 +1,5 @@
 -- Lines that are held one after another.
-use Rattle.std.proofs.Common.{◌≡◌, Bool, Some, None, IfSome, subst, take-append-drop, take_all, ℕ, ◌+◌, ◌*◌, ◌<◌, ◌≤◌, List, [], ◌∷◌, ◌++◌, length, map, take, drop, Result, refl, sym, ap, ◌∙◌, arith, get_or, flat_map, append_assoc, append-nil}
+use Rattle.std.proofs.Common.{◌≡◌, Bool, Some, None, IfSome, subst, take-append-drop, take_all, ℕ, ◌+◌, ◌*◌, ◌<◌, ◌≤◌, List, [], ◌∷◌, ◌++◌, length, map, take, drop, Result, sym, ap, ◌∙◌, arith, get_or, flat_map, append_assoc, append-nil}
 use Rattle.std.specs.Prelude.{IsSome, slice_set}
 use Rattle.std.specs.declared.option.Option.{Option}
 use Rattle.std.proofs.KnownBytes.{Appends-trans}
@@ -10,24 +10,18 @@ use Rattle.std.specs.Io.KnownBytes.{Appends}
 use Rattle.std.proofs.lemmas.Grind.{take-set_at, flat_map-append}
 use Rattle.std.proofs.lemmas.List.{length-append, length-take-le, map-append, take_at, take_more}
 use Rattle.std.proofs.lemmas.List.Concat.{flat_map-cons}
-use Rattle.hex.specs.Hex.{encode_lower}
 use Rattle.dns_wire.specs.Hexadecimal.{shown, line, lines}
-use Rattle.dns_text.proofs.Encoding.{encoded}
+use Rattle.dns_text.proofs.Encoding.{shown_long}
 
 -- ---- a line after others
-
-shown_long : (octets : List ℕ) → length (flat_map shown octets) ≡ 2 * length octets
-shown_long [] = refl
-shown_long (b ∷ rest) = ap length (flat_map-cons shown b rest) ∙ omega (arith, shown_long rest, length-append (shown b) (flat_map shown rest))
 
 pub line_long : (octets : List ℕ) → length (line octets) ≡ 2 * length octets + 1
 line_long octets = length-append (flat_map shown octets) (10 ∷ []) ∙ omega (arith, shown_long octets)
 
 -- digits that are written over as many, and LF after them
-pub line_written : (text octets digits back : List ℕ) (start end : ℕ) → start ≤ length text → end ≡ start + 2 * length octets → digits ≡ encode_lower octets → 0 < length back
+pub line_written : (text octets digits back : List ℕ) (start end : ℕ) → start ≤ length text → end ≡ start + 2 * length octets → digits ≡ flat_map shown octets → 0 < length back
     → take (start + 2 * length octets + 1) (slice_set (take start text ++ (digits ++ back)) end 10) ≡ take start text ++ line octets
-line_written text octets digits back start end within end-is digits-are room =
-    let shown-is : digits ≡ flat_map shown octets = digits-are ∙ encoded octets in
+line_written text octets digits back start end within end-is shown-is room =
     let long : length (take start text ++ digits) ≡ end = omega (arith, length-append (take start text) digits, length-take-le start text within, ap length shown-is, shown_long octets, end-is) in
     let one-more : start + 2 * length octets + 1 ≡ end + 1 = omega (arith, end-is) in
     ap (λ (l : List ℕ). take (start + 2 * length octets + 1) (slice_set l end 10)) (sym (append_assoc (take start text) digits back))

@@ -6,7 +6,7 @@ ghost use Rattle.dns_wire.specs.Outside.{HasCause, BecomesFlag, Puts};
 ghost use Rattle.dns_message.specs.Canonical.{canonical_wire};
 
 use dns_message::{CanonicalRecord, put_canonical};
-use dns_text::{put_all, put_text};
+use dns_text::{put_all, put_digits, put_text};
 use dns_wire::{Failed, Sink};
 use std::alloc::{AllocError, Global};
 use std::marker::Model;
@@ -23,7 +23,7 @@ fn write_line(text: &mut [u8], start: usize, octets: &[u8])
     ensures { take (start + 2 * length octets.now + 1) text.new ≡ take start text.old ++ line octets.now }
 {
     let end = start + 2 * octets.len();
-    hex::encode_to_slice(octets, &mut text[start..end]).unwrap();
+    put_digits(octets, &mut text[start..end]);
     text[end] = b'\n';
 }
 

@@ -1,11 +1,12 @@
 -- Two sequences of labels walked from their starts, over the octets that agree.
-use Rattle.std.proofs.Common.{◌-◌, subst, ◌≡◌, ℕ, suc, ◌+◌, ◌<◌, ◌≤◌, List, ◌∷◌, length, get_or, drop, Some, refl, sym, ap, ◌∙◌, arith, nat_cmp}
-use Rattle.std.specs.Char.{to_ascii_lowercase}
+use Rattle.std.proofs.Common.{◌-◌, ◌++◌, Bool, true, false, cond, take, ap₂, subst, ◌≡◌, ℕ, suc, ◌+◌, ◌<◌, ◌≤◌, List, ◌∷◌, length, get_or, drop, Some, refl, sym, ap, ◌∙◌, arith, nat_cmp}
+use Rattle.std.specs.Char.{to_ascii_lowercase, eq_ignore_ascii_case}
 use Rattle.std.specs.Ordering.{ordering_then}
 use Rattle.std.specs.Str.{str_to_ascii_lowercase}
 use Rattle.std.specs.Cmp.Lexicographic.{slice_cmp}
 use Rattle.std.specs.declared.cmp.Ordering.{Ordering}
 use Rattle.std.specs.declared.cmp.Ordering.TheVariants.{Less, Equal, Greater}
+use Rattle.std.proofs.lemmas.Bool.{eqb-true}
 use Rattle.std.proofs.lemmas.Cmp.{nat_list_cmp_total, tied_itself}
 use Rattle.std.proofs.lemmas.Map.Lookups.{exact_bytes}
 use Rattle.std.proofs.lemmas.Str.Ascii.{lowercase_is}
@@ -13,13 +14,14 @@ use Rattle.std.proofs.lemmas.List.{take_at}
 use Rattle.dns_wire.specs.Agreement.{agreeing_prefix}
 use Rattle.dns_wire.specs.Names.{labels_wire, IsLabel, IsName, lowered}
 use Rattle.dns_wire.specs.Reversed.{relative_name, relative_labels}
+use Rattle.dns_wire.proofs.Agreeing.{block_agrees}
 use Rattle.dns_wire.proofs.Backward.{relative_is}
 use Rattle.dns_label.specs.Order.{label_cmp}
 use Rattle.dns_name.specs.Order.{key_cmp}
 use Rattle.dns_name.proofs.Agreed.{low_prefix, agrees_low, low_long}
 
 -- a label after its length
-abbrev piece : List ℕ → List ℕ
+abbrev pub piece : List ℕ → List ℕ
 piece label = length label ∷ label
 
 -- a length is no letter
@@ -60,6 +62,19 @@ module _ (label other : List ℕ) (rest others : List (List ℕ)) where
     by Equal e = absurd (omega (arith, scanned, short, over (exact_bytes (str_to_ascii_lowercase label) (str_to_ascii_lowercase other) e)))
     by Greater e = rw e refl
 
+  -- labels that agree as far as an octet within the first label agree as far as that label alone
+  pub ends_within : IsLabel label → IsLabel other → (agreed : ℕ) → agreed ≡ agreeing_prefix (labels_wire (label ∷ rest)) (labels_wire (other ∷ others)) → agreed ≤ length label → agreed ≡ agreeing_prefix (piece label) (piece other)
+  ends_within is js agreed scanned short = by (eq_ignore_ascii_case (length label) (length other)) refl where
+    by : (s : Bool) → eq_ignore_ascii_case (length label) (length other) ≡ s → agreed ≡ agreeing_prefix (piece label) (piece other)
+    by false e = scanned ∙ ap (λ (b : Bool). cond b (1 + agreeing_prefix (label ++ labels_wire rest) (other ++ labels_wire others)) 0) e ∙ sym (ap (λ (b : Bool). cond b (1 + agreeing_prefix label other) 0) e)
+    by true e =
+        let long : length label ≡ length other = sym (length_small label is) ∙ eqb-true (to_ascii_lowercase (length label)) (to_ascii_lowercase (length other)) e ∙ length_small other js in
+        let more : agreeing_prefix (piece label) (piece other) ≡ 1 + agreeing_prefix label other = ap (λ (b : Bool). cond b (1 + agreeing_prefix label other) 0) e in
+        let all : agreed ≡ 1 + agreeing_prefix (label ++ labels_wire rest) (other ++ labels_wire others) = scanned ∙ ap (λ (b : Bool). cond b (1 + agreeing_prefix (label ++ labels_wire rest) (other ++ labels_wire others)) 0) e in
+        let block = block_agrees (length label) (label ++ labels_wire rest) (other ++ labels_wire others) in
+        let parts : agreeing_prefix (take (length label) (label ++ labels_wire rest)) (take (length label) (other ++ labels_wire others)) ≡ agreeing_prefix label other = ap₂ agreeing_prefix (take_at label (labels_wire rest) (length label) refl) (take_at other (labels_wire others) (length label) (sym long)) in
+        omega (arith, more, all, block, parts, short)
+
 -- ---- relative names, by their octets
 
 pub relative_octets : (bytes : List ℕ) → relative_name bytes ≡ Some (relative_labels bytes) → bytes ≡ labels_wire (relative_labels bytes)
@@ -76,6 +91,9 @@ module _ (bytes octets next last label other : List ℕ) (agreed : ℕ) (is : re
 
   orders : key_cmp (lowered (relative_labels bytes)) (lowered (relative_labels octets)) ≡ key_cmp (lowered (label ∷ relative_labels next)) (lowered (other ∷ relative_labels last))
   orders = ap (λ l. key_cmp (lowered l) (lowered (relative_labels octets))) first ∙ ap (λ l. key_cmp (lowered (label ∷ relative_labels next)) (lowered l)) second
+
+  pub relative_ends : agreed ≤ length label → agreed ≡ agreeing_prefix (piece label) (piece other)
+  relative_ends short = ends_within label other (relative_labels next) (relative_labels last) (relative_first bytes next label is first).1 (relative_first octets last other js second).1 agreed scanned_labels_wire short
 
   pub relative_decides : agreed ≤ length label → key_cmp (lowered (relative_labels bytes)) (lowered (relative_labels octets)) ≡ label_cmp label other
   relative_decides short = orders ∙ decides label other (relative_labels next) (relative_labels last) agreed scanned_labels_wire short

@@ -1,20 +1,34 @@
 //! The order of names from the root on, which is that of names in the other layout: by labels from the root
 //! on, each in lowercase (RFC 4034 section 6.1).
 
-ghost use Rattle.std.specs.Prelude.{◌≡◌};
+ghost use Rattle.std.specs.Prelude.{◌≡◌, ◌∷◌, length};
 ghost use Rattle.std.proofs.Common.{rules};
 ghost use Rattle.std.specs.Cmp.{partial_order_from_own_ties};
 ghost use Rattle.std.specs.Cmp.Rules.{comparing};
 ghost use Rattle.std.specs.Ordering.{on, as_partial_cmp, eq_by_cmp};
+ghost use Rattle.dns_wire.specs.Agreement.{agreeing_prefix};
 ghost use Rattle.dns_wire.specs.Names.{lowered};
 ghost use Rattle.dns_wire.specs.Reversed.{relative_labels, reversed_name_labels};
+ghost use Rattle.dns_label.specs.Order.{label_cmp};
 ghost use Rattle.dns_name.specs.Order.{key, key_cmp};
 
 use crate::relative_name::RelativeName;
 use crate::rev_name::RevName;
 use crate::rev_name_buf::RevNameBuf;
-use dns_wire::{agreement_from_start, compare_lowercase};
+use dns_wire::{agreement_from_start, compare_agreed, compare_lowercase};
 use std::cmp::Ordering;
+
+/// The order of two labels. So many octets agree where they are written, the octet of their size first, and no more.
+fn compare_labels(label: &[u8], other: &[u8], agreed: usize) -> Ordering
+    requires { agreed ≡ agreeing_prefix (length label.now ∷ label.now) (length other.now ∷ other.now) }
+    ensures { result ≡ label_cmp label.now other.now }
+{
+    if agreed == 0 {
+        compare_lowercase(label, other)
+    } else {
+        compare_agreed(label, other, agreed - 1)
+    }
+}
 
 /// The order of labels one after another, each in lowercase. The first that differ decide, and fewer
 /// labels come first. Labels that lie whole within the octets that agree are passed over.
@@ -29,7 +43,7 @@ fn compare_relative(a: RelativeName<'_>, b: RelativeName<'_>) -> Ordering
             return Ordering::Greater;
         };
         if agreed <= label.len() {
-            return compare_lowercase(label, other);
+            return compare_labels(label, other, agreed);
         }
         agreed -= 1 + label.len();
         left = next;

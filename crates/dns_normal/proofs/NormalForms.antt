@@ -24,22 +24,22 @@ use Rattle.dns_normal.proofs.SameRecords.{same_back, same_least, same_lowercased
 -- ---- records that are built
 
 -- more records are the answers, if they are few octets
-built_after : (rs later : List RecordValue) (draft : Draft) → HasAnswers rs draft → AllByRecursion WellFormed later → length (answers_message (rs ++ later)) ≤ 65535 → (after : Draft) × HasAnswers (rs ++ later) after
-built_after rs [] draft has are short = (draft, subst (λ (l : List RecordValue). HasAnswers l draft) (sym (append-nil rs)) has)
+built_after : (rs later : List RecordValue) (draft : Draft) → HasAnswers 65535 rs draft → AllByRecursion WellFormed later → length (answers_message (rs ++ later)) ≤ 65535 → (after : Draft) × HasAnswers 65535 (rs ++ later) after
+built_after rs [] draft has are short = (draft, subst (λ (l : List RecordValue). HasAnswers 65535 l draft) (sym (append-nil rs)) has)
 built_after rs (r ∷ later) draft has are short =
     let whole : (rs ++ r ∷ []) ++ later ≡ rs ++ r ∷ later = append_assoc rs (r ∷ []) later in
     let few : length (answers_message ((rs ++ r ∷ []) ++ later)) ≤ 65535 = subst (λ (l : List RecordValue). length (answers_message l) ≤ 65535) (sym whole) short in
     let room : 12 + length draft.contents + length (built r draft.contents draft.places).0 ≤ 65535 = omega (arith, few, message_grows (rs ++ r ∷ []) later, message_more rs r draft.contents draft.places has.octets) in
-    let all = built_after (rs ++ r ∷ []) later (pushed 1 (built r) draft) (one_more rs r draft has are.0 room) are.1 few in
-    (all.0, subst (λ (l : List RecordValue). HasAnswers l all.0) whole all.1)
+    let all = built_after (rs ++ r ∷ []) later (pushed 1 (built r) draft) (one_more 65535 rs r draft has are.0 room) are.1 few in
+    (all.0, subst (λ (l : List RecordValue). HasAnswers 65535 l all.0) whole all.1)
 
 -- a message of few octets that has records as answers is read as them
 answers_read : (rs : List RecordValue) → AllByRecursion WellFormed rs → length (answers_message rs) ≤ 65535 → (ss : List RecordValue) × Valid (answers_message rs) ss × (map lowercase_names ss ≡ map lowercase_names rs)
 answers_read rs are short =
     let empty : Draft = record { header = answers_header 0; contents = []; size = 65535; places = [] } in
-    let all = built_after [] rs empty (no_answers empty 0 0 refl refl refl refl refl refl) are short in
+    let all = built_after [] rs empty (no_answers 65535 empty 0 0 (omega arith) (omega arith) refl refl refl refl refl refl) are short in
     let has = all.1 in
-    (records_among has.items, (has.items, length all.0.contents, ap message_reading (sym (message_is rs all.0 has)) ∙ has.read, refl), has.alike)
+    (records_among has.items, (has.items, length all.0.contents, ap message_reading (sym (message_is 65535 rs all.0 has)) ∙ has.read, refl), has.alike)
 
 -- ---- the least records
 

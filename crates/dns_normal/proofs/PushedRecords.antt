@@ -76,10 +76,10 @@ module _ {N : Type 0} (name : N → List (List ℕ)) where
   abbrev pub fits_record : Record N (RecordData N) → List ℕ → List ℕ → Type 0
   fits_record = record_fits_in (λ _ _ _. ⊤) writes_name (λ v. fields_fit (λ _ _ _. ⊤) writes_name (data_fields v)) (λ v. fields_write writes_name (data_fields v))
 
-  pub push_leaves : {A : Type 0} (rs : List RecordValue) (r : RecordValue) (x : Record N (RecordData N)) (draft after : Draft) (result : Result A MessageBuildError) → HasAnswers rs draft → WellFormed r → seen x ≡ r
-      → PushResults 1 (fits_record x) (writes_record x) draft result → OnOk result (after ≡ pushed 1 (writes_record x) draft) → HasAnswersIfFew (rs ++ r ∷ []) after result
-  push_leaves rs r x draft after result has well is answers leaves =
-      pushed_more rs r draft after (fits_record x) (writes_record x) result has well (record_writes_built x r is) (record_fits_room x r is well draft.contents draft.places) answers leaves
+  pub push_leaves : {A : Type 0} (most : ℕ) (rs : List RecordValue) (r : RecordValue) (x : Record N (RecordData N)) (draft after : Draft) (result : Result A MessageBuildError) → HasAnswers most rs draft → WellFormed r → seen x ≡ r
+      → PushResults 1 (fits_record x) (writes_record x) draft result → OnOk result (after ≡ pushed 1 (writes_record x) draft) → HasAnswersIfFew most (rs ++ r ∷ []) after result
+  push_leaves most rs r x draft after result has well is answers leaves =
+      pushed_more most rs r draft after (fits_record x) (writes_record x) result has well (record_writes_built x r is) (record_fits_room x r is well draft.contents draft.places) answers leaves
 
   -- ---- what is read from canonical octets
 

@@ -44,8 +44,8 @@ module _ {X : Type 0} (vs : List X) (f : X → List ℕ) (rs : List RecordValue)
   all_taken i past = ap (map lowercase_names) (take_all i rs (omega (arith, past, as_many)))
 
 -- records that are too many octets are so with others after them
-pub too_many : (rs : List RecordValue) (i : ℕ) (octets : List ℕ) (at : RecordIn rs i octets) → 65535 < length (answers_message (map lowercase_names (take i rs) ++ lowercase_names at.found ∷ [])) → 65535 < length (answers_message (map lowercase_names rs))
-too_many rs i octets at over =
+pub too_many : (most : ℕ) (rs : List RecordValue) (i : ℕ) (octets : List ℕ) (at : RecordIn rs i octets) → most < length (answers_message (map lowercase_names (take i rs) ++ lowercase_names at.found ∷ [])) → most < length (answers_message (map lowercase_names rs))
+too_many most rs i octets at over =
     let before = map lowercase_names (take i rs) ++ lowercase_names at.found ∷ [] in
     let later = map lowercase_names (drop (i + 1) rs) in
     omega (arith, over, message_grows before later, ap (λ (l : List RecordValue). length (answers_message l)) at.all)

@@ -1,5 +1,5 @@
 -- A message in which records are built as answers.
-use Rattle.std.specs.Prelude.{◌≡◌, ◌+◌, ◌*◌, ◌<◌, ◌≤◌, List, [], length, map, Result, Ok, Err}
+use Rattle.std.specs.Prelude.{◌≡◌, ℕ, ◌∷◌, ◌+◌, ◌*◌, ◌<◌, ◌≤◌, List, [], length, map, Result, Ok, Err}
 use Rattle.std.specs.List.{AllByRecursion}
 use Rattle.dns_wire.specs.Octets.{Octets}
 use Rattle.dns_wire.specs.Compression.{FitsIn}
@@ -30,12 +30,18 @@ IsRecordOf octets = (r : RecordValue) × WellFormed r × (canonical_wire r ≡ o
 
 -- ---- records as answers
 
--- The records are the answers in a buffer of 65,535 octets, and nothing else is in it: their octets are those that are built one after
+-- how many octets the lists have
+abbrev pub octets_among : List Octets → ℕ
+octets_among [] = 0
+octets_among (octets ∷ lists) = length octets + octets_among lists
+
+-- The records are the answers in a buffer of so many octets, and nothing else is in it: their octets are those that are built one after
 -- another, and the message is read whole as them, except for ASCII case where it does not count.
-pub record HasAnswers (rs : List RecordValue) (draft : Draft) : Type 0 where
+pub record HasAnswers (most : ℕ) (rs : List RecordValue) (draft : Draft) : Type 0 where
   pub header : draft.header ≡ answers_header (length rs)
-  pub size : draft.size ≡ MAX_MESSAGE_SIZE
-  pub room : HEADER_SIZE + length draft.contents ≤ MAX_MESSAGE_SIZE
+  pub size : draft.size ≡ most
+  pub limit : most ≤ MAX_MESSAGE_SIZE
+  pub room : HEADER_SIZE + length draft.contents ≤ most
   pub few : 10 * length rs ≤ length draft.contents
   pub octets : list_writes built rs [] [] ≡ (draft.contents, draft.places)
   pub known : FitsIn draft.places draft.contents
@@ -43,7 +49,7 @@ pub record HasAnswers (rs : List RecordValue) (draft : Draft) : Type 0 where
   pub read : message_reading (drafted draft) ≡ Whole items (length draft.contents)
   pub alike : map lowercase_names (records_among items) ≡ map lowercase_names rs
 
--- if they were accepted they are so, and if one was refused they are more octets than a message may have
-abbrev pub HasAnswersIfFew : {A E : Type 0} → List RecordValue → Draft → Result A E → Type 0
-HasAnswersIfFew rs draft (Ok done) = HasAnswers rs draft
-HasAnswersIfFew rs draft (Err error) = MAX_MESSAGE_SIZE < length (answers_message rs)
+-- if they were accepted they are so, and if one was refused they are more octets than the buffer has
+abbrev pub HasAnswersIfFew : {A E : Type 0} → ℕ → List RecordValue → Draft → Result A E → Type 0
+HasAnswersIfFew most rs draft (Ok done) = HasAnswers most rs draft
+HasAnswersIfFew most rs draft (Err error) = most < length (answers_message rs)

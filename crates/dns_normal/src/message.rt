@@ -1,12 +1,12 @@
 //! The normal form of a message.
 
-ghost use Rattle.std.specs.Prelude.{◌≡◌, ◌≤◌, List, ◌++◌, ◌∷◌, [], Option, Some, None, IfOk, IfErr, filter, length, map, vec_len};
+ghost use Rattle.std.specs.Prelude.{◌≡◌, ◌≤◌, ◌+◌, ℕ, min, All, List, ◌++◌, ◌∷◌, [], Option, Some, None, IfOk, IfErr, filter, length, map};
 ghost use Rattle.dns_wire.specs.Hexadecimal.{spelled, trim};
 ghost use Rattle.dns_text.specs.Outcomes.{RefusesFor};
 ghost use Rattle.dns_message.specs.Canonical.{canonical_wire, lowercase_names, is_not_opt};
 ghost use Rattle.dns_message.specs.Messages.{RecordValue, Valid, message_reading};
 ghost use Rattle.dns_message.specs.WellFormed.{WellFormed};
-ghost use Rattle.dns_normal.specs.Answers.{AreRecordsOf, HasAnswers, HasAnswersIfFew, HaveRecords, IsRecordOf};
+ghost use Rattle.dns_normal.specs.Answers.{AreRecordsOf, HasAnswers, HasAnswersIfFew, HaveRecords, IsRecordOf, octets_among};
 ghost use Rattle.dns_normal.specs.Normal.{answers_message, normal_form};
 ghost use Rattle.dns_normal.specs.Texts.{form_refusal, message_refusal, reading_refusal, size_refusal};
 
@@ -19,9 +19,9 @@ use dns_name::Name;
 use dns_num::U16;
 use dns_rdata::RecordData;
 use dns_record::Record;
-use dns_text::{HexError, PrintError, octets_of};
-use dns_wire::{NameCompressor, SplitBytes};
-use std::alloc::{AllocError, Global};
+use dns_text::{HexError, PrintError, octets_of, zeros};
+use dns_wire::{HEADER_SIZE, NameCompressor, SplitBytes};
+use std::alloc::Global;
 
 /// Adds a record as an answer, lowercased: it is read from its canonical octets, for which there is room.
 fn push_record(
@@ -30,9 +30,9 @@ fn push_record(
     octets: &mut [u8],
 ) -> Result<(), MessageBuildError>
     requires record { IsRecordOf (canonical_wire found.now) }
-    requires room { CanonicalRecord.MAX_SIZE ≤ length octets.old }
-    ensures { (rs : List RecordValue) (r : RecordValue) → HasAnswers rs builder.old → WellFormed r → canonical_wire r ≡ canonical_wire found.now
-        → HasAnswersIfFew (rs ++ lowercase_names r ∷ []) builder.new result }
+    requires room { length (canonical_wire found.now) ≤ length octets.old }
+    ensures { (most : ℕ) (rs : List RecordValue) (r : RecordValue) → HasAnswers most rs builder.old → WellFormed r → canonical_wire r ≡ canonical_wire found.now
+        → HasAnswersIfFew most (rs ++ lowercase_names r ∷ []) builder.new result }
 {
     let size = found.size();
     put_canonical(found, octets);
@@ -42,17 +42,16 @@ fn push_record(
     builder.push_answer(&lowercased)
 }
 
-/// Adds the records as answers, lowercased, to a message that has none.
+/// Adds the records as answers, lowercased, to a message that has none. There is room for the canonical octets of each.
 fn push_records(
     builder: &mut MessageBuilder<'_>,
     records: &[&CanonicalRecord<'_>],
     octets: &mut [u8],
 ) -> Result<(), MessageBuildError>
     requires records { HaveRecords (map (λ r. canonical_wire r.now) records.now) }
-    requires room { CanonicalRecord.MAX_SIZE ≤ length octets.old }
-    requires none { HasAnswers [] builder.old }
-    ensures { (rs : List RecordValue) → AreRecordsOf (map (λ r. canonical_wire r.now) records.now) rs
-        → HasAnswersIfFew (map lowercase_names rs) builder.new result }
+    requires room { All (λ r. length (canonical_wire r.now) ≤ length octets.old) records.now }
+    ensures { (most : ℕ) (rs : List RecordValue) → HasAnswers most [] builder.old → AreRecordsOf (map (λ r. canonical_wire r.now) records.now) rs
+        → HasAnswersIfFew most (map lowercase_names rs) builder.new result }
 {
     for found in records {
         push_record(builder, found, octets)?;
@@ -60,17 +59,26 @@ fn push_records(
     Ok(())
 }
 
-/// So many octets 0, by copies of a piece: `vec!` would write them one by one. `AllocError` is out of memory.
-fn zeros(alloc: Global, count: usize) -> Result<Vec<u8>, AllocError>
-    ensures { IfOk result (λ octets. vec_len octets ≡ count) }
+/// The most canonical octets that one of the records has.
+fn largest_size(records: &[&CanonicalRecord<'_>]) -> usize
+    ensures { All (λ r. length (canonical_wire r.now) ≤ result) records.now }
 {
-    let piece = [0u8; 4096];
-    let mut octets = Vec::with_capacity(alloc, count)?;
-    while octets.len() < count {
-        let more = (count - octets.len()).min(piece.len());
-        octets.extend_from_slice(&piece[..more])?;
+    let mut most: usize = 0;
+    for found in records {
+        most = most.max(found.size());
     }
-    Ok(octets)
+    most
+}
+
+/// The octets of a header and the canonical octets of the records, which are enough for the message; but no more than a message may have.
+fn room_for(records: &[&CanonicalRecord<'_>]) -> usize
+    ensures { result ≡ min MAX_MESSAGE_SIZE (HEADER_SIZE + octets_among (map (λ r. canonical_wire r.now) records.now)) }
+{
+    let mut room = HEADER_SIZE;
+    for found in records {
+        room = (room + found.size()).min(MAX_MESSAGE_SIZE);
+    }
+    room
 }
 
 /// The message that has these records as answers, lowercased, with names that are written once.
@@ -86,8 +94,8 @@ fn answers_message(
     ensures refused { (rs : List RecordValue) → AreRecordsOf (map (λ r. canonical_wire r.now) records.now) rs
         → IfErr result (RefusesFor (size_refusal (answers_message (map lowercase_names rs)))) }
 {
-    let mut octets = zeros(alloc, CanonicalRecord::MAX_SIZE)?;
-    let mut buffer = zeros(alloc, MAX_MESSAGE_SIZE)?;
+    let mut octets = zeros(alloc, largest_size(records))?;
+    let mut buffer = zeros(alloc, room_for(records))?;
     let mut compressor = NameCompressor::new();
     let (id, flags) = (U16::new(0), HeaderFlags::from_bits(0));
     let mut builder = MessageBuilder::new(&mut buffer, &mut compressor, id, flags);

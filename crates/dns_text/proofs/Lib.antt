@@ -1,7 +1,9 @@
 -- The crate's own lemmas.
 pub mod Decoding
-mod DigitTable
+mod DigitBlocks
 pub mod Encoding
+mod Lanes
+mod ShownBlocks
 pub mod Transfers
 mod Trimming
 pub mod WordLemmas

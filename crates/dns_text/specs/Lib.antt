@@ -1,4 +1,5 @@
 -- What the contracts of whole texts cite.
+pub mod Digits
 pub mod Endings
 pub mod Notes
 pub mod Outcomes

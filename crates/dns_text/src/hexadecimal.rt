@@ -1,10 +1,12 @@
 //! Octets as hexadecimal text (RFC 4648 section 8).
 
-ghost use Rattle.std.specs.Prelude.{◌≡◌, IfOk, IsErrOf};
+ghost use Rattle.std.specs.Prelude.{◌≡◌, ◌+◌, ◌*◌, length, IfOk, IsErrOf};
 ghost use Rattle.dns_wire.specs.Hexadecimal.{Spells, SpellsNothing, line, trim, is_whitespace};
 
-use crate::digit_pairs::put_octets;
+use crate::buffer::zeros;
 use crate::error::HexError;
+use crate::read_digits::put_octets;
+use crate::write_digits::put_digits;
 use std::alloc::{AllocError, Global};
 
 /// Whether an octet is a space, a tab, CR or LF.
@@ -34,7 +36,7 @@ pub fn octets_of(alloc: Global, text: &[u8]) -> Result<Vec<u8>, HexError>
     if digits.len() % 2 == 1 {
         return Err(HexError::BadHex);
     }
-    let mut octets = vec![in alloc; 0; digits.len() / 2]?;
+    let mut octets = zeros(alloc, digits.len() / 2)?;
     if put_octets(digits, &mut octets) {
         Ok(octets)
     } else {
@@ -42,11 +44,21 @@ pub fn octets_of(alloc: Global, text: &[u8]) -> Result<Vec<u8>, HexError>
     }
 }
 
+/// Puts the digits of octets in lowercase, and LF, into the text.
+fn put_hex_line(octets: &[u8], text: &mut [u8])
+    requires { length text.old ≡ 2 * length octets.now + 1 }
+    ensures { text.new ≡ line octets.now }
+{
+    let end = 2 * octets.len();
+    put_digits(octets, &mut text[..end]);
+    text[end] = b'\n';
+}
+
 /// The digits of octets in lowercase, and LF.
 pub fn hex_line(alloc: Global, octets: &[u8]) -> Result<Vec<u8>, AllocError>
     ensures { IfOk result (λ text. text.items ≡ line octets.now) }
 {
-    let digits = hex::encode(alloc, octets)?;
-    let text = format!(in alloc; "{}\n", digits)?;
-    Ok(text.into_bytes())
+    let mut text = zeros(alloc, 2 * octets.len() + 1)?;
+    put_hex_line(octets, &mut text);
+    Ok(text)
 }

@@ -1,22 +1,22 @@
 -- How far two lists of octets agree.
 use lib.Count.{count_trailing_zeros}
-use lib.Seq.{take-add}
-use Rattle.std.proofs.Common.{nat_eq, get_or, w8, length-take-le, length-drop, take_all, ◌≡◌, ◌≤◌, ◌+◌, ◌-◌, ◌<◌, ◌%◌, ◌⊎◌, ℕ, Bool, true, false, List, [], ◌∷◌, ◌++◌, length, take, drop, map, reverse, suc, not, cond, eqb, refl, sym, ap, ◌∙◌, arith, inl, inr, nat_cmp}
+use Rattle.std.proofs.Common.{nat_eq, get_or, w8, Fits, zero, min, ◌&&◌, replicate, length-take-le, length-drop, take_all, ◌≡◌, ◌≤◌, ◌+◌, ◌-◌, ◌<◌, ◌%◌, ◌⊎◌, ℕ, Bool, true, false, List, [], ◌∷◌, ◌++◌, length, take, drop, map, reverse, suc, not, cond, eqb, refl, sym, ap, ◌∙◌, arith, inl, inr, nat_cmp}
 use Rattle.std.specs.Char.{to_ascii_lowercase, eq_ignore_ascii_case}
 use Rattle.std.specs.Cmp.Lexicographic.{slice_cmp}
 use Rattle.std.specs.List.{prefix_len}
 use Rattle.std.specs.Str.{str_to_ascii_lowercase}
 use Rattle.std.specs.Simd.Lanes.{zip2, mask_l, top}
+use lib.Lanes.{sel_l, Each1}
 use Rattle.std.specs.Ordering.{ordering_then}
 use Rattle.std.specs.declared.cmp.Ordering.{Ordering}
 use Rattle.std.specs.declared.cmp.Ordering.TheVariants.{Less, Equal, Greater}
-use Rattle.std.proofs.lemmas.Bool.{eq-eqb, ne_eqb, eqb-true, eqb-false, cases_order}
+use Rattle.std.proofs.lemmas.Bool.{eq-eqb, ne_eqb, eqb-true, eqb-false, cases_order, and_parts}
 use Rattle.std.proofs.lemmas.Bool.Decides.{nat_tests}
-use Rattle.std.proofs.lemmas.List.{get_or-reverse, get_or-take, reverse-append, reverse-reverse, map-append, length-map, length-reverse, append_assoc, take_at, drop_at, take-append-drop, take-take, map-id}
-use Rattle.std.proofs.lemmas.List.Sums.{prefix_len-le-length, common_prefix_len-drop_no}
+use Rattle.std.proofs.lemmas.List.{get_or-reverse, get_or-take, reverse-append, reverse-reverse, map-append, length-map, length-reverse, append_assoc, take_at, drop_at, take-append-drop, map-id}
+use Rattle.std.proofs.lemmas.List.Sums.{common_prefix_len-drop_no}
 use Rattle.std.proofs.lemmas.Slice.Eq.{bytes_eq-Decides}
 use Rattle.std.specs.Cmp.Lexicographic.{pointwise}
-use Rattle.std.proofs.lemmas.Simd.{tops_compared, mask_l-mod, first_set_mask_l, length-zip2}
+use Rattle.std.proofs.lemmas.Simd.{tops_compared, mask_l-mod, first_set_mask_l, length-zip2, zip2_splat, map-map}
 use Rattle.dns_wire.specs.Agreement.{agreeing_prefix, agreeing_end, EndAlike}
 
 -- ---- octets that are equal are passed over
@@ -27,13 +27,6 @@ letter_same x = eq-eqb (to_ascii_lowercase x) (to_ascii_lowercase x) refl
 prefix_same : (p xs ys : List ℕ) → agreeing_prefix (p ++ xs) (p ++ ys) ≡ length p + agreeing_prefix xs ys
 prefix_same [] xs ys = omega arith
 prefix_same (x ∷ p) xs ys = ap (λ s. cond s (1 + agreeing_prefix (p ++ xs) (p ++ ys)) 0) (letter_same x) ∙ omega (arith, prefix_same p xs ys)
-
-pub prefix_from : (n : ℕ) (xs ys : List ℕ) → n ≤ length xs → take n xs ≡ take n ys → agreeing_prefix xs ys ≡ n + agreeing_prefix (drop n xs) (drop n ys)
-prefix_from n xs ys within same =
-    ap (λ l. agreeing_prefix l ys) (sym (take-append-drop n xs))
-    ∙ ap (λ l. agreeing_prefix (take n xs ++ drop n xs) l) (sym (take-append-drop n ys) ∙ ap (λ l. l ++ drop n ys) (sym same))
-    ∙ prefix_same (take n xs) (drop n xs) (drop n ys)
-    ∙ ap (λ k. k + agreeing_prefix (drop n xs) (drop n ys)) (length-take-le n xs within)
 
 end_same : (xs ys p : List ℕ) → agreeing_end (xs ++ p) (ys ++ p) ≡ length p + agreeing_end xs ys
 end_same xs ys p =
@@ -55,7 +48,7 @@ abbrev differ : ℕ → ℕ → Bool
 differ a b = not (eqb a b)
 
 -- the mask of the lanes that differ
-abbrev differing : List ℕ → List ℕ → ℕ
+abbrev pub differing : List ℕ → List ℕ → ℕ
 differing xs ys = mask_l (map (top 7) (zip2 (λ a b. cond (differ a b) 255 0) xs ys)) % 18446744073709551616
 
 mask_differing : (xs ys : List ℕ) → length xs ≡ 16 → length ys ≡ 16 → differing xs ys ≡ mask_l (map (λ b. b) (zip2 differ xs ys))
@@ -63,52 +56,141 @@ mask_differing xs ys long short =
     ap (λ ms. mask_l ms % 18446744073709551616) (tops_compared w8 differ xs ys ∙ sym (map-id (zip2 differ xs ys)))
     ∙ mask_l-mod (map (λ b. b) (zip2 differ xs ys)) 64 (omega (arith, length-map (zip2 differ xs ys) (λ b. b), length-zip2 differ xs ys (long ∙ sym short), long))
 
--- that many lanes before the first that differ are the same
+-- how many lanes are before the first that differ
 abbrev lanes : List ℕ → List ℕ → ℕ
 lanes xs ys = prefix_len (λ (x : Bool). not x) (zip2 differ xs ys)
-
-same_lanes : (xs ys : List ℕ) → take (lanes xs ys) xs ≡ take (lanes xs ys) ys
-same_lanes [] [] = refl
-same_lanes [] (y ∷ ys) = refl
-same_lanes (x ∷ xs) [] = refl
-same_lanes (x ∷ xs) (y ∷ ys) = step (eqb x y) refl (same_lanes xs ys) where
-  step : (s : Bool) → eqb x y ≡ s → take (lanes xs ys) xs ≡ take (lanes xs ys) ys → take (cond (not (not s)) (1 + lanes xs ys) 0) (x ∷ xs) ≡ take (cond (not (not s)) (1 + lanes xs ys) 0) (y ∷ ys)
-  step true e same =
-      let more : 1 + lanes xs ys ≡ suc (lanes xs ys) = omega arith in
-      rw (more, eqb-true x y e, same) refl
-  step false e same = refl
 
 counted : (xs ys : List ℕ) → length xs ≡ 16 → length ys ≡ 16 → cond (eqb (differing xs ys) 0) 16 (count_trailing_zeros 64 (differing xs ys)) ≡ lanes xs ys
 counted xs ys long short =
     ap (λ m. cond (eqb m 0) 16 (count_trailing_zeros 64 m)) (mask_differing xs ys long short)
     ∙ first_set_mask_l (λ (b : Bool). b) (zip2 differ xs ys) 16 (length-zip2 differ xs ys (long ∙ sym short) ∙ long) (omega arith)
 
--- if no lane differs, all are the same
-pub none_differ : (xs ys : List ℕ) → length xs ≡ 16 → length ys ≡ 16 → differing xs ys ≡ 0 → xs ≡ ys
+not_twice : (b : Bool) → not (not b) ≡ b
+not_twice true = refl
+not_twice false = refl
+
+-- the lanes of octets in lowercase that are the same are the octets that agree
+lowercase_lanes : (xs ys : List ℕ) → lanes (str_to_ascii_lowercase xs) (str_to_ascii_lowercase ys) ≡ agreeing_prefix xs ys
+lowercase_lanes [] ys = empty ys where
+  empty : (ys : List ℕ) → lanes [] (str_to_ascii_lowercase ys) ≡ agreeing_prefix [] ys
+  empty [] = refl
+  empty (y ∷ ys) = refl
+lowercase_lanes (x ∷ xs) [] = refl
+lowercase_lanes (x ∷ xs) (y ∷ ys) =
+    ap (λ b. cond b (1 + lanes (str_to_ascii_lowercase xs) (str_to_ascii_lowercase ys)) 0) (not_twice (eq_ignore_ascii_case x y))
+    ∙ ap (λ n. cond (eq_ignore_ascii_case x y) (1 + n) 0) (lowercase_lanes xs ys)
+
+low_long : (xs : List ℕ) → length xs ≡ 16 → length (str_to_ascii_lowercase xs) ≡ 16
+low_long xs long = length-map xs to_ascii_lowercase ∙ long
+
+-- if no lane of octets in lowercase differs, all agree
+pub none_differ : (xs ys : List ℕ) → length xs ≡ 16 → length ys ≡ 16 → differing (str_to_ascii_lowercase xs) (str_to_ascii_lowercase ys) ≡ 0 → 16 ≡ agreeing_prefix xs ys
 none_differ xs ys long short none =
-    let all : lanes xs ys ≡ 16 = sym (counted xs ys long short) ∙ ap (λ s. cond s 16 (count_trailing_zeros 64 (differing xs ys))) (eq-eqb (differing xs ys) 0 none) in
-    sym (take_all 16 xs (omega (arith, long))) ∙ ap (λ n. take n xs) (sym all) ∙ same_lanes xs ys ∙ ap (λ n. take n ys) all ∙ take_all 16 ys (omega (arith, short))
+    sym (ap (λ s. cond s 16 (count_trailing_zeros 64 (differing (str_to_ascii_lowercase xs) (str_to_ascii_lowercase ys)))) (eq-eqb _ 0 none))
+    ∙ counted (str_to_ascii_lowercase xs) (str_to_ascii_lowercase ys) (low_long xs long) (low_long ys short) ∙ lowercase_lanes xs ys
 
 -- those before the first lane that differs
-pub some_differ : (xs ys : List ℕ) → length xs ≡ 16 → length ys ≡ 16 → (differing xs ys ≡ 0 → ⊥) → (count_trailing_zeros 64 (differing xs ys) ≤ 16) × (take (count_trailing_zeros 64 (differing xs ys)) xs ≡ take (count_trailing_zeros 64 (differing xs ys)) ys)
+pub some_differ : (xs ys : List ℕ) → length xs ≡ 16 → length ys ≡ 16 → (differing (str_to_ascii_lowercase xs) (str_to_ascii_lowercase ys) ≡ 0 → ⊥) → count_trailing_zeros 64 (differing (str_to_ascii_lowercase xs) (str_to_ascii_lowercase ys)) ≡ agreeing_prefix xs ys
 some_differ xs ys long short some =
-    let count : count_trailing_zeros 64 (differing xs ys) ≡ lanes xs ys = sym (ap (λ s. cond s 16 (count_trailing_zeros 64 (differing xs ys))) (ne_eqb (differing xs ys) 0 some)) ∙ counted xs ys long short in
-    let small : count_trailing_zeros 64 (differing xs ys) ≤ 16 = rw (count) few in
-    let same : take (count_trailing_zeros 64 (differing xs ys)) xs ≡ take (count_trailing_zeros 64 (differing xs ys)) ys = rw (count) (same_lanes xs ys) in
-    (small, same) where
-      few : lanes xs ys ≤ 16
-      few = omega (arith, prefix_len-le-length (λ (x : Bool). not x) (zip2 differ xs ys), length-zip2 differ xs ys (long ∙ sym short), long)
+    sym (ap (λ s. cond s 16 (count_trailing_zeros 64 (differing (str_to_ascii_lowercase xs) (str_to_ascii_lowercase ys)))) (ne_eqb _ 0 some))
+    ∙ counted (str_to_ascii_lowercase xs) (str_to_ascii_lowercase ys) (low_long xs long) (low_long ys short) ∙ lowercase_lanes xs ys
+
+whole_prefix : (xs : List ℕ) → agreeing_prefix xs xs ≡ length xs
+whole_prefix [] = refl
+whole_prefix (x ∷ xs) = ap (λ s. cond s (1 + agreeing_prefix xs xs) 0) (letter_same x) ∙ omega (arith, whole_prefix xs)
+
+-- if no lane of the octets as they are differs, all agree
+pub all_same : (xs ys : List ℕ) → length xs ≡ 16 → length ys ≡ 16 → differing xs ys ≡ 0 → 16 ≡ agreeing_prefix xs ys
+all_same xs ys long short none =
+    let all : lanes xs ys ≡ 16 = sym (counted xs ys long short) ∙ ap (λ s. cond s 16 (count_trailing_zeros 64 (differing xs ys))) (eq-eqb (differing xs ys) 0 none) in
+    sym long ∙ sym (whole_prefix xs) ∙ ap (agreeing_prefix xs) (sym (take_all 16 xs (omega (arith, long))) ∙ ap (λ n. take n xs) (sym all) ∙ same_lanes xs ys ∙ ap (λ n. take n ys) all ∙ take_all 16 ys (omega (arith, short)))
+  where
+    same_lanes : (xs ys : List ℕ) → take (lanes xs ys) xs ≡ take (lanes xs ys) ys
+    same_lanes [] [] = refl
+    same_lanes [] (y ∷ ys) = refl
+    same_lanes (x ∷ xs) [] = refl
+    same_lanes (x ∷ xs) (y ∷ ys) = step (eqb x y) refl (same_lanes xs ys) where
+      step : (s : Bool) → eqb x y ≡ s → take (lanes xs ys) xs ≡ take (lanes xs ys) ys → take (cond (not (not s)) (1 + lanes xs ys) 0) (x ∷ xs) ≡ take (cond (not (not s)) (1 + lanes xs ys) 0) (y ∷ ys)
+      step true e same =
+          let more : 1 + lanes xs ys ≡ suc (lanes xs ys) = omega arith in
+          rw (more, eqb-true x y e, same) refl
+      step false e same = refl
+
+-- ---- sixteen octets in lowercase
+
+abbrev upto : (ℕ → Bool) → ℕ → Bool
+upto p zero = true
+upto p (suc n) = p n && upto p n
+
+upto_sound : (p : ℕ → Bool) (n : ℕ) → upto p n ≡ true → (i : ℕ) → i < n → p i ≡ true
+upto_sound p zero h i lt = absurd (omega (arith, lt))
+upto_sound p (suc n) h i lt = elim (cases_order i n) [
+  | inl e ↦ ap p e ∙ (and_parts (p n) (upto p n) h).0
+  | inr (inl l) ↦ upto_sound p n (and_parts (p n) (upto p n) h).1 i l
+  | inr (inr g) ↦ absurd (omega (arith, lt, g))
+]
+
+-- what is computed of each lane is its octet in lowercase, if that is so of each of the 256 octets
+each_octet : (f : ℕ → ℕ) (xs : List ℕ) → upto (λ x. eqb (f x) (to_ascii_lowercase x)) 256 ≡ true → Each1 (Fits w8) xs → map f xs ≡ str_to_ascii_lowercase xs
+each_octet f [] all fits = refl
+each_octet f (x ∷ xs) all fits = ap (λ o. o ∷ map f xs) (eqb-true (f x) (to_ascii_lowercase x) (upto_sound (λ y. eqb (f y) (to_ascii_lowercase y)) 256 all x fits.0.fits)) ∙ ap (λ l. to_ascii_lowercase x ∷ l) (each_octet f xs all fits.1)
+
+chosen : (p : ℕ → Bool) (f : ℕ → ℕ) (xs : List ℕ) → sel_l (map p xs) (map f xs) xs ≡ map (λ x. cond (p x) (f x) x) xs
+chosen p f [] = refl
+chosen p f (x ∷ xs) = ap (λ l. cond (p x) (f x) x ∷ l) (chosen p f xs)
+
+pub lowercase_chosen : (less sub add : ℕ → ℕ → ℕ) (xs : List ℕ) → length xs ≡ 16 → Each1 (Fits w8) xs → upto (λ x. eqb (cond (top 7 (less (sub x 65) 26)) (add x 32) x) (to_ascii_lowercase x)) 256 ≡ true
+    → sel_l (map (top 7) (zip2 less (zip2 sub xs (replicate 16 65)) (replicate 16 26))) (zip2 add xs (replicate 16 32)) xs ≡ str_to_ascii_lowercase xs
+lowercase_chosen less sub add xs long fits all =
+    let from_a = zip2_splat sub xs 16 65 long in
+    let capital = ap (λ l. zip2 less l (replicate 16 26)) from_a ∙ zip2_splat less (map (λ x. sub x 65) xs) 16 26 (length-map xs (λ x. sub x 65) ∙ long) ∙ map-map (λ x. less x 26) (λ x. sub x 65) xs in
+    ap (λ ms. sel_l (map (top 7) ms) (zip2 add xs (replicate 16 32)) xs) capital
+    ∙ ap (λ ms. sel_l ms (zip2 add xs (replicate 16 32)) xs) (map-map (top 7) (λ x. less (sub x 65) 26) xs)
+    ∙ ap (λ l. sel_l (map (λ x. top 7 (less (sub x 65) 26)) xs) l xs) (zip2_splat add xs 16 32 long)
+    ∙ chosen (λ x. top 7 (less (sub x 65) 26)) (λ x. add x 32) xs
+    ∙ each_octet (λ x. cond (top 7 (less (sub x 65) 26)) (add x 32) x) xs all fits
 
 -- ---- one block after another
-
-pub block_same : (m n : ℕ) (xs ys : List ℕ) → take m xs ≡ take m ys → take n (drop m xs) ≡ take n (drop m ys) → take (m + n) xs ≡ take (m + n) ys
-block_same m n xs ys e d = take-add m n xs ∙ ap (λ l. l ++ take n (drop m xs)) e ∙ ap (λ l. take m ys ++ l) d ∙ sym (take-add m n ys)
 
 pub block_of : (at : ℕ) (xs : List ℕ) → at + 16 ≤ length xs → length (take 16 (drop at xs)) ≡ 16
 block_of at xs within = length-take-le 16 (drop at xs) (omega (arith, length-drop at xs))
 
-pub some_in_block : (at : ℕ) (xs ys : List ℕ) (n : ℕ) → (n ≤ 16) × (take n (take 16 (drop at xs)) ≡ take n (take 16 (drop at ys))) → take n (drop at xs) ≡ take n (drop at ys)
-some_in_block at xs ys n (few, same) = sym (take-take n 16 (drop at xs) few) ∙ same ∙ take-take n 16 (drop at ys) few
+-- a block agrees as far as the octets from there on do, and no farther than it reaches
+pub block_agrees : (k : ℕ) (xs ys : List ℕ) → agreeing_prefix (take k xs) (take k ys) ≡ min k (agreeing_prefix xs ys)
+block_agrees zero xs ys = omega arith
+block_agrees (suc k) [] ys = none ys where
+  none : (ys : List ℕ) → agreeing_prefix [] (take (suc k) ys) ≡ min (suc k) (agreeing_prefix [] ys)
+  none [] = omega arith
+  none (y ∷ ys) = omega arith
+block_agrees (suc k) (x ∷ xs) [] = omega arith
+block_agrees (suc k) (x ∷ xs) (y ∷ ys) = step (eq_ignore_ascii_case x y) (block_agrees k xs ys) where
+  step : (s : Bool) → agreeing_prefix (take k xs) (take k ys) ≡ min k (agreeing_prefix xs ys) → cond s (1 + agreeing_prefix (take k xs) (take k ys)) 0 ≡ min (suc k) (cond s (1 + agreeing_prefix xs ys) 0)
+  step true e = ap (λ n. 1 + n) e ∙ omega arith
+  step false e = omega arith
+
+pub agrees_from : (n : ℕ) (xs ys : List ℕ) → n ≤ agreeing_prefix xs ys → agreeing_prefix xs ys ≡ n + agreeing_prefix (drop n xs) (drop n ys)
+agrees_from zero xs ys within = omega arith
+agrees_from (suc n) [] ys within = absurd (past ys within) where
+  past : (ys : List ℕ) → suc n ≤ agreeing_prefix [] ys → ⊥
+  past [] h = omega (arith, h)
+  past (y ∷ ys) h = omega (arith, h)
+agrees_from (suc n) (x ∷ xs) [] within = absurd (omega (arith, within))
+agrees_from (suc n) (x ∷ xs) (y ∷ ys) within = step (eq_ignore_ascii_case x y) within (agrees_from n xs ys) where
+  step : (s : Bool) → suc n ≤ cond s (1 + agreeing_prefix xs ys) 0 → (n ≤ agreeing_prefix xs ys → agreeing_prefix xs ys ≡ n + agreeing_prefix (drop n xs) (drop n ys)) → cond s (1 + agreeing_prefix xs ys) 0 ≡ suc n + agreeing_prefix (drop n xs) (drop n ys)
+  step true h rest = let less : n ≤ agreeing_prefix xs ys = omega (arith, h) in omega (arith, rest less)
+  step false h rest = absurd (omega (arith, h))
+
+-- no more octets agree than either has
+pub agreed_most : (xs ys : List ℕ) → agreeing_prefix xs ys ≤ min (length xs) (length ys)
+agreed_most [] ys = none ys where
+  none : (ys : List ℕ) → agreeing_prefix [] ys ≤ min 0 (length ys)
+  none [] = omega arith
+  none (y ∷ ys) = omega arith
+agreed_most (x ∷ xs) [] = omega arith
+agreed_most (x ∷ xs) (y ∷ ys) = step (eq_ignore_ascii_case x y) (agreed_most xs ys) where
+  step : (s : Bool) → agreeing_prefix xs ys ≤ min (length xs) (length ys) → cond s (1 + agreeing_prefix xs ys) 0 ≤ min (length (x ∷ xs)) (length (y ∷ ys))
+  step true h = omega (arith, h)
+  step false h = omega arith
 
 -- ---- eight octets at once, from the last back
 

@@ -7,6 +7,7 @@ pub mod Cells
 pub mod Cutting
 pub mod HexadecimalLemmas
 pub mod Following
+pub mod LabelEnds
 pub mod Lent
 pub mod Listed
 pub mod Longest

@@ -1,13 +1,13 @@
 -- Names and places gone over label by label: the first label of a name, whether it is the name at a place, and how many labels
 -- are read there.
-use Rattle.std.proofs.Common.{◌≡◌, ℕ, zero, suc, pred, ◌+◌, ◌-◌, ◌<◌, ◌≤◌, Bool, true, false, List, [], ◌∷◌, ◌++◌, length, get_or, take, drop, Option, Some, None, refl, sym, ap, ◌∙◌, arith, add-zero}
-use Rattle.std.specs.Prelude.{map, IsTrue, ◌↔◌, ◌&&◌, not, MatchOption, nat_le, if◌then◌else◌}
+use Rattle.std.proofs.Common.{◌≡◌, ℕ, zero, suc, pred, ◌+◌, ◌-◌, ◌<◌, ◌≤◌, Bool, true, false, List, [], ◌∷◌, ◌++◌, length, get_or, take, take_all, drop, Option, Some, None, refl, sym, ap, ◌∙◌, arith, add-zero}
+use Rattle.std.specs.Prelude.{map, ◌&&◌, not, MatchOption, nat_le, if◌then◌else◌}
 use Rattle.std.specs.Option.{is_some}
 use Rattle.std.specs.Char.{to_ascii_lowercase}
 use Rattle.std.specs.Str.{str_eq_ignore_ascii_case}
 use Rattle.std.specs.Cmp.Lexicographic.{bytes_decides}
 use Rattle.std.proofs.lemmas.Bool.{le-leb, lt-leb}
-use Rattle.std.proofs.lemmas.List.{length-append, length-take, length-drop, take-append-drop}
+use Rattle.std.proofs.lemmas.List.{length-append, length-take, length-drop, length-map, map_more, get_or-map, take-append-drop}
 use Rattle.std.proofs.Math.Seq.{drop-cons}
 use Rattle.dns_wire.specs.Reading.{all_of}
 use Rattle.dns_wire.specs.declared.name_cursor.LabelType.{LabelType}
@@ -31,7 +31,8 @@ first_of_name name label rest is some label_is rest_is =
     let body : drop 1 name ≡ take (get_or name 0 0) (drop 1 name) ++ drop (get_or name 0 0) (drop 1 name) = sym (take-append-drop (get_or name 0 0) (drop 1 name)) in
     let parts : name ≡ length (take (get_or name 0 0) (drop 1 name)) ∷ (take (get_or name 0 0) (drop 1 name) ++ drop (get_or name 0 0) (drop 1 name)) =
     label_type ∙ ap (λ (l : List ℕ). get_or name 0 0 ∷ l) body ∙ ap (λ (n : ℕ). n ∷ (take (get_or name 0 0) (drop 1 name) ++ drop (get_or name 0 0) (drop 1 name))) (sym long) in
-    rw (label_is, rest_is) (record { labels = first.labels; whole = first.whole; parts = parts })
+    let sizes : IsLabel (take (get_or name 0 0) (drop 1 name)) = (rw first.labels at (name_octets name (name_labels name) is).0.sizes).0 in
+    rw (label_is, rest_is) (record { labels = first.labels; whole = first.whole; parts = parts; is_label = sizes })
 
 -- ---- label by label
 
@@ -129,13 +130,31 @@ octets_after contents at size next e =
     let prefix : next - size ≡ at + 1 = omega arith in
     rw (long, prefix) refl
 
--- the test of two labels is the test of the definition
-pub same_text : (a b : List ℕ) (r : Bool) → IsTrue r ↔ (map to_ascii_lowercase a ≡ map to_ascii_lowercase b) → str_eq_ignore_ascii_case a b ≡ r
-same_text a b true h = (bytes_decides (map to_ascii_lowercase a) (map to_ascii_lowercase b)).1 (h.0 refl)
-same_text a b false h = by (str_eq_ignore_ascii_case a b) refl where
+-- ---- two labels, octet by octet
+
+abbrev lowercase : List ℕ → List ℕ
+lowercase = map to_ascii_lowercase
+
+unequal : (a b : List ℕ) → (lowercase a ≡ lowercase b → ⊥) → str_eq_ignore_ascii_case a b ≡ false
+unequal a b differ = by (str_eq_ignore_ascii_case a b) refl where
   by : (t : Bool) → str_eq_ignore_ascii_case a b ≡ t → str_eq_ignore_ascii_case a b ≡ false
-  by true e = absurd (let t : IsTrue false = h.1 ((bytes_decides (map to_ascii_lowercase a) (map to_ascii_lowercase b)).0 e) in cc)
+  by true e = absurd (differ ((bytes_decides (lowercase a) (lowercase b)).0 e))
   by false e = e
+
+pub other_size : (a b : List ℕ) → (length a ≡ length b → ⊥) → false ≡ str_eq_ignore_ascii_case a b
+other_size a b differ = sym (unequal a b (λ e. differ (sym (length-map a to_ascii_lowercase) ∙ ap length e ∙ length-map b to_ascii_lowercase)))
+
+pub other_octet : (a b : List ℕ) (at : ℕ) → length a ≡ length b → at < length a → (to_ascii_lowercase (get_or a at 0) ≡ to_ascii_lowercase (get_or b at 0) → ⊥) → false ≡ str_eq_ignore_ascii_case a b
+other_octet a b at long within differ =
+    sym (unequal a b (λ e. differ (sym (get_or-map to_ascii_lowercase a at 0 0 within) ∙ ap (λ (l : List ℕ). get_or l at 0) e ∙ get_or-map to_ascii_lowercase b at 0 0 (omega (arith, long)))))
+
+pub one_octet_more : (a b : List ℕ) (at : ℕ) → length a ≡ length b → at < length a → lowercase (take at a) ≡ lowercase (take at b) → to_ascii_lowercase (get_or a at 0) ≡ to_ascii_lowercase (get_or b at 0) → lowercase (take (at + 1) a) ≡ lowercase (take (at + 1) b)
+one_octet_more a b at long within e same =
+    map_more to_ascii_lowercase a at 0 within ∙ rw (e, same) refl ∙ sym (map_more to_ascii_lowercase b at 0 (omega (arith, long)))
+
+pub all_octets : (a b : List ℕ) (at : ℕ) → length a ≡ length b → length a ≤ at → lowercase (take at a) ≡ lowercase (take at b) → true ≡ str_eq_ignore_ascii_case a b
+all_octets a b at long past e =
+    sym ((bytes_decides (lowercase a) (lowercase b)).1 (sym (ap lowercase (take_all at a past)) ∙ e ∙ ap lowercase (take_all at b (omega (arith, long, past)))))
 
 -- ---- counting
 

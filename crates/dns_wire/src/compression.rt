@@ -1,6 +1,7 @@
 //! Names that are written once in a message and pointed to from then on (RFC 1035 section 4.1.4).
 
 mod compressor;
+mod label_ends;
 mod laws;
 mod reverse;
 mod suffix;

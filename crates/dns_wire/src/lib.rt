@@ -41,7 +41,7 @@ pub use laws::{
     trimmed_text,
 };
 pub use list::{ListError, split_list};
-pub use lowercase::{build_lowercase, compare_lowercase};
+pub use lowercase::{build_lowercase, compare_agreed, compare_lowercase};
 pub use name_cursor::{LabelType, NameCursor, pointer_offset, read_label_type};
 pub use parse::{
     ParseBytes, ParseMessageBytes, ParseName, SplitBytes, SplitMessageBytes,

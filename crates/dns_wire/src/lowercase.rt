@@ -4,6 +4,7 @@ ghost use Rattle.std.specs.Prelude.{◌≡◌, ◌≤◌, length};
 ghost use Rattle.std.specs.Str.{str_to_ascii_lowercase};
 ghost use Rattle.std.specs.Ordering.{nat_cmp};
 ghost use Rattle.std.specs.Cmp.Lexicographic.{slice_cmp};
+ghost use Rattle.dns_wire.specs.Agreement.{agreeing_prefix};
 ghost use Rattle.dns_wire.specs.Building.{Builds};
 
 use crate::agreement::agreement_from_start;
@@ -30,9 +31,17 @@ pub fn build_lowercase<T: BuildBytes>(
 pub fn compare_lowercase(a: &[u8], b: &[u8]) -> Ordering
     ensures { result ≡ slice_cmp nat_cmp (str_to_ascii_lowercase a.now) (str_to_ascii_lowercase b.now) }
 {
-    let at = agreement_from_start(a, b);
-    if at < a.len() && at < b.len() {
-        return a[at].to_ascii_lowercase().cmp(&b[at].to_ascii_lowercase());
+    compare_agreed(a, b, agreement_from_start(a, b))
+}
+
+/// As `compare_lowercase`, of octets of which so many agree from the first on, ignoring ASCII case.
+pub fn compare_agreed(a: &[u8], b: &[u8], agreed: usize) -> Ordering
+    requires { agreed ≡ agreeing_prefix a.now b.now }
+    ensures { result ≡ slice_cmp nat_cmp (str_to_ascii_lowercase a.now) (str_to_ascii_lowercase b.now) }
+{
+    if agreed < a.len() && agreed < b.len() {
+        let first = a[agreed].to_ascii_lowercase();
+        return first.cmp(&b[agreed].to_ascii_lowercase());
     }
     a.len().cmp(&b.len())
 }

@@ -8,8 +8,9 @@ ghost use Rattle.dns_wire.specs.Names.{plain_name, name_labels};
 ghost use Rattle.dns_wire.specs.Reversed.{reversed_name, reversed_name_labels};
 ghost use Rattle.dns_wire.specs.Compression.{longest_recorded, RecordedSuffix, LongestRecorded, with_more, recorded, Run, ArePlaces, FitsIn, Grows};
 
+use crate::compression::label_ends::mark_labels;
 use crate::compression::reverse::reverse_name;
-use crate::compression::suffix::{count_labels, suffix_before};
+use crate::compression::suffix::{count_labels, marked_suffix};
 use crate::sizes::{LAST_PLACE, MAX_LABEL_SIZE, MAX_PLACES};
 use arrayvec::ArrayVec;
 use std::marker::Model;
@@ -70,10 +71,12 @@ impl NameCompressor {
         ensures none { IfNone result ((prefix place : ℕ) → ¬ RecordedSuffix contents.now self.now (name_labels name.now) prefix place) }
     {
         let count = count_labels(name);
+        let (last, other) = (mark_labels(name, 0), mark_labels(name, 1));
         let mut best = None;
         let mut prefix = name.len();
         for place in self.recorded.as_slice() {
-            if let Some(found) = suffix_before(contents, *place as usize, name, count, prefix) {
+            let at = *place as usize;
+            if let Some(found) = marked_suffix(contents, at, name, count, prefix, &last, &other) {
                 if found == 0 {
                     return Some((0, *place));
                 }

@@ -1,16 +1,19 @@
 //! Suffixes of a name that are in a message already.
 
-ghost use Rattle.std.specs.Prelude.{◌≡◌, ◌<◌, ◌≤◌, length, Some, [], MatchOption, IfSome};
+ghost use Rattle.std.specs.Prelude.{◌≡◌, ◌<◌, ◌≤◌, length, Some, [], MatchOption, IfSome, IsTrue, ◌↔◌};
+ghost use Rattle.std.specs.Char.{to_ascii_lowercase};
+ghost use Rattle.std.specs.Str.{str_eq_ignore_ascii_case};
 ghost use Rattle.dns_wire.specs.Reading.{all_of};
 ghost use Rattle.dns_wire.specs.Names.{plain_name, name_labels};
 ghost use Rattle.dns_wire.specs.Compression.{occurs_at};
-ghost use Rattle.dns_wire.specs.Searching.{FirstOf, count_at, suffix_at, before_limit};
+ghost use Rattle.dns_wire.specs.Searching.{FirstOf, count_at, suffix_at, before_limit, AllMarked};
 
+use crate::compression::label_ends::{CLASSES, may_be_marked};
 use crate::name_cursor::{LabelType, NameCursor};
 
 /// The first label of a name's octets, and the octets of the name after it; `None` if the name is the
 /// root.
-fn first_label(name: &[u8]) -> Option<(&[u8], &[u8])>
+pub(crate) fn first_label(name: &[u8]) -> Option<(&[u8], &[u8])>
     requires { all_of (plain_name name.now) ≡ Some (name_labels name.now) }
     ensures { MatchOption result (name_labels name.now ≡ []) (λ x. FirstOf name.now x.0.now x.1.now) }
 {
@@ -61,6 +64,31 @@ fn count_labels_at(contents: &[u8], place: usize, most: usize) -> Option<usize>
     }
 }
 
+/// Whether two octets are the same, ignoring ASCII case.
+#[inline(always)]
+fn is_same_octet(octet: u8, other: u8) -> bool
+    ensures { IsTrue result ↔ (to_ascii_lowercase octet ≡ to_ascii_lowercase other) }
+{
+    octet == other || octet.to_ascii_lowercase() == other.to_ascii_lowercase()
+}
+
+/// Whether two labels are the same, ignoring ASCII case.
+fn is_same_label(label: &[u8], other: &[u8]) -> bool
+    ensures { result ≡ str_eq_ignore_ascii_case label.now other.now }
+{
+    if label.len() != other.len() {
+        return false;
+    }
+    let mut at = 0;
+    while at < label.len() {
+        if !is_same_octet(label[at], other[at]) {
+            return false;
+        }
+        at += 1;
+    }
+    true
+}
+
 /// Whether the name at the place is this one, ignoring ASCII case.
 fn is_name_at(contents: &[u8], place: usize, name: &[u8]) -> bool
     requires { all_of (plain_name name.now) ≡ Some (name_labels name.now) }
@@ -77,7 +105,7 @@ fn is_name_at(contents: &[u8], place: usize, name: &[u8]) -> bool
                     return false;
                 };
                 let other = &contents[cursor.at - size..cursor.at];
-                if !label.eq_ignore_ascii_case(other) {
+                if !is_same_label(label, other) {
                     return false;
                 }
                 rest = next;
@@ -90,7 +118,8 @@ fn is_name_at(contents: &[u8], place: usize, name: &[u8]) -> bool
 /// After how many of its octets the name, which has `count` labels, has a suffix that is the name at the
 /// place; `None` if that is none before `limit` octets. The suffix has as many labels as the name at the
 /// place, so that one comparison is enough.
-pub(crate) fn suffix_before(
+#[inline(never)]
+fn suffix_before(
     contents: &[u8],
     place: usize,
     name: &[u8],
@@ -119,4 +148,29 @@ pub(crate) fn suffix_before(
     } else {
         None
     }
+}
+
+/// As `suffix_before`, if the classes of the name's labels are marked by their last octets, and by those before
+/// the last. Most places are passed over by the marks alone.
+#[inline(always)]
+pub(crate) fn marked_suffix(
+    contents: &[u8],
+    place: usize,
+    name: &[u8],
+    count: usize,
+    limit: usize,
+    last: &[bool; CLASSES],
+    other: &[bool; CLASSES],
+) -> Option<usize>
+    requires name { all_of (plain_name name.now) ≡ Some (name_labels name.now) }
+    requires count { count ≡ length (name_labels name.now) }
+    requires few { count < 128 }
+    requires last { AllMarked 0 last.now (name_labels name.now) }
+    requires other { AllMarked 1 other.now (name_labels name.now) }
+    ensures { result ≡ before_limit limit (suffix_at contents.now place 0 (name_labels name.now)) }
+{
+    if !may_be_marked(contents, place, last, 0) || !may_be_marked(contents, place, other, 1) {
+        return None;
+    }
+    suffix_before(contents, place, name, count, limit)
 }

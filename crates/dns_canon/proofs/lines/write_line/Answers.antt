@@ -5,6 +5,5 @@ use Rattle.dns_canon.proofs.lines.write_line.Goals as goal
 pub returns : goal.returns
 returns c =
     let end = c.args.start + 2 * length c.args.octets.now in
-    let written = rw c.unwrap.ensures at c.encode_to_slice.ensures.written in
-    line_written c.args.text.now c.args.octets.now c.encode_to_slice.new.output _ c.args.start end (omega (arith, c.requires)) refl written
+    line_written c.args.text.now c.args.octets.now c.put_digits.new.text _ c.args.start end (omega (arith, c.requires)) refl c.put_digits.ensures
     (omega (arith, c.requires, length-drop (end - c.args.start) (drop c.args.start c.args.text.now), length-drop c.args.start c.args.text.now))

@@ -11,7 +11,7 @@ unwrap-requires c =
     read_ok (λ v. name_labels v.slice.now) held.0 _ held.1 (held.2 ∙ sym c.put_canonical.ensures ∙ ap (λ (n : ℕ). take n c.put_canonical.new.octets) (sym c.size-size.ensures.size)) c.split_bytes.result c.split_bytes.ensures.exact
 
 pub returns : goal.returns
-returns c = λ rs r has well is.
+returns c = λ most rs r has well is.
     let octets = is ∙ sym c.put_canonical.ensures ∙ ap (λ (n : ℕ). take n c.put_canonical.new.octets) (sym c.size-size.ensures.size) in
     let seen = read_is (λ v. name_labels v.slice.now) r _ well octets c.split_bytes.result c.unwrap.result c.unwrap.ensures c.split_bytes.ensures.exact in
-    push_leaves (λ v. name_labels v.slice.now) rs (lowercase_names r) c.unwrap.result.0 c.args.builder.now c.push_answer.new.self c.push_answer.result has (well_formed_lowercased r well) seen c.push_answer.ensures.result_is c.push_answer.ensures.pushed
+    push_leaves (λ v. name_labels v.slice.now) most rs (lowercase_names r) c.unwrap.result.0 c.args.builder.now c.push_answer.new.self c.push_answer.result has (well_formed_lowercased r well) seen c.push_answer.ensures.result_is c.push_answer.ensures.pushed

@@ -12,7 +12,7 @@ pub loop-place-init : goal.loop-place-init
 loop-place-init c = record { best = sym (longest_none _ _ _); prefix = refl }
 
 pub loop-place-preserved : goal.loop-place-preserved
-loop-place-preserved c = elim c.match-suffix_before.branch [
+loop-place-preserved c = elim c.match-marked_suffix.branch [
   | in-Some+else-found-eq0 w ↦ record {
     best = w.best-is ∙ more_found _ _ _ _ _ _ _ (omega arith) c.loop-place.invariant.best c.loop-place.invariant.prefix w.in-Some.found w.in-Some.ensures;
     prefix = rw w.best-is w.prefix-is;
