@@ -6,11 +6,8 @@
 
 static inline size_t read_owner(size_t at, struct owner *owner) {
     struct name name;
-    read_name(at, size, 1, &name);
-    char *out = room_for(4 * MOST_NAME + STEP);
-    owner->digits = name.has_pointer ? out : small + 2 * at;
+    char *out = read_in_full(at, &name, &owner->digits);
     owner->digits_size = 2 * name.octets;
-    if (name.has_pointer) out = put_name(out, &name);
     end_key(owner, out, out, name.labels, name.count);
     return name.end;
 }

@@ -46,6 +46,11 @@ def in_some_case(draw, text):
     return "".join(draw.choice((letter.lower(), letter.upper())) for letter in text)
 
 
+def signature_data(covered, algorithm, labels_count, zone, octets):
+    """The data of an RRSIG record (RFC 4034 section 3.1)."""
+    return struct.pack(">HBBIIIH", covered, algorithm, labels_count, 3600, 1_800_000_000, 1_700_000_000, 4711) + name(zone) + octets
+
+
 def small_reply():
     """An alias, its address, a server with its address, and an OPT."""
     alias = record(pointer(12), 5, labels("Web") + pointer(16))
@@ -132,7 +137,7 @@ def signed_zone():
     zone = "zone.example"
 
     def signature(covered):
-        return struct.pack(">HBBIIIH", covered, 13, 3, 3600, 1_800_000_000, 1_700_000_000, 4711) + name(zone) + draw.randbytes(64)
+        return signature_data(covered, 13, 3, zone, draw.randbytes(64))
 
     def records():
         for i in range(1000):
@@ -154,8 +159,7 @@ def signed_reply():
     hashes = "0123456789abcdefghijklmnopqrstuv"
 
     def signature(covered):
-        fixed = struct.pack(">HBBIIIH", covered, 13, 2, 3600, 1_800_000_000, 1_700_000_000, 4711)
-        return record(pointer(12), 46, fixed + name(zone) + draw.randbytes(64))
+        return record(pointer(12), 46, signature_data(covered, 13, 2, zone, draw.randbytes(64)))
 
     soa = record(pointer(12), 6, labels("NS1") + pointer(12) + labels("Host-Master") + pointer(12) + draw.randbytes(20))
     records = [soa, signature(6)]
@@ -172,7 +176,7 @@ def hashed_zone():
     zone = "zone.example"
 
     def signature(covered):
-        return struct.pack(">HBBIIIH", covered, 8, 3, 3600, 1_800_000_000, 1_700_000_000, 4711) + name(zone) + draw.randbytes(128)
+        return signature_data(covered, 8, 3, zone, draw.randbytes(128))
 
     def records():
         yield record(pointer(12), 48, bytes.fromhex("01010308") + draw.randbytes(132))

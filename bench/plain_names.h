@@ -54,3 +54,11 @@ static inline char *put_name(char *out, const struct name *name) {
     out[0] = out[1] = '0';
     return out + 2;
 }
+
+/* Reads a name, and gives room after it. Its digits are those that stand in the message if it has no pointer, and else are written first in that room. */
+static inline char *read_in_full(size_t at, struct name *name, const char **digits) {
+    read_name(at, size, 1, name);
+    char *out = room_for(4 * MOST_NAME + STEP);
+    *digits = name->has_pointer ? out : small + 2 * at;
+    return name->has_pointer ? put_name(out, name) : out;
+}

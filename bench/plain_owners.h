@@ -16,13 +16,9 @@ static inline uint8_t *copy_lower(uint8_t *restrict to, const uint8_t *restrict 
 
 static inline size_t read_owner(size_t at, struct owner *owner) {
     struct name name;
-    read_name(at, size, 1, &name);
-    char *out = room_for(4 * MOST_NAME + STEP);
-    owner->digits = name.has_pointer ? out : small + 2 * at;
+    uint8_t *lower = (uint8_t *)read_in_full(at, &name, &owner->digits), *labels = lower;
     owner->digits_size = 2 * name.octets;
     owner->count = name.count;
-    if (name.has_pointer) out = put_name(out, &name);
-    uint8_t *lower = (uint8_t *)out, *labels = lower;
     owner->octets = lower;
     for (unsigned i = 0; i < name.run_count; i++) labels = copy_lower(labels, octets + name.runs[i].start, name.runs[i].size);
     owner->labels = labels;

@@ -1,9 +1,11 @@
 #!/usr/bin/env python3
-"""Compares what the examples for C, Rust and Python print by the C library with what `dnscanon` prints, on all samples; and calls the library
+"""Compares what the examples for C, Rust, Go and Python print by the C library with what `dnscanon` prints, on all samples; and calls the library
 under valgrind, from four threads, and with each request for memory refused. README.md says more.
 
-`make -C c check` runs it. It needs the program and the library built, gcc, clang, rustc, valgrind and nm."""
+`make -C c check` runs it. It needs the program and the library built, gcc, clang, rustc, pkg-config, valgrind and nm, and goes without Go if
+that is not installed."""
 import os
+import shutil
 import subprocess
 import sys
 import tempfile
@@ -37,6 +39,14 @@ def callers(folder):
     with_clang = built(["clang", *STRICT, lines, f"-L{OUT}", "-lnelgvasti", "-o", folder / "clang"])
     with_rustc = built(["rustc", "--edition", "2021", "-O", "-L", OUT, "-l", "static=nelgvasti", source, "-o", folder / "rust"])
     return {"gcc": [with_gcc], "clang and the shared object": [with_clang], "Rust": [with_rustc], "Python": [sys.executable, "-B", str(EXAMPLES / "lines.py")]}
+
+
+def with_go(folder, prefix):
+    """How the example for Go is run, which is built with what is installed."""
+    environment = {**os.environ, "PKG_CONFIG_PATH": str(prefix / "lib" / "pkgconfig"), "GOCACHE": str(folder / "cache"), "GOFLAGS": "-mod=mod"}
+    subprocess.run(["go", "vet", "./..."], check=True, cwd=EXAMPLES / "go", env=environment)
+    subprocess.run(["go", "build", "-o", folder / "go", "."], check=True, cwd=EXAMPLES / "go", env=environment)
+    return [folder / "go"]
 
 
 def run(command, text):
@@ -107,6 +117,7 @@ def check_install(report, folder):
     program = built(["gcc", "-std=c11", EXAMPLES / "lines.c", *flags, "-o", folder / "installed"])
     came = subprocess.run([program, "canon"], input=samples.text("address"), stdout=subprocess.PIPE, env={"LD_LIBRARY_PATH": str(prefix / "lib")})
     report.add("installed", "canon of one sample", came.stdout == samples.lines("address"))
+    return prefix
 
 
 def main():
@@ -117,11 +128,13 @@ def main():
         folder = Path(name)
         check_names(report)
         commands = callers(folder)
+        prefix = check_install(report, folder)
+        if shutil.which("go"):
+            commands["Go"] = with_go(folder, prefix)
         for name, command in commands.items():
             compare(report, name, command, given, wanted)
         check_memory(report, folder)
         check_valgrind(report, commands["gcc"], given[::7])
-        check_install(report, folder)
     return report.end()
 
 

@@ -16,6 +16,7 @@ pub mod Lengths
 pub mod Octets
 pub mod OneReading
 pub mod Ordering
+pub mod OwnerKeyLemmas
 pub mod Parsed
 pub mod Phrased
 pub mod NextItem

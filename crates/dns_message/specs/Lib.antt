@@ -7,6 +7,7 @@ pub mod Headers
 pub mod MessageOctets
 pub mod Messages
 pub mod Order
+pub mod OwnerKeys
 pub mod Parsing
 pub mod LayoutRead
 pub mod Pushes

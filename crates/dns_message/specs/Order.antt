@@ -32,9 +32,13 @@ sort_key r = record {
   ttl = r.ttl;
 }
 
--- by owner, class, type and data, by the first that differs; lists and octets lexicographically, a proper prefix first
+-- by class, type and data, by the first that differs; octets lexicographically, a proper prefix first
+abbrev pub class_and_data_cmp : SortKey → SortKey → Ordering
+class_and_data_cmp = then_cmp (on (λ k. k.class) nat_cmp) (then_cmp (on (λ k. k.rtype) nat_cmp) (on (λ k. k.octets) (slice_cmp nat_cmp)))
+
+-- by owner, class, type and data, by the first that differs
 abbrev pub alike_cmp : SortKey → SortKey → Ordering
-alike_cmp = then_cmp (on (λ k. k.owner) key_cmp) (then_cmp (on (λ k. k.class) nat_cmp) (then_cmp (on (λ k. k.rtype) nat_cmp) (on (λ k. k.octets) (slice_cmp nat_cmp))))
+alike_cmp = then_cmp (on (λ k. k.owner) key_cmp) class_and_data_cmp
 
 -- by the time to live
 abbrev pub ttl_cmp : SortKey → SortKey → Ordering

@@ -6,6 +6,7 @@ ghost use Rattle.dns_message.specs.Canonical.{canonical_wire, is_not_opt};
 ghost use Rattle.dns_message.specs.Order.{sort_key, collapsed, canonical_list};
 
 use crate::canonical_record::CanonicalRecord;
+use crate::keyed_record::{KeyedRecord, owner_keys, with_keys};
 use std::alloc::{AllocError, Global};
 
 /// The records in canonical order (RFC 4034 section 6), those that are alike once and with the least TTL (RFC 2181 section 5.2).
@@ -25,7 +26,7 @@ pub fn collapse<'a>(
 }
 
 /// References to the records, in the order and as often as `collapse` gives them. The records stay where they are, since each takes
-/// some 800 octets. `AllocError` is out of memory, which is taken for the references.
+/// some 800 octets. Owners are compared by keys. `AllocError` is out of memory, which is taken for the keys and the references.
 pub fn collapsed<'r, 'a>(
     alloc: Global,
     records: &'r [CanonicalRecord<'a>],
@@ -33,11 +34,33 @@ pub fn collapsed<'r, 'a>(
     ensures keys { IfOk result (λ not_opt. map (λ r. sort_key r.now) not_opt.items ≡ map sort_key (collapsed records.now)) }
     ensures octets { IfOk result (λ not_opt. map (λ r. canonical_wire r.now) not_opt.items ≡ map canonical_wire (collapsed records.now)) }
 {
-    let mut order = Vec::with_capacity(alloc, records.len())?;
-    for found in records {
-        order.push(found)?;
+    let (keys, sizes) = owner_keys(alloc, records)?;
+    let keyed = with_keys(alloc, records, &keys, &sizes)?;
+    let order = in_order(keyed);
+    references(alloc, &order)
+}
+
+/// The records in canonical order, those that are alike once and with the least TTL.
+fn in_order<'k, 'r, 'a>(mut keyed: Vec<KeyedRecord<'k, 'r, 'a>>) -> Vec<KeyedRecord<'k, 'r, 'a>>
+    ensures keys { map (λ k. sort_key k.record.now) result.items ≡ map sort_key (collapsed (map (λ k. k.record.now) keyed.entry.items)) }
+    ensures octets { map (λ k. canonical_wire k.record.now) result.items ≡ map canonical_wire (collapsed (map (λ k. k.record.now) keyed.entry.items)) }
+{
+    keyed.sort_unstable();
+    keyed.dedup_by(|later, first| later.alike(first));
+    keyed
+}
+
+/// References to the records, in their order. `AllocError` is out of memory.
+fn references<'r, 'a>(
+    alloc: Global,
+    order: &[KeyedRecord<'_, 'r, 'a>],
+) -> Result<Vec<&'r CanonicalRecord<'a>>, AllocError>
+    ensures keys { IfOk result (λ not_opt. map (λ r. sort_key r.now) not_opt.items ≡ map (λ k. sort_key k.record.now) order.now) }
+    ensures octets { IfOk result (λ not_opt. map (λ r. canonical_wire r.now) not_opt.items ≡ map (λ k. canonical_wire k.record.now) order.now) }
+{
+    let mut references = Vec::with_capacity(alloc, order.len())?;
+    for keyed in order {
+        references.push(keyed.record)?;
     }
-    order.sort_unstable();
-    order.dedup_by(|later, first| later.alike(first));
-    Ok(order)
+    Ok(references)
 }

@@ -12,7 +12,7 @@ ghost use Rattle.dns_rdata.specs.Data.{type_number};
 ghost use Rattle.dns_record.specs.Types.{opt_number};
 ghost use Rattle.dns_message.specs.Canonical.{canonical_wire, is_not_opt};
 ghost use Rattle.dns_message.specs.Messages.{RecordValue, records_among};
-ghost use Rattle.dns_message.specs.Order.{sort_key, sort_key_cmp, alike_cmp, are_alike};
+ghost use Rattle.dns_message.specs.Order.{sort_key, sort_key_cmp, alike_cmp, class_and_data_cmp, ttl_cmp, are_alike};
 ghost use Rattle.dns_message.specs.Same.{Alike};
 ghost use Rattle.dns_message.specs.Seen.{AreSound, HasSoundDataUnlessOpt, data_seen, item_seen, record_value};
 
@@ -86,17 +86,31 @@ impl<'a> CanonicalRecord<'a> {
     fn cmp_but_ttl(&self, other: &CanonicalRecord<'_>) -> Ordering
         ensures { result ≡ alike_cmp (sort_key self.now) (sort_key other.now) }
     {
-        let (a, b) = (&self.found, &other.found);
-        let owners = a.rname.cmp(&b.rname);
+        let owners = self.found.rname.cmp(&other.found.rname);
         if owners.is_ne() {
             return owners;
         }
+        self.cmp_class_and_data(other)
+    }
+
+    /// The order by class, type and canonical data.
+    pub(crate) fn cmp_class_and_data(&self, other: &CanonicalRecord<'_>) -> Ordering
+        ensures { result ≡ class_and_data_cmp (sort_key self.now) (sort_key other.now) }
+    {
+        let (a, b) = (&self.found, &other.found);
         let classes = a.rclass.cmp(&b.rclass);
         if classes.is_ne() {
             return classes;
         }
         // Data are compared by their type first.
         a.rdata.cmp_canonical(&b.rdata)
+    }
+
+    /// The order by TTL.
+    pub(crate) fn cmp_ttl(&self, other: &CanonicalRecord<'_>) -> Ordering
+        ensures { result ≡ ttl_cmp (sort_key self.now) (sort_key other.now) }
+    {
+        self.found.ttl.cmp(&other.found.ttl)
     }
 
     /// The number of canonical octets, at most 65,800.
@@ -204,8 +218,7 @@ impl Ord for CanonicalRecord<'_> {
     /// By owner, label by label from the root on, then by class, type, the data's canonical octets, and TTL (RFC 4034
     /// sections 6.1, 6.3). The first that differs decides, and no octets are written.
     fn cmp(&self, other: &Self) -> Ordering {
-        self.cmp_but_ttl(other)
-            .then(self.found.ttl.cmp(&other.found.ttl))
+        self.cmp_but_ttl(other).then(self.cmp_ttl(other))
     }
 }
 

@@ -10,7 +10,8 @@ use lib.Lanes.{Each1, chunk, pick_l, put_chunk, top}
 use Rattle.hex.specs.Hex.{encode_lower}
 use Rattle.dns_wire.specs.Hexadecimal.{shown}
 use Rattle.dns_text.proofs.Encoding.{encoded, shown_long}
-use Rattle.dns_text.proofs.Lanes.{at_each, below, more}
+use Rattle.dns_wire.proofs.Lanes.{at_each}
+use Rattle.dns_text.proofs.Lanes.{below, more}
 
 -- the digit of a value below 16, as a lane computes it
 abbrev pub digit_lane : ℕ → ℕ

@@ -1,6 +1,6 @@
 -- How far two lists of octets agree.
 use lib.Count.{count_trailing_zeros}
-use Rattle.std.proofs.Common.{nat_eq, get_or, w8, Fits, zero, min, ◌&&◌, replicate, length-take-le, length-drop, take_all, ◌≡◌, ◌≤◌, ◌+◌, ◌-◌, ◌<◌, ◌%◌, ◌⊎◌, ℕ, Bool, true, false, List, [], ◌∷◌, ◌++◌, length, take, drop, map, reverse, suc, not, cond, eqb, refl, sym, ap, ◌∙◌, arith, inl, inr, nat_cmp}
+use Rattle.std.proofs.Common.{nat_eq, get_or, w8, Fits, zero, min, replicate, length-take-le, length-drop, take_all, ◌≡◌, ◌≤◌, ◌+◌, ◌-◌, ◌<◌, ◌%◌, ◌⊎◌, ℕ, Bool, true, false, List, [], ◌∷◌, ◌++◌, length, take, drop, map, reverse, suc, not, cond, eqb, refl, sym, ap, ◌∙◌, arith, inl, inr, nat_cmp}
 use Rattle.std.specs.Char.{to_ascii_lowercase, eq_ignore_ascii_case}
 use Rattle.std.specs.Cmp.Lexicographic.{slice_cmp}
 use Rattle.std.specs.List.{prefix_len}
@@ -10,13 +10,14 @@ use lib.Lanes.{sel_l, Each1}
 use Rattle.std.specs.Ordering.{ordering_then}
 use Rattle.std.specs.declared.cmp.Ordering.{Ordering}
 use Rattle.std.specs.declared.cmp.Ordering.TheVariants.{Less, Equal, Greater}
-use Rattle.std.proofs.lemmas.Bool.{eq-eqb, ne_eqb, eqb-true, eqb-false, cases_order, and_parts}
+use Rattle.std.proofs.lemmas.Bool.{agree_below, eq-eqb, ne_eqb, eqb-true, eqb-false, cases_order}
 use Rattle.std.proofs.lemmas.Bool.Decides.{nat_tests}
 use Rattle.std.proofs.lemmas.List.{get_or-reverse, get_or-take, reverse-append, reverse-reverse, map-append, length-map, length-reverse, append_assoc, take_at, drop_at, take-append-drop, map-id}
 use Rattle.std.proofs.lemmas.List.Sums.{common_prefix_len-drop_no}
 use Rattle.std.proofs.lemmas.Slice.Eq.{bytes_eq-Decides}
 use Rattle.std.specs.Cmp.Lexicographic.{pointwise}
-use Rattle.std.proofs.lemmas.Simd.{tops_compared, mask_l-mod, first_set_mask_l, length-zip2, zip2_splat, map-map}
+use Rattle.std.proofs.lemmas.Simd.{below_from_Fits, tops_compared, mask_l-mod, first_set_mask_l, length-zip2, zip2_splat, map-map}
+use Rattle.dns_wire.proofs.Lanes.{at_each, chosen}
 use Rattle.dns_wire.specs.Agreement.{agreeing_prefix, agreeing_end, EndAlike}
 
 -- ---- octets that are equal are passed over
@@ -118,37 +119,13 @@ all_same xs ys long short none =
 
 -- ---- sixteen octets in lowercase
 
-abbrev upto : (ℕ → Bool) → ℕ → Bool
-upto p zero = true
-upto p (suc n) = p n && upto p n
-
-upto_sound : (p : ℕ → Bool) (n : ℕ) → upto p n ≡ true → (i : ℕ) → i < n → p i ≡ true
-upto_sound p zero h i lt = absurd (omega (arith, lt))
-upto_sound p (suc n) h i lt = elim (cases_order i n) [
-  | inl e ↦ ap p e ∙ (and_parts (p n) (upto p n) h).0
-  | inr (inl l) ↦ upto_sound p n (and_parts (p n) (upto p n) h).1 i l
-  | inr (inr g) ↦ absurd (omega (arith, lt, g))
-]
-
--- what is computed of each lane is its octet in lowercase, if that is so of each of the 256 octets
-each_octet : (f : ℕ → ℕ) (xs : List ℕ) → upto (λ x. eqb (f x) (to_ascii_lowercase x)) 256 ≡ true → Each1 (Fits w8) xs → map f xs ≡ str_to_ascii_lowercase xs
-each_octet f [] all fits = refl
-each_octet f (x ∷ xs) all fits = ap (λ o. o ∷ map f xs) (eqb-true (f x) (to_ascii_lowercase x) (upto_sound (λ y. eqb (f y) (to_ascii_lowercase y)) 256 all x fits.0.fits)) ∙ ap (λ l. to_ascii_lowercase x ∷ l) (each_octet f xs all fits.1)
-
-chosen : (p : ℕ → Bool) (f : ℕ → ℕ) (xs : List ℕ) → sel_l (map p xs) (map f xs) xs ≡ map (λ x. cond (p x) (f x) x) xs
-chosen p f [] = refl
-chosen p f (x ∷ xs) = ap (λ l. cond (p x) (f x) x ∷ l) (chosen p f xs)
-
-pub lowercase_chosen : (less sub add : ℕ → ℕ → ℕ) (xs : List ℕ) → length xs ≡ 16 → Each1 (Fits w8) xs → upto (λ x. eqb (cond (top 7 (less (sub x 65) 26)) (add x 32) x) (to_ascii_lowercase x)) 256 ≡ true
+pub lowercase_chosen : (less sub add : ℕ → ℕ → ℕ) (xs : List ℕ) → length xs ≡ 16 → Each1 (Fits w8) xs → agree_below (λ x. eqb (cond (top 7 (less (sub x 65) 26)) (add x 32) x) (to_ascii_lowercase x)) (λ _. true) 256 ≡ true
     → sel_l (map (top 7) (zip2 less (zip2 sub xs (replicate 16 65)) (replicate 16 26))) (zip2 add xs (replicate 16 32)) xs ≡ str_to_ascii_lowercase xs
 lowercase_chosen less sub add xs long fits all =
     let from_a = zip2_splat sub xs 16 65 long in
     let capital = ap (λ l. zip2 less l (replicate 16 26)) from_a ∙ zip2_splat less (map (λ x. sub x 65) xs) 16 26 (length-map xs (λ x. sub x 65) ∙ long) ∙ map-map (λ x. less x 26) (λ x. sub x 65) xs in
-    ap (λ ms. sel_l (map (top 7) ms) (zip2 add xs (replicate 16 32)) xs) capital
-    ∙ ap (λ ms. sel_l ms (zip2 add xs (replicate 16 32)) xs) (map-map (top 7) (λ x. less (sub x 65) 26) xs)
-    ∙ ap (λ l. sel_l (map (λ x. top 7 (less (sub x 65) 26)) xs) l xs) (zip2_splat add xs 16 32 long)
-    ∙ chosen (λ x. top 7 (less (sub x 65) 26)) (λ x. add x 32) xs
-    ∙ each_octet (λ x. cond (top 7 (less (sub x 65) 26)) (add x 32) x) xs all fits
+    chosen (λ x. less (sub x 65) 26) (λ x. add x 32) (λ x. x) xs capital (zip2_splat add xs 16 32 long) (sym (map-id xs))
+    ∙ at_each (λ x. cond (top 7 (less (sub x 65) 26)) (add x 32) x) to_ascii_lowercase 256 all xs (below_from_Fits w8 xs fits)
 
 -- ---- one block after another
 

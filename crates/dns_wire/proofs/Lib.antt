@@ -8,6 +8,7 @@ pub mod Cutting
 pub mod HexadecimalLemmas
 pub mod Following
 pub mod LabelEnds
+pub mod Lanes
 pub mod Lent
 pub mod Listed
 pub mod Longest

@@ -8,7 +8,7 @@ use Rattle.dns_normal.proofs.NormalOutcomes.{refused_size}
 use Rattle.dns_normal.proofs.message.answers_message.Goals as goal
 
 pub push_records-requires-clause-room : goal.push_records-requires-clause-room
-push_records-requires-clause-room c = λ k d within. omega (arith, c.largest_size.ensures k d within, c.deref_mut-2.ensures.len, c.in_ok-octets.ensures)
+push_records-requires-clause-room c = λ k d within. omega (arith, c.largest_size.ensures k d within, c.deref_mut-2.ensures.len, c.in_ok-octets.ensures.size)
 
 pub returns-then-is_err-clause-refused : goal.returns-then-is_err-clause-refused
 returns-then-is_err-clause-refused c = λ rs are.
@@ -16,7 +16,7 @@ returns-then-is_err-clause-refused c = λ rs are.
     let lists = map (λ r. canonical_wire r.now) c.args.records.now in
     let lowercased = map lowercase_names rs in
     let none = no_answers most c.new-builder.result c.new-id.result.value (header_bits c.from_bits-flags.result) (room_least most lists c.room_for.ensures) (room_limit most lists c.room_for.ensures) c.new-id.ensures c.from_bits-flags.ensures
-    (ap (λ d. d.header) c.new-builder.ensures) (ap (λ d. d.contents) c.new-builder.ensures) (ap (λ d. d.size) c.new-builder.ensures ∙ c.deref_mut.ensures.len ∙ c.in_ok-buffer.ensures) (ap (λ d. d.places) c.new-builder.ensures) in
+    (ap (λ d. d.header) c.new-builder.ensures) (ap (λ d. d.contents) c.new-builder.ensures) (ap (λ d. d.size) c.new-builder.ensures ∙ c.deref_mut.ensures.len ∙ c.in_ok-buffer.ensures.size) (ap (λ d. d.places) c.new-builder.ensures) in
     refused_size (answers_message lowercased)
     (room_enough most lists c.room_for.ensures rs are.1 (if_refused most lowercased c.push_records.new.builder c.push_records.result (sym c.is_err.ensures.value ∙ c.if-is_err.true) (c.push_records.ensures most rs none are)))
 
@@ -26,7 +26,7 @@ returns-clause-built c = λ rs are.
     let lists = map (λ r. canonical_wire r.now) c.args.records.now in
     let lowercased = map lowercase_names rs in
     let none = no_answers most c.new-builder.result c.new-id.result.value (header_bits c.from_bits-flags.result) (room_least most lists c.room_for.ensures) (room_limit most lists c.room_for.ensures) c.new-id.ensures c.from_bits-flags.ensures
-    (ap (λ d. d.header) c.new-builder.ensures) (ap (λ d. d.contents) c.new-builder.ensures) (ap (λ d. d.size) c.new-builder.ensures ∙ c.deref_mut.ensures.len ∙ c.in_ok-buffer.ensures) (ap (λ d. d.places) c.new-builder.ensures) in
+    (ap (λ d. d.header) c.new-builder.ensures) (ap (λ d. d.contents) c.new-builder.ensures) (ap (λ d. d.size) c.new-builder.ensures ∙ c.deref_mut.ensures.len ∙ c.in_ok-buffer.ensures.size) (ap (λ d. d.places) c.new-builder.ensures) in
     let has = if_accepted most lowercased c.push_records.new.builder c.push_records.result (sym c.is_err.ensures.value ∙ c.if-is_err.false) (c.push_records.ensures most rs none are) in
     c.in_ok-built.ensures.items ∙ c.as_bytes.ensures ∙ c.message.ensures.octets ∙ message_is most lowercased c.push_records.new.builder has
 
@@ -36,6 +36,6 @@ returns-clause-accepted c = λ rs are.
     let lists = map (λ r. canonical_wire r.now) c.args.records.now in
     let lowercased = map lowercase_names rs in
     let none = no_answers most c.new-builder.result c.new-id.result.value (header_bits c.from_bits-flags.result) (room_least most lists c.room_for.ensures) (room_limit most lists c.room_for.ensures) c.new-id.ensures c.from_bits-flags.ensures
-    (ap (λ d. d.header) c.new-builder.ensures) (ap (λ d. d.contents) c.new-builder.ensures) (ap (λ d. d.size) c.new-builder.ensures ∙ c.deref_mut.ensures.len ∙ c.in_ok-buffer.ensures) (ap (λ d. d.places) c.new-builder.ensures) in
+    (ap (λ d. d.header) c.new-builder.ensures) (ap (λ d. d.contents) c.new-builder.ensures) (ap (λ d. d.size) c.new-builder.ensures ∙ c.deref_mut.ensures.len ∙ c.in_ok-buffer.ensures.size) (ap (λ d. d.places) c.new-builder.ensures) in
     let short = message_short most lowercased c.push_records.new.builder (if_accepted most lowercased c.push_records.new.builder c.push_records.result (sym c.is_err.ensures.value ∙ c.if-is_err.false) (c.push_records.ensures most rs none are)) in
     omega (arith, short, room_limit most lists c.room_for.ensures)

@@ -1,6 +1,7 @@
 use Rattle.std.proofs.Common.{bit_or}
 use Rattle.std.proofs.lemmas.Simd.{splat_is_map, zip2_of_maps, zip2_splat}
-use Rattle.dns_text.proofs.Lanes.{below, chosen, less, more}
+use Rattle.dns_wire.proofs.Lanes.{chosen}
+use Rattle.dns_text.proofs.Lanes.{below, less, more}
 use Rattle.dns_text.proofs.DigitBlocks.{letter, numeral, values_read}
 use Rattle.dns_text.proofs.read_digits.values_of.Goals as goal
 

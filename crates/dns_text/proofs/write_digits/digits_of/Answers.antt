@@ -1,7 +1,8 @@
 use Rattle.std.proofs.Common.{◌<◌, ◌∙◌, codes, refl, slice_index, sym}
 use Rattle.std.proofs.lemmas.List.{map-id}
 use Rattle.std.proofs.lemmas.Simd.{Each1-from_get_or, splat_is_map, zip2_of_maps, zip2_splat}
-use Rattle.dns_text.proofs.Lanes.{at_each, below, chosen, more}
+use Rattle.dns_wire.proofs.Lanes.{at_each, chosen}
+use Rattle.dns_text.proofs.Lanes.{below, more}
 use Rattle.dns_text.proofs.ShownBlocks.{digit_lane}
 use Rattle.dns_text.proofs.write_digits.digits_of.Goals as goal
 
