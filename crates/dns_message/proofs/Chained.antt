@@ -1,15 +1,12 @@
 -- The items of a message, as its parser gives them one after another.
-use Rattle.std.proofs.Common.{◌≡◌, ℕ, ◌≤◌, false, List, [], ◌∷◌, ◌++◌, length, filter, Option, Some, None, Result, Ok, Err, refl, sym, ap, ◌∙◌, subst}
+use Rattle.std.proofs.Common.{◌≡◌, ℕ, ◌≤◌, false, List, [], ◌∷◌, ◌++◌, ◌+◌, length, drop, filter, Some, None, refl, sym, ap, ◌∙◌, subst}
 use Rattle.std.proofs.lemmas.List.Elements.{filter-append}
-use Rattle.dns_wire.specs.declared.error.ParseError.{ParseError}
 use Rattle.dns_message.specs.Canonical.{is_not_opt}
-use Rattle.dns_message.specs.Messages.{Item, RecordValue, Reading, with_item, message_reading, records_among, Valid, BadAt}
+use Rattle.dns_message.specs.Messages.{Item, RecordValue, Reading, item_at, counted_slots, with_item, reading_from, message_reading, records_among, Valid, BadAt}
 use Rattle.dns_message.specs.Messages.Reading.{Stopped, Whole}
-use Rattle.dns_message.specs.Parsing.{parsed_message, given_count, next_start, has_ended, ahead, Parsed, GivesNext}
-use Rattle.dns_message.specs.Seen.{item_seen}
+use Rattle.dns_message.specs.Parsing.{parsed_message, given_count, next_start, has_ended, slots_ahead, ahead, IsComing, HasPassed, AddsItem}
 use Rattle.dns_message.specs.declared.parser.MessageParser.{MessageParser}
-use Rattle.dns_message.specs.declared.parser.ItemPosition.{ItemPosition}
-use Rattle.dns_message.proofs.Parsed.{starts, gives, refuses, ends}
+use Rattle.dns_message.proofs.Parsed.{starts, reads_on, reads_none}
 use Rattle.dns_message.proofs.SlotLemmas.{among_append}
 
 -- what is kept of items
@@ -55,23 +52,30 @@ read_none m parser not_opt whole start none = record {
   not_opt_is = none;
 }
 
-pub read_more : (m : List ℕ) (old new : MessageParser) (position : ItemPosition) (item : Parsed) (not_opt more : List RecordValue) → ReadSoFar m old not_opt → parsed_message new ≡ parsed_message old → GivesNext {E = ParseError} old (Some (position, Ok item)) new → more ≡ not_opt ++ not_opt_of (item_seen item ∷ []) → ReadSoFar m new more
-read_more m old new position item not_opt more so same given is = record {
-  of_message = same ∙ so.of_message;
-  items = so.items ++ item_seen item ∷ [];
-  read = one_more so.items (item_seen item) (ahead new) ∙ ap (with_items so.items) (sym (gives ParseError old new position item same given)) ∙ so.read;
-  not_opt_is = is ∙ ap (λ (l : List RecordValue). l ++ not_opt_of (item_seen item ∷ [])) so.not_opt_is ∙ sym (not_opt_append so.items (item_seen item ∷ []));
-}
+pub read_more : (m : List ℕ) (old new : MessageParser) (section index end : ℕ) (not_opt more : List RecordValue) → ReadSoFar m old not_opt → HasPassed old section index end new
+    → AddsItem section (drop 12 (parsed_message old)) (next_start old) not_opt more (Some end) → ReadSoFar m new more
+read_more m old new section index end not_opt more so passed adds =
+    let item = adds.0 in
+    let there : item_at section (drop 12 (parsed_message old)) (next_start old) ≡ Some (item, next_start new) = adds.1 ∙ ap (λ (n : ℕ). Some (item, n)) (sym passed.1) in
+    let reading : ahead old ≡ with_item item (ahead new) =
+    reads_on (drop 12 (parsed_message old)) (slots_ahead old) (slots_ahead new) (section, index) (next_start old) (Some (item, next_start new)) passed.0 there
+    ∙ ap (λ (l : List ℕ). with_item item (reading_from (drop 12 l) (slots_ahead new) (next_start new))) (sym passed.3) in
+    record {
+      of_message = passed.3 ∙ so.of_message;
+      items = so.items ++ item ∷ [];
+      read = one_more so.items item (ahead new) ∙ ap (with_items so.items) (sym reading) ∙ so.read;
+      not_opt_is = adds.2 ∙ ap (λ (l : List RecordValue). l ++ not_opt_of (item ∷ [])) so.not_opt_is ∙ sym (not_opt_append so.items (item ∷ []));
+    }
 
-pub read_fails : (m : List ℕ) (old new : MessageParser) (position : ItemPosition) (error : ParseError) (not_opt : List RecordValue) → ReadSoFar m old not_opt → GivesNext old (Some (position, Err error)) new → BadAt m position.section position.index
-read_fails m old new position error not_opt so refused =
-    (next_start old, (so.items, sym so.read ∙ ap (with_items so.items) (refuses old new position error refused) ∙ all_stopped so.items position.section position.index (next_start old)))
+pub read_fails : (m : List ℕ) (parser : MessageParser) (section index : ℕ) (not_opt : List RecordValue) → ReadSoFar m parser not_opt → IsComing parser section index
+    → item_at section (drop 12 (parsed_message parser)) (next_start parser) ≡ None → BadAt m section index
+read_fails m parser section index not_opt so coming none =
+    let later = drop (given_count parser + 1) (counted_slots (parsed_message parser)) in
+    let stops = reads_on (drop 12 (parsed_message parser)) (slots_ahead parser) later (section, index) (next_start parser) None coming.0 none in
+    (next_start parser, (so.items, sym so.read ∙ ap (with_items so.items) stops ∙ all_stopped so.items section index (next_start parser)))
 
-read_all : (m : List ℕ) (old new : MessageParser) (not_opt : List RecordValue) → ReadSoFar m old not_opt → GivesNext {E = ParseError} old None new → (rs : List RecordValue) × Valid m rs × (not_opt ≡ filter is_not_opt rs)
-read_all m old new not_opt so over =
-    (records_among so.items, (so.items, next_start old, sym so.read ∙ ap (with_items so.items) (ends ParseError old new over) ∙ all_whole so.items (next_start old), refl), so.not_opt_is)
-
--- if no item is given, all were
-pub read_over : (m : List ℕ) (old new : MessageParser) (not_opt : List RecordValue) (given : Option (ItemPosition × Result Parsed ParseError)) → ReadSoFar m old not_opt → GivesNext old given new → ((x : ItemPosition × Result Parsed ParseError) → ¬ (given ≡ Some x)) → (rs : List RecordValue) × Valid m rs × (not_opt ≡ filter is_not_opt rs)
-read_over m old new not_opt None so over none = read_all m old new not_opt so over
-read_over m old new not_opt (Some x) so over none = absurd (none x refl)
+pub read_all : (m : List ℕ) (parser : MessageParser) (not_opt : List RecordValue) → ReadSoFar m parser not_opt → slots_ahead parser ≡ []
+    → (rs : List RecordValue) × Valid m rs × (not_opt ≡ filter is_not_opt rs)
+read_all m parser not_opt so over =
+    let ends = reads_none (drop 12 (parsed_message parser)) (slots_ahead parser) (next_start parser) over in
+    (records_among so.items, (so.items, next_start parser, sym so.read ∙ ap (with_items so.items) ends ∙ all_whole so.items (next_start parser), refl), so.not_opt_is)

@@ -1,5 +1,6 @@
 -- The crate's own lemmas.
 pub mod Accepted
+pub mod Adding
 pub mod BuiltSo
 pub mod CanonBuilt
 pub mod CanonicalOctets

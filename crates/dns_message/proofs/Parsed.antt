@@ -9,12 +9,12 @@ use Rattle.dns_message.specs.declared.parser.MessageParser.{MessageParser}
 use Rattle.dns_message.specs.declared.parser.ItemPosition.{ItemPosition}
 
 -- an item, and those after it
-reads_on : (c : List ℕ) (slots later : List (ℕ × ℕ)) (slot : ℕ × ℕ) (at : ℕ) (read : Option (Item × ℕ)) → slots ≡ slot ∷ later → item_at slot.0 c at ≡ read
+pub reads_on : (c : List ℕ) (slots later : List (ℕ × ℕ)) (slot : ℕ × ℕ) (at : ℕ) (read : Option (Item × ℕ)) → slots ≡ slot ∷ later → item_at slot.0 c at ≡ read
     → reading_from c slots at ≡ then_read slot at (reading_from c later) read
 unfolding reading_from
 reads_on c slots later slot at read is e = rw is (ap (then_read slot at (reading_from c later)) e)
 
-reads_none : (c : List ℕ) (slots : List (ℕ × ℕ)) (at : ℕ) → slots ≡ [] → reading_from c slots at ≡ Whole [] at
+pub reads_none : (c : List ℕ) (slots : List (ℕ × ℕ)) (at : ℕ) → slots ≡ [] → reading_from c slots at ≡ Whole [] at
 unfolding reading_from
 reads_none c slots at is = rw is refl
 

@@ -1,20 +1,20 @@
 -- Keys of owners: octets that are in the order of the owners (RFC 4034 section 6.1).
-use Rattle.std.specs.Prelude.{ℕ, ◌+◌, [], ◌∷◌, ◌++◌, if◌then◌else◌, ltb, flat_map}
+use Rattle.std.specs.Prelude.{ℕ, ◌+◌, [], ◌∷◌, if◌then◌else◌, ltb, map, flat_map, reverse}
+use Rattle.std.specs.Char.{to_ascii_lowercase}
 use Rattle.dns_wire.specs.Octets.{Octets, Labels}
-use Rattle.dns_name.specs.Order.{key}
 
--- an octet of a label: 0 ends a label, so 1 1 stands for 0, and 1 2 for 1
-abbrev pub escaped : ℕ → Octets
-escaped octet = if ltb octet 2 then 1 ∷ (octet + 1) ∷ [] else octet ∷ []
+-- an octet of a label: in lowercase, and those below `A` one higher, so that 0 is left for the beginning of a label
+abbrev pub key_octet : ℕ → ℕ
+key_octet octet = if ltb octet 65 then octet + 1 else to_ascii_lowercase octet
 
--- a label and its end
+-- a label and its beginning
 abbrev pub label_key : Octets → Octets
-label_key label = flat_map escaped label ++ 0 ∷ []
+label_key label = 0 ∷ map key_octet label
 
 -- labels one after another
 abbrev pub labels_key : Labels → Octets
 labels_key labels = flat_map label_key labels
 
--- the labels in lowercase, from the root's on
+-- the labels from the root's on
 abbrev pub owner_key : Labels → Octets
-owner_key labels = labels_key ([] ∷ key labels)
+owner_key labels = labels_key ([] ∷ reverse labels)

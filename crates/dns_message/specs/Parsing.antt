@@ -2,10 +2,11 @@
 -- next one begins, and whether it has ended.
 use Rattle.dns_wire.specs.Octets.{Octets, Labels}
 use Rattle.dns_wire.specs.declared.sizes.TheConstants.{HEADER_SIZE}
-use Rattle.std.specs.Prelude.{◌≡◌, ℕ, suc, List, [], ◌∷◌, drop, Bool, true, Option, Some, None, Result, Ok, Err, IfOk, if◌then◌else◌}
+use Rattle.std.specs.Prelude.{◌≡◌, ℕ, ◌+◌, ◌<◌, ◌^◌, suc, List, [], ◌∷◌, ◌++◌, drop, filter, Bool, true, false, Option, Some, None, Result, Ok, Err, IfOk, if◌then◌else◌}
 use Rattle.dns_edns.specs.declared.opt.Opt.{Opt}
 use Rattle.dns_rdata.specs.declared.record_data.RecordData.{RecordData}
-use Rattle.dns_message.specs.Messages.{Reading, item_at, counted_slots, reading_from, Slot}
+use Rattle.dns_message.specs.Canonical.{is_not_opt}
+use Rattle.dns_message.specs.Messages.{Item, RecordValue, Reading, item_at, counted_slots, reading_from, records_among, Slot}
 use Rattle.dns_message.specs.Seen.{item_seen, HasSoundData, IsOfSection}
 use Rattle.dns_message.specs.declared.item.MessageItem.{MessageItem}
 use Rattle.dns_message.specs.declared.parser.MessageParser.{MessageParser}
@@ -35,6 +36,17 @@ slots_ahead p = if has_ended p then [] else drop (given_count p) (counted_slots 
 abbrev pub ahead : MessageParser → Reading
 ahead p = reading_from (drop HEADER_SIZE (parsed_message p)) (slots_ahead p) (next_start p)
 
+-- the next item is the one at this position
+abbrev pub IsComing : MessageParser → ℕ → ℕ → Type 0
+IsComing p section index =
+    (slots_ahead p ≡ (section, index) ∷ drop (given_count p + 1) (counted_slots (parsed_message p))) × (has_ended p ≡ false) × (given_count p < 2 ^ 18)
+
+-- the parser has gone on to the item after the one at this position, which ends there
+abbrev pub HasPassed : MessageParser → ℕ → ℕ → ℕ → MessageParser → Type 0
+HasPassed old section index end new =
+    (slots_ahead old ≡ (section, index) ∷ slots_ahead new) × (next_start new ≡ end) × (given_count new ≡ suc (given_count old))
+    × (parsed_message new ≡ parsed_message old)
+
 -- an item with its own names
 abbrev pub Parsed : Type 0
 Parsed = MessageItem Labels (RecordData Labels) Opt
@@ -60,3 +72,9 @@ GivesItem {E = E} old None new = (parsed_message new ≡ parsed_message old) × 
 GivesItem old (Some item) new =
     (parsed_message new ≡ parsed_message old) × IfOk item HasSoundData
     × ((position : ItemPosition) × GivesNext old (Some (position, item)) new × IfOk item (IsOfSection position.section (drop (next_start old) (drop HEADER_SIZE (parsed_message old)))))
+
+-- What an item adds to the records, if it is read up to the end: itself, if it is a record of another type than OPT.
+abbrev pub AddsItem : ℕ → Octets → ℕ → List RecordValue → List RecordValue → Option ℕ → Type 0
+AddsItem section contents start old new None = item_at section contents start ≡ None
+AddsItem section contents start old new (Some end) =
+    (item : Item) × (item_at section contents start ≡ Some (item, end)) × (new ≡ old ++ filter is_not_opt (records_among (item ∷ [])))

@@ -34,14 +34,16 @@ pub fn collapsed<'r, 'a>(
     ensures keys { IfOk result (λ not_opt. map (λ r. sort_key r.now) not_opt.items ≡ map sort_key (collapsed records.now)) }
     ensures octets { IfOk result (λ not_opt. map (λ r. canonical_wire r.now) not_opt.items ≡ map canonical_wire (collapsed records.now)) }
 {
-    let (keys, sizes) = owner_keys(alloc, records)?;
-    let keyed = with_keys(alloc, records, &keys, &sizes)?;
-    let order = in_order(keyed);
+    let keys = owner_keys(alloc, records)?;
+    let keyed = with_keys(alloc, records, &keys)?;
+    let order = collapse_keyed(keyed);
     references(alloc, &order)
 }
 
 /// The records in canonical order, those that are alike once and with the least TTL.
-fn in_order<'k, 'r, 'a>(mut keyed: Vec<KeyedRecord<'k, 'r, 'a>>) -> Vec<KeyedRecord<'k, 'r, 'a>>
+fn collapse_keyed<'k, 'r, 'a>(
+    mut keyed: Vec<KeyedRecord<'k, 'r, 'a>>,
+) -> Vec<KeyedRecord<'k, 'r, 'a>>
     ensures keys { map (λ k. sort_key k.record.now) result.items ≡ map sort_key (collapsed (map (λ k. k.record.now) keyed.entry.items)) }
     ensures octets { map (λ k. canonical_wire k.record.now) result.items ≡ map canonical_wire (collapsed (map (λ k. k.record.now) keyed.entry.items)) }
 {

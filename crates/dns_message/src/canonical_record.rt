@@ -62,7 +62,9 @@ impl<'a> CanonicalRecord<'a> {
     }
 
     /// The record; none for one of type OPT.
-    fn of_record(found: Record<RevNameBuf, RecordData<'a, NameBuf>>) -> Option<CanonicalRecord<'a>>
+    pub(crate) fn of_record(
+        found: Record<RevNameBuf, RecordData<'a, NameBuf>>,
+    ) -> Option<CanonicalRecord<'a>>
         requires { found.rtype.code.value ≢ opt_number → AreSound found }
         ensures { MatchOption result (filter is_not_opt (record_value found.entry ∷ []) ≡ []) (λ r. filter is_not_opt (record_value found.entry ∷ []) ≡ r ∷ []) }
     {

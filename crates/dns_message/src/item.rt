@@ -1,9 +1,10 @@
 //! Items of messages.
 
-ghost use Rattle.std.specs.Prelude.{◌≡◌, ◌↔◌, ◌≤◌, length, drop, IfOk, IsTrue};
+ghost use Rattle.std.specs.Prelude.{◌≡◌, ◌↔◌, ◌≤◌, length, drop, IfOk, IsTrue, MatchOption, Some, None};
 ghost use Rattle.dns_wire.specs.Reading.{Gives};
 ghost use Rattle.dns_wire.specs.Pointers.{name_at};
 ghost use Rattle.dns_record.specs.Data.{data_in};
+ghost use Rattle.dns_record.specs.Questions.{question_in};
 ghost use Rattle.dns_record.specs.Records.{record_in};
 ghost use Rattle.dns_message.specs.Messages.{item_at};
 ghost use Rattle.dns_message.specs.Seen.{AreSound, BeginsEdns, item_seen, record_value, HasSoundData, IsOfSection};
@@ -46,12 +47,28 @@ fn begins_edns(octets: &[u8]) -> bool
 
 /// Reads the record at a place, and gives the place where it ends.
 #[tactic(auto, using(crate::proofs::Sound::short_data))]
-fn read_record(contents: &[u8], start: usize) -> Result<(ParsedRecord<'_>, usize), ParseError>
+pub(crate) fn read_record(
+    contents: &[u8],
+    start: usize,
+) -> Result<(ParsedRecord<'_>, usize), ParseError>
     ensures exact { Gives (λ x. (record_value x.0, x.1)) result (record_in name_at (data_in name_at) contents.now start) }
     ensures within { IfOk result (λ x. (start ≤ x.1) × (x.1 ≤ length contents.now)) }
     ensures sound { IfOk result (λ x. AreSound x.0) }
 {
     Record::split_message_bytes(contents, start)
+}
+
+/// Where the question at a place ends; `None` exactly if no question is there.
+pub(crate) fn end_of_question(contents: &[u8], start: usize) -> Option<usize>
+    ensures { MatchOption result (question_in name_at contents.now start ≡ None) (λ end. (q : Rattle.dns_message.specs.Messages.Question) × (question_in name_at contents.now start ≡ Some (q, end))) }
+{
+    let read: Result<(Question<RevNameBuf>, usize), ParseError> = Question::split_message_bytes(
+        contents, start,
+    );
+    match read {
+        Ok((_question, end)) => Some(end),
+        Err(_) => None,
+    }
 }
 
 /// Reads the additional item at a place, and gives the place where it ends.

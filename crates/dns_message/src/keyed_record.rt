@@ -1,6 +1,6 @@
 //! Records with the keys of their owners, by which they are compared without looking at labels.
 
-ghost use Rattle.std.specs.Prelude.{◌≡◌, IfOk, flat_map, map, length};
+ghost use Rattle.std.specs.Prelude.{◌≡◌, IfOk, flat_map, map};
 ghost use Rattle.std.proofs.Common.{rules};
 ghost use Rattle.std.specs.Cmp.{partial_order_from_own_ties};
 ghost use Rattle.std.specs.Cmp.Rules.{comparing};
@@ -11,12 +11,12 @@ ghost use Rattle.dns_message.specs.OwnerKeys.{owner_key};
 
 use crate::canonical_record::CanonicalRecord;
 use crate::owner_key::push_owner_key;
-use dns_wire::compare_lowercase;
+use dns_name::CanonicalName;
 use std::alloc::{AllocError, Global};
 use std::cmp::Ordering;
 
-/// Room for the keys of a small message, in octets. More keys make it grow.
-const FIRST_ROOM: usize = 1_024;
+/// Room for the key of an owner, in octets. Longer keys make the room grow.
+const KEY_ROOM: usize = 32;
 
 /// A record with the key of its owner. It is seen as the record.
 #[derive(Drop)]
@@ -31,7 +31,7 @@ impl KeyedRecord<'_, '_, '_> {
     fn cmp_owner(&self, other: &KeyedRecord<'_, '_, '_>) -> Ordering
         ensures { result ≡ key_cmp (key self.now.record.now.owner) (key other.now.record.now.owner) }
     {
-        compare_lowercase(self.key, other.key)
+        self.key.cmp(other.key)
     }
 
     /// The order by owner, class, type and canonical data, in which alike records tie.
@@ -93,39 +93,33 @@ impl PartialOrd for KeyedRecord<'_, '_, '_> {
     }
 }
 
-/// The keys of the records' owners one after another, and their sizes. `AllocError` is out of memory.
+/// The keys of the records' owners, one after another. `AllocError` is out of memory.
 pub(crate) fn owner_keys(
     alloc: Global,
     records: &[CanonicalRecord<'_>],
-) -> Result<(Vec<u8>, Vec<usize>), AllocError>
-    ensures keys { IfOk result (λ keys. keys.0.items ≡ flat_map (λ r. owner_key r.owner) records.now) }
-    ensures sizes { IfOk result (λ keys. keys.1.items ≡ map (λ r. length (owner_key r.owner)) records.now) }
+) -> Result<Vec<u8>, AllocError>
+    ensures { IfOk result (λ keys. keys.items ≡ flat_map (λ r. owner_key r.owner) records.now) }
 {
-    let mut octets = Vec::with_capacity(alloc, FIRST_ROOM)?;
-    let mut sizes = Vec::with_capacity(alloc, records.len())?;
+    let mut keys = Vec::with_capacity(alloc, records.len().saturating_mul(KEY_ROOM))?;
     for record in records {
-        let before = octets.len();
-        push_owner_key(&mut octets, record.owner().as_revname())?;
-        sizes.push(octets.len() - before)?;
+        push_owner_key(&mut keys, record.owner().as_revname())?;
     }
-    Ok((octets, sizes))
+    Ok(keys)
 }
 
-/// The records with these keys, of these sizes. `AllocError` is out of memory.
+/// The records with these keys, each of which is as long as its owner. `AllocError` is out of memory.
 pub(crate) fn with_keys<'k, 'r, 'a>(
     alloc: Global,
     records: &'r [CanonicalRecord<'a>],
     keys: &'k [u8],
-    sizes: &[usize],
 ) -> Result<Vec<KeyedRecord<'k, 'r, 'a>>, AllocError>
-    requires keys { keys.now ≡ flat_map (λ r. owner_key r.owner) records.now }
-    requires sizes { sizes.now ≡ map (λ r. length (owner_key r.owner)) records.now }
+    requires { keys.now ≡ flat_map (λ r. owner_key r.owner) records.now }
     ensures { IfOk result (λ keyed. map (λ k. k.record.now) keyed.items ≡ records.now) }
 {
     let mut keyed = Vec::with_capacity(alloc, records.len())?;
     let mut rest = keys;
     for record in records {
-        let (key, next) = rest.split_at(sizes[keyed.len()]);
+        let (key, next) = rest.split_at(record.owner().composed_size());
         keyed.push(KeyedRecord { key, record })?;
         rest = next;
     }

@@ -40,7 +40,7 @@ pub struct MessageParser<'a> {
 impl<'a> MessageParser<'a> {
     ghost use Rattle.std.specs.Prelude.{◌≡◌, ◌≤◌, ◌<◌, ◌^◌, [], ◌∷◌, ◌+◌, ℕ, Some, None, false, length, drop, IfOk, IfErr, IfSome, OnSome, MatchOption};
     ghost use Rattle.dns_message.specs.Headers.{IsHeaderOf};
-    ghost use Rattle.dns_message.specs.Parsing.{parsed_message, given_count, next_start, has_ended, slots_ahead, GivesNext};
+    ghost use Rattle.dns_message.specs.Parsing.{parsed_message, given_count, next_start, has_ended, slots_ahead, IsComing, HasPassed, GivesNext};
     ghost use Rattle.dns_message.specs.Seen.{HasSoundData, IsOfSection};
 
     /// Goes over the items of the message that these octets are. `ParseError` comes exactly below twelve octets.
@@ -107,6 +107,26 @@ impl<'a> MessageParser<'a> {
         None
     }
 
+    /// Where the next item is; none if the parser has ended.
+    pub(crate) fn coming(&self) -> Option<ItemPosition>
+        ensures none { MatchOption result (slots_ahead self.now ≡ []) (λ p. IsComing self.now p.section p.index) }
+        ensures section { IfSome result (λ p. p.section ≤ 3) }
+    {
+        if self.ended {
+            return None;
+        }
+        self.next_position()
+    }
+
+    /// Goes on to the item after the one at this position, which ends there.
+    pub(crate) fn pass(&mut self, position: ItemPosition, end: usize)
+        requires { IsComing self.old position.section position.index }
+        ensures { HasPassed self.old position.section position.index end self.new }
+    {
+        self.given += 1;
+        self.offset = end;
+    }
+
     /// The next item, with its position; an error if it is not read. After an error, and if no item is left, there is none for
     /// good, and `offset` stays.
     pub fn next_item(&mut self) -> Option<(ItemPosition, Result<ParsedMessageItem<'a>, ParseError>)>
@@ -115,15 +135,11 @@ impl<'a> MessageParser<'a> {
         ensures sound { IfSome result (λ r. IfOk r.1 HasSoundData) }
         ensures kind { IfSome result (λ r. IfOk r.1 (IsOfSection r.0.section (drop (next_start self.old) (drop HEADER_SIZE (parsed_message self.old))))) }
     {
-        if self.ended {
-            return None;
-        }
-        let position = self.next_position()?;
+        let position = self.coming()?;
         let section = usize::from(position.section);
         match read_item(self.message.contents(), section, self.offset) {
             Ok((item, end)) => {
-                self.given += 1;
-                self.offset = end;
+                self.pass(position, end);
                 Some((position, Ok(item)))
             }
             Err(error) => {

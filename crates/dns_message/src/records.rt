@@ -3,16 +3,42 @@
 ghost use Rattle.std.specs.Prelude.{◌≡◌, ◌≤◌, List, IfOk, IfErr, filter, length, take};
 ghost use Rattle.dns_message.specs.Canonical.{canonical_wire, is_not_opt};
 ghost use Rattle.dns_message.specs.Messages.{RecordValue, Valid};
+ghost use Rattle.dns_message.specs.Parsing.{AddsItem};
 ghost use Rattle.dns_message.specs.Refusals.{RefusedOrMemory};
 
 use crate::canon_error::CanonError;
 use crate::canonical_record::CanonicalRecord;
+use crate::item::{end_of_question, read_record};
 use crate::parser::MessageParser;
 use dns_wire::BuildBytes;
-use std::alloc::Global;
+use std::alloc::{AllocError, Global};
 
 /// The fewest octets of a record: a root, and ten octets after it (RFC 1035 section 3.2.1).
 const FEWEST_OCTETS: usize = 11;
+
+/// Reads the item of a section at a place, and puts it after the records, unless it is a question or of type OPT. It gives the place where
+/// the item ends; `None` exactly if none is there. `AllocError` is out of memory.
+fn add_item<'a>(
+    records: &mut Vec<CanonicalRecord<'a>>,
+    contents: &'a [u8],
+    section: u8,
+    start: usize,
+) -> Result<Option<usize>, AllocError>
+    ensures { IfOk result (AddsItem section contents.now start records.old.items records.new.items) }
+{
+    if section == 0 {
+        return Ok(end_of_question(contents, start));
+    }
+    match read_record(contents, start) {
+        Ok((found, end)) => {
+            if let Some(found) = CanonicalRecord::of_record(found) {
+                records.push(found)?;
+            }
+            Ok(Some(end))
+        }
+        Err(_) => Ok(None),
+    }
+}
 
 /// Reads a whole message, and keeps its records but those of type OPT, in the message's order. Their data are borrowed by the
 /// message, and memory is taken once, for as many as the header counts and the contents can hold.
@@ -27,16 +53,16 @@ pub fn read_records(alloc: Global, message: &[u8]) -> Result<Vec<CanonicalRecord
     let counted = usize::from(answers) + usize::from(authorities) + usize::from(additional);
     let held = parser.message().contents().len() / FEWEST_OCTETS;
     let mut records = Vec::with_capacity(alloc, counted.min(held))?;
-    while let Some((position, item)) = parser.next_item() {
-        let Ok(item) = item else {
+    while let Some(position) = parser.coming() {
+        let contents = parser.message().contents();
+        let start = parser.offset();
+        let Some(end) = add_item(&mut records, contents, position.section, start)? else {
             return Err(CanonError::Item {
                 section: position.section,
                 index: position.index,
             });
         };
-        if let Some(found) = CanonicalRecord::of(item) {
-            records.push(found)?;
-        }
+        parser.pass(position, end);
     }
     Ok(records)
 }

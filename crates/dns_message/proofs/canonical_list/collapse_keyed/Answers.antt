@@ -7,7 +7,7 @@ use Rattle.dns_message.specs.Messages.{RecordValue}
 use Rattle.dns_message.specs.Order.{sort_key, record_cmp, are_alike, collapsed}
 use Rattle.dns_message.proofs.Collapsing.{collapsed_sorted, octets_alike}
 use Rattle.dns_message.proofs.FirstOfRuns.{seen_firsts, seen_sorted}
-use Rattle.dns_message.proofs.canonical_list.in_order.Goals as goal
+use Rattle.dns_message.proofs.canonical_list.collapse_keyed.Goals as goal
 
 keys_left : (c : goal.After-dedup_by) → map sort_key (map (λ k. k.record.now) c.dedup_by.new.self.items) ≡ map sort_key (collapsed (map (λ k. k.record.now) c.args.keyed.items))
 keys_left c =
