@@ -73,7 +73,7 @@ def check_parts(report, text, word):
             command = ["parallel", "--pipe", "--keep-order", "--jobs", "4", "--block", block, LINES, word]
             ran = subprocess.run(command, stdin=open(file.name, "rb"), stdout=subprocess.PIPE, stderr=subprocess.DEVNULL)
             report.add(f"{word} by parallel in blocks of {block}", "four processes", ran.stdout == whole)
-        for size in ("-l 1000", "-C 77777"):
+        for size in ("-l 1000", "-C 77777", "-n l/7", "-n l/64"):
             with tempfile.TemporaryDirectory() as folder:
                 subprocess.run(["split", *size.split(), file.name, f"{folder}/part."], check=True)
                 parts = sorted(Path(folder).iterdir())
@@ -91,14 +91,15 @@ def check_devices(report, text):
 
 def main():
     options = argparse.ArgumentParser()
-    options.add_argument("--lines", type=int, default=20_000)
-    count = options.parse_args().lines
+    options.add_argument("--lines", type=int, default=20_000, help="how many lines of samples are cut into parts")
+    options.add_argument("--text", type=Path, help="a file whose lines are cut in their place")
+    chosen = options.parse_args()
     report = Report()
     names = sorted(path.stem for path in (samples.ROOT / "samples").glob("*.hex"))
     check_samples(report, names)
     check_refusals(report)
     for word in ("normal", "digest"):
-        check_parts(report, mixed(names, count), word)
+        check_parts(report, chosen.text.read_bytes() if chosen.text else mixed(names, chosen.lines), word)
     check_devices(report, b"00" * 12 + b"\n")
     sys.exit(report.end())
 
