@@ -37,7 +37,7 @@ static inline int is_before(const struct entry *a, const struct entry *b) {
     return d ? d < 0 : a->record->ttl < b->record->ttl;
 }
 
-/* Whether records are alike but for their TTL. */
+/* Whether records are alike except for their TTL. */
 static inline int are_alike(const struct entry *a, const struct entry *b) {
     return a->head == b->head && rest_cmp(a->record, b->record) == 0;
 }

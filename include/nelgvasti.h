@@ -87,7 +87,7 @@ uint32_t nelgvasti_canonical_size(const uint8_t *message, size_t message_length,
                                   struct nelgvasti_place *place);
 
 /* Writes the canonical list of a message to `out`, and the number of its octets to `out_length`: the canonical octets of each record other than
- * OPT, one record after the other in canonical order (RFC 4034 section 6). Records that are alike but for TTL and ASCII case occur once,
+ * OPT, one record after the other in canonical order (RFC 4034 section 6). Records that are alike except for TTL and ASCII case occur once,
  * with the least TTL (RFC 2181 section 5.2). A record says itself where it ends: an owner without pointers, type, class, TTL, the number of
  * octets of data in two octets, and these.
  *
@@ -104,7 +104,7 @@ uint32_t nelgvasti_canonical(const uint8_t *message, size_t message_length,
 
 /* Writes 1 to `same` if two messages carry the same records other than OPT, and else 0. Order, sections, duplicates, header and questions do
  * not count, nor does ASCII case in owners and in the names in data of nine types (RFC 4034 section 6.2, RFC 6840 section 5.1). Of records
- * that are alike but for TTL the least TTL counts.
+ * that are alike except for TTL the least TTL counts.
  *
  *     uint32_t same = 0;
  *     uint32_t answer = nelgvasti_same(first, first_length, second, second_length, &same, &place);
@@ -183,7 +183,7 @@ uint32_t nelgvasti_key_tag(const uint8_t *rdata, size_t rdata_length, uint16_t *
 uint32_t nelgvasti_canonical_name(const uint8_t *name, size_t name_length,
                                   uint8_t *out, size_t out_capacity, size_t *out_length);
 
-/* Writes -1, 0 or 1 to `order` if the first name comes before the second in canonical order, is equal to it but for ASCII case, or comes after
+/* Writes -1, 0 or 1 to `order` if the first name comes before the second in canonical order, is equal to it except for ASCII case, or comes after
  * it (RFC 4034 section 6.1). The names are in wire format. It takes no memory.
  *
  *     int32_t order = 0;

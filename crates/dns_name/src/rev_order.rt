@@ -18,7 +18,7 @@ use crate::rev_name_buf::RevNameBuf;
 use dns_wire::{agreement_from_start, compare_agreed, compare_lowercase};
 use std::cmp::Ordering;
 
-/// The order of two labels. So many octets agree where they are written, the octet of their size first, and no more.
+/// The order of two labels. Of their octets as they are written, the octet of their size first, `agreed` agree, and no more.
 fn compare_labels(label: &[u8], other: &[u8], agreed: usize) -> Ordering
     requires { agreed ≡ agreeing_prefix (length label.now ∷ label.now) (length other.now ∷ other.now) }
     ensures { result ≡ label_cmp label.now other.now }

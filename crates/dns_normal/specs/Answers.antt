@@ -35,7 +35,7 @@ abbrev pub octets_among : List Octets → ℕ
 octets_among [] = 0
 octets_among (octets ∷ lists) = length octets + octets_among lists
 
--- The records are the answers in a buffer of so many octets, and nothing else is in it: their octets are those that are built one after
+-- The records are the answers in a buffer of `most` octets, and nothing else is in it: their octets are those that are built one after
 -- another, and the message is read whole as them, except for ASCII case where it does not count.
 pub record HasAnswers (most : ℕ) (rs : List RecordValue) (draft : Draft) : Type 0 where
   pub header : draft.header ≡ answers_header (length rs)

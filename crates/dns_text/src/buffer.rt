@@ -4,7 +4,7 @@ ghost use Rattle.std.specs.Prelude.{◌≡◌, IfOk, replicate, vec_len};
 
 use std::alloc::{AllocError, Global};
 
-/// So many octets 0, by copies of a piece: `vec!` would write them one by one. `AllocError` is out of memory.
+/// As many octets 0 as `count`, by copies of a piece: `vec!` would write them one by one. `AllocError` is out of memory.
 pub fn zeros(alloc: Global, count: usize) -> Result<Vec<u8>, AllocError>
     ensures zeros { IfOk result (λ octets. octets.items ≡ replicate count 0) }
     ensures size { IfOk result (λ octets. vec_len octets ≡ count) }

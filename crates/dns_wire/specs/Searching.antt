@@ -43,7 +43,7 @@ before_limit limit (Some prefix) = if nat_lt prefix limit then Some prefix else 
 abbrev pub class_by : ℕ → ℕ → ℕ
 class_by octet size = (octet + 8 * size) % 32
 
--- the class of a label by the octet that is that far back from its last, where its length stands before its first
+-- the class of a label by the octet that is that far back from its last, if its length is before its first
 abbrev pub label_class : ℕ → Octets → ℕ
 label_class back label = class_by (slice_index (length label ∷ label) (length label - back)) (length label)
 

@@ -34,7 +34,7 @@ pub fn compare_lowercase(a: &[u8], b: &[u8]) -> Ordering
     compare_agreed(a, b, agreement_from_start(a, b))
 }
 
-/// As `compare_lowercase`, of octets of which so many agree from the first on, ignoring ASCII case.
+/// As `compare_lowercase`, of octets of which the first `agreed` agree, ignoring ASCII case.
 pub fn compare_agreed(a: &[u8], b: &[u8], agreed: usize) -> Ordering
     requires { agreed ≡ agreeing_prefix a.now b.now }
     ensures { result ≡ slice_cmp nat_cmp (str_to_ascii_lowercase a.now) (str_to_ascii_lowercase b.now) }

@@ -54,7 +54,7 @@ pub extern "C" fn nelgvasti_canonical_name(
     DONE
 }
 
-/// Writes -1, 0 or 1 if the first name comes before the second, is the same but for ASCII case, or comes after it, in canonical order
+/// Writes -1, 0 or 1 if the first name comes before the second, is the same except for ASCII case, or comes after it, in canonical order
 /// (RFC 4034 section 6.1).
 #[unsafe(no_mangle)]
 pub extern "C" fn nelgvasti_compare_names(first: &[u8], second: &[u8], order: &mut i32) -> u32

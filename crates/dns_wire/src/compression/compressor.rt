@@ -75,8 +75,9 @@ impl NameCompressor {
         let mut best = None;
         let mut prefix = name.len();
         for place in self.recorded.as_slice() {
-            let at = *place as usize;
-            if let Some(found) = marked_suffix(contents, at, name, count, prefix, &last, &other) {
+            if let Some(found) = marked_suffix(
+                contents, *place, name, count, prefix, &last, &other,
+            ) {
                 if found == 0 {
                     return Some((0, *place));
                 }

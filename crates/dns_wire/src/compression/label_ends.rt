@@ -38,10 +38,8 @@ pub(crate) fn mark_labels(name: &[u8], back: usize) -> [bool; CLASSES]
     marks
 }
 
-/// Whether the class of the label at the place is marked, or what is there is no label. Where it is false, no
-/// suffix of labels that are all marked is at the place.
-#[inline(always)]
-pub(crate) fn may_be_marked(
+/// As `may_be_marked`, where the octets may end before the label does.
+fn may_be_marked_near_end(
     contents: &[u8],
     place: usize,
     marks: &[bool; CLASSES],
@@ -60,4 +58,28 @@ pub(crate) fn may_be_marked(
         return true;
     }
     marks[class_of(contents[last - back], size)]
+}
+
+/// Whether the class of the label at the place is marked, or what is there is no label. Where it is false, no
+/// suffix of labels that are all marked is at the place.
+#[inline(always)]
+pub(crate) fn may_be_marked(
+    contents: &[u8],
+    place: u16,
+    marks: &[bool; CLASSES],
+    back: usize,
+) -> bool
+    requires { back ≤ 1 }
+    ensures unmarked { UnmarkedAt back marks.now contents.now place → IsFalse result }
+    ensures passed { IsFalse result → (labels : Labels) → AllMarked back marks.now labels → suffix_at contents.now place 0 labels ≡ None }
+{
+    let at = place as usize;
+    if at + MAX_LABEL_SIZE >= contents.len() {
+        return may_be_marked_near_end(contents, at, marks, back);
+    }
+    let size = contents[at] as usize;
+    if size < back || size > MAX_LABEL_SIZE {
+        return true;
+    }
+    marks[class_of(contents[at + size - back], size)]
 }

@@ -155,7 +155,7 @@ fn suffix_before(
 #[inline(always)]
 pub(crate) fn marked_suffix(
     contents: &[u8],
-    place: usize,
+    place: u16,
     name: &[u8],
     count: usize,
     limit: usize,
@@ -172,5 +172,5 @@ pub(crate) fn marked_suffix(
     if !may_be_marked(contents, place, last, 0) || !may_be_marked(contents, place, other, 1) {
         return None;
     }
-    suffix_before(contents, place, name, count, limit)
+    suffix_before(contents, place as usize, name, count, limit)
 }
