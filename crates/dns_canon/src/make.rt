@@ -20,6 +20,10 @@ use dns_rdata::RecordData;
 use dns_record::{CharStrBuf, RClass, Record, TTL};
 use dns_wire::{NameCompressor, ParseBytes};
 use std::alloc::{AllocError, Global};
+use std::fmt::Write;
+
+/// The most octets of a text that a name or a string is read from: `h96.z6.Example.`, less than 16.
+const LONGEST_TEXT: usize = 16;
 
 /// The line on the message of that many generated records, at most 1,000: how many records its canonical list has, how many octets
 /// these have, and how many the message has, whose names are shared.
@@ -63,15 +67,16 @@ fn push_records(
     requires none { HasMade 0 builder.old }
     ensures { OnOk result (HasMade count builder.new) }
 {
+    let mut text = String::with_capacity(alloc, LONGEST_TEXT)?;
     for index in 0..count {
-        push_record(alloc, builder, index)?;
+        push_record(&mut text, builder, index)?;
     }
     Ok(())
 }
 
-/// Adds the record of a number, whose data are of four types by turns.
+/// Adds the record of a number, whose data are of four types by turns. Names are written to the text before they are read.
 fn push_record(
-    alloc: Global,
+    text: &mut String,
     builder: &mut MessageBuilder<'_>,
     index: u16,
 ) -> Result<(), AllocError>
@@ -79,28 +84,82 @@ fn push_record(
     requires before { HasMade index builder.old }
     ensures { OnOk result (HasMade (index + 1) builder.new) }
 {
-    let owner = owner_of(alloc, index)?;
     match index % 4 {
-        0 => push_answer(builder, index, owner, RecordData::A(address_of(index))),
-        1 => {
-            let server = server_of(alloc, index)?;
-            push_answer(builder, index, owner, RecordData::Ns(Ns { server }));
-        }
-        2 => {
-            let preference = U16::new(index);
-            let exchange = exchange_of(alloc, index)?;
-            let rdata = RecordData::Mx(Mx {
-                preference,
-                exchange,
-            });
-            push_answer(builder, index, owner, rdata);
-        }
-        _ => {
-            let string = string_of(alloc, index)?;
-            let strings = strings_of(&string);
-            push_answer(builder, index, owner, RecordData::Txt(strings));
-        }
+        0 => push_address(text, builder, index),
+        1 => push_server(text, builder, index),
+        2 => push_exchange(text, builder, index),
+        _ => push_string(text, builder, index),
     }
+}
+
+/// Adds the record of a number, whose data are an address.
+fn push_address(
+    text: &mut String,
+    builder: &mut MessageBuilder<'_>,
+    index: u16,
+) -> Result<(), AllocError>
+    requires few { index < MOST_RECORDS }
+    requires turn { index % 4 ≡ 0 }
+    requires before { HasMade index builder.old }
+    ensures { OnOk result (HasMade (index + 1) builder.new) }
+{
+    let owner = owner_of(text, index)?;
+    push_answer(builder, index, owner, RecordData::A(address_of(index)));
+    Ok(())
+}
+
+/// Adds the record of a number, whose data are a name server.
+fn push_server(
+    text: &mut String,
+    builder: &mut MessageBuilder<'_>,
+    index: u16,
+) -> Result<(), AllocError>
+    requires few { index < MOST_RECORDS }
+    requires turn { index % 4 ≡ 1 }
+    requires before { HasMade index builder.old }
+    ensures { OnOk result (HasMade (index + 1) builder.new) }
+{
+    let owner = owner_of(text, index)?;
+    let server = server_of(text, index)?;
+    push_answer(builder, index, owner, RecordData::Ns(Ns { server }));
+    Ok(())
+}
+
+/// Adds the record of a number, whose data are a mail exchange.
+fn push_exchange(
+    text: &mut String,
+    builder: &mut MessageBuilder<'_>,
+    index: u16,
+) -> Result<(), AllocError>
+    requires few { index < MOST_RECORDS }
+    requires turn { index % 4 ≡ 2 }
+    requires before { HasMade index builder.old }
+    ensures { OnOk result (HasMade (index + 1) builder.new) }
+{
+    let owner = owner_of(text, index)?;
+    let exchange = exchange_of(text, index)?;
+    let rdata = RecordData::Mx(Mx {
+        preference: U16::new(index),
+        exchange,
+    });
+    push_answer(builder, index, owner, rdata);
+    Ok(())
+}
+
+/// Adds the record of a number, whose data are a string.
+fn push_string(
+    text: &mut String,
+    builder: &mut MessageBuilder<'_>,
+    index: u16,
+) -> Result<(), AllocError>
+    requires few { index < MOST_RECORDS }
+    requires turn { index % 4 ≡ 3 }
+    requires before { HasMade index builder.old }
+    ensures { OnOk result (HasMade (index + 1) builder.new) }
+{
+    let owner = owner_of(text, index)?;
+    let string = string_of(text, index)?;
+    push_answer(builder, index, owner, RecordData::Txt(strings_of(&string)));
     Ok(())
 }
 
@@ -124,10 +183,11 @@ fn push_answer(
 }
 
 /// The owner of the record of a number.
-fn owner_of(alloc: Global, index: u16) -> Result<NameBuf, AllocError>
+fn owner_of(text: &mut String, index: u16) -> Result<NameBuf, AllocError>
     ensures { IfOk result (λ name. name ≡ generated_owner index) }
 {
-    let text = format!(in alloc; "h{}.z{}.Example.", index % 97, index % 7)?;
+    text.clear();
+    write!(text, "h{}.z{}.Example.", index % 97, index % 7)?;
     Ok(text.parse().unwrap())
 }
 
@@ -142,26 +202,29 @@ fn address_of(index: u16) -> A
 }
 
 /// The server in the record of a number.
-fn server_of(alloc: Global, index: u16) -> Result<NameBuf, AllocError>
+fn server_of(text: &mut String, index: u16) -> Result<NameBuf, AllocError>
     ensures { IfOk result (λ name. name ≡ generated_server index) }
 {
-    let text = format!(in alloc; "ns{}.EXAMPLE.", index % 5)?;
+    text.clear();
+    write!(text, "ns{}.EXAMPLE.", index % 5)?;
     Ok(text.parse().unwrap())
 }
 
 /// The exchange in the record of a number.
-fn exchange_of(alloc: Global, index: u16) -> Result<NameBuf, AllocError>
+fn exchange_of(text: &mut String, index: u16) -> Result<NameBuf, AllocError>
     ensures { IfOk result (λ name. name ≡ generated_exchange index) }
 {
-    let text = format!(in alloc; "mx{}.example.", index % 3)?;
+    text.clear();
+    write!(text, "mx{}.example.", index % 3)?;
     Ok(text.parse().unwrap())
 }
 
 /// The string in the record of a number.
-fn string_of(alloc: Global, index: u16) -> Result<CharStrBuf, AllocError>
+fn string_of(text: &mut String, index: u16) -> Result<CharStrBuf, AllocError>
     ensures { IfOk result (λ string. string ≡ generated_string index) }
 {
-    let text = format!(in alloc; "t{}", index)?;
+    text.clear();
+    write!(text, "t{}", index)?;
     Ok(text.parse().unwrap())
 }
 

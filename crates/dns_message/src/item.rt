@@ -33,7 +33,7 @@ pub enum MessageItem<N, D, E> {
 }
 
 /// A record that was read, as the items below have it.
-type ParsedRecord<'a> = Record<RevNameBuf, RecordData<'a, NameBuf>>;
+pub(crate) type ParsedRecord<'a> = Record<RevNameBuf, RecordData<'a, NameBuf>>;
 
 /// An item that was read, with its own names: its data are borrowed from the message, and its owner is kept from the root on, as
 /// owners are compared.

@@ -9,6 +9,7 @@ mod canonical_list;
 mod canonical_record;
 mod header;
 mod item;
+mod item_reader;
 mod keyed_record;
 mod laws;
 mod message;

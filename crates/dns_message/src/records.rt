@@ -8,7 +8,7 @@ ghost use Rattle.dns_message.specs.Refusals.{RefusedOrMemory};
 
 use crate::canon_error::CanonError;
 use crate::canonical_record::CanonicalRecord;
-use crate::item::{end_of_question, read_record};
+use crate::item_reader::ItemReader;
 use crate::parser::MessageParser;
 use dns_wire::BuildBytes;
 use std::alloc::{AllocError, Global};
@@ -19,17 +19,20 @@ const FEWEST_OCTETS: usize = 11;
 /// Reads the item of a section at a place, and puts it after the records, unless it is a question or of type OPT. It gives the place where
 /// the item ends; `None` exactly if none is there. `AllocError` is out of memory.
 fn add_item<'a>(
+    alloc: Global,
     records: &mut Vec<CanonicalRecord<'a>>,
-    contents: &'a [u8],
+    reader: &mut ItemReader<'a>,
     section: u8,
     start: usize,
 ) -> Result<Option<usize>, AllocError>
-    ensures { IfOk result (AddsItem section contents.now start records.old.items records.new.items) }
+    ensures adds { IfOk result (AddsItem section reader.old start records.old.items records.new.items) }
+    ensures unchanged { reader.new ≡ reader.old }
 {
+    reader.look(alloc, section, start)?;
     if section == 0 {
-        return Ok(end_of_question(contents, start));
+        return Ok(reader.end_of_question(start));
     }
-    match read_record(contents, start) {
+    match reader.read_record(start) {
         Ok((found, end)) => {
             if let Some(found) = CanonicalRecord::of_record(found) {
                 records.push(found)?;
@@ -53,10 +56,10 @@ pub fn read_records(alloc: Global, message: &[u8]) -> Result<Vec<CanonicalRecord
     let counted = usize::from(answers) + usize::from(authorities) + usize::from(additional);
     let held = parser.message().contents().len() / FEWEST_OCTETS;
     let mut records = Vec::with_capacity(alloc, counted.min(held))?;
+    let mut reader = ItemReader::new(parser.message().contents());
     while let Some(position) = parser.coming() {
-        let contents = parser.message().contents();
         let start = parser.offset();
-        let Some(end) = add_item(&mut records, contents, position.section, start)? else {
+        let Some(end) = add_item(alloc, &mut records, &mut reader, position.section, start)? else {
             return Err(CanonError::Item {
                 section: position.section,
                 index: position.index,

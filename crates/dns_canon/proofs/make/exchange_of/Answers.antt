@@ -8,12 +8,12 @@ use Rattle.dns_canon.proofs.make.exchange_of.Goals as goal
 
 pub unwrap-requires : goal.unwrap-requires
 unwrap-requires c =
-    let read : c.parse.result ≡ Ok (generated_exchange c.args.index) = c.parse.ensures.value ∙ ap parsed_name (c.deref.ensures ∙ c.in_ok-text.ensures.ok) ∙ plain_parsed (generated_exchange c.args.index) (mx_plain_name c.args.index) (omega (arith, mx_short c.args.index)) in
+    let read : c.parse.result ≡ Ok (generated_exchange c.args.index) = c.parse.ensures.value ∙ ap parsed_name (c.deref.ensures ∙ rw c.clear.ensures.bytes at c.in_ok-write.ensures.bytes) ∙ plain_parsed (generated_exchange c.args.index) (mx_plain_name c.args.index) (omega (arith, mx_short c.args.index)) in
     subst IsOk (sym read) refl
 
 pub returns : goal.returns
 returns c =
-    let read : c.parse.result ≡ Ok (generated_exchange c.args.index) = c.parse.ensures.value ∙ ap parsed_name (c.deref.ensures ∙ c.in_ok-text.ensures.ok) ∙ plain_parsed (generated_exchange c.args.index) (mx_plain_name c.args.index) (omega (arith, mx_short c.args.index)) in
+    let read : c.parse.result ≡ Ok (generated_exchange c.args.index) = c.parse.ensures.value ∙ ap parsed_name (c.deref.ensures ∙ rw c.clear.ensures.bytes at c.in_ok-write.ensures.bytes) ∙ plain_parsed (generated_exchange c.args.index) (mx_plain_name c.args.index) (omega (arith, mx_short c.args.index)) in
     let same = sym c.unwrap.ensures ∙ read in
     let name : c.unwrap.result ≡ generated_exchange c.args.index = cc in
     name

@@ -7,12 +7,12 @@ use Rattle.dns_canon.proofs.make.string_of.Goals as goal
 
 pub unwrap-requires : goal.unwrap-requires
 unwrap-requires c =
-    let read : c.parse.result ≡ Ok (generated_string c.args.index) = c.parse.ensures.value ∙ ap charstr_of (c.deref.ensures ∙ c.in_ok-text.ensures.ok) ∙ string_read c.args.index c.ranges.index.fits in
+    let read : c.parse.result ≡ Ok (generated_string c.args.index) = c.parse.ensures.value ∙ ap charstr_of (c.deref.ensures ∙ rw c.clear.ensures.bytes at c.in_ok-write.ensures.bytes) ∙ string_read c.args.index c.ranges.index.fits in
     subst IsOk (sym read) refl
 
 pub returns : goal.returns
 returns c =
-    let read : c.parse.result ≡ Ok (generated_string c.args.index) = c.parse.ensures.value ∙ ap charstr_of (c.deref.ensures ∙ c.in_ok-text.ensures.ok) ∙ string_read c.args.index c.ranges.index.fits in
+    let read : c.parse.result ≡ Ok (generated_string c.args.index) = c.parse.ensures.value ∙ ap charstr_of (c.deref.ensures ∙ rw c.clear.ensures.bytes at c.in_ok-write.ensures.bytes) ∙ string_read c.args.index c.ranges.index.fits in
     let same = sym c.unwrap.ensures ∙ read in
     let string : c.unwrap.result ≡ generated_string c.args.index = cc in
     string

@@ -1,0 +1,81 @@
+-- Names that are read through chains of pointers.
+use Rattle.std.proofs.Common.{◌≡◌, ℕ, ◌+◌, ◌-◌, ◌<◌, ◌≤◌, false, ltb, leb, List, length, take, Some, refl, sym, ◌∙◌, arith}
+use Rattle.std.specs.Prelude.{slice_index, ◌==◌}
+use Rattle.std.proofs.lemmas.Bool.Decides.{nat_tests}
+use Rattle.std.proofs.lemmas.Bool.{le-ltb}
+use Rattle.std.proofs.lemmas.List.{get_or-take, length-take}
+use Rattle.dns_wire.specs.declared.name_cursor.LabelType.TheVariants.{Root, Label, Pointer}
+use Rattle.dns_wire.specs.Pointers.{offset_at, label_type_at}
+use Rattle.dns_wire.proofs.Following.{label_type_is}
+use Rattle.dns_name.proofs.Followed.{Followed, followed_pointer}
+use Rattle.dns_chain.specs.Chains.{Leads, IsFinal, ChainedFrom}
+use Rattle.dns_chain.specs.Chains.ChainedFrom.{at_label, at_pointer, to_pointer}
+use Rattle.dns_chain.specs.Chains.Leads.{stays, leads}
+
+-- what a pointer has, of other contents with the same octets at its place
+pub pointer_there : (contents : List ℕ) (start at target : ℕ) → 192 ≤ slice_index contents at → at + 2 ≤ length contents → offset_at contents at ≡ target + 12 → target < start → label_type_at contents start at ≡ Some (Pointer target)
+unfolding label_type_at
+pointer_there contents start at target high room is before =
+    let there : leb (length contents) at ≡ false = grind (arith, nat_tests) in
+    let more : (slice_index contents at == 0) ≡ false = grind (arith, nat_tests) in
+    let long : ltb (slice_index contents at) 64 ≡ false = le-ltb _ _ (omega arith) in
+    let bad : ltb (slice_index contents at) 192 ≡ false = le-ltb _ _ high in
+    let fits : ltb (length contents) (at + 2) ≡ false = le-ltb _ _ room in
+    let past : ltb (offset_at contents at) 12 ≡ false = le-ltb _ _ (omega arith) in
+    let place : offset_at contents at - 12 ≡ target = omega arith in
+    let earlier : leb start target ≡ false = grind (arith, nat_tests) in
+    rw (there, more, long, bad, fits, past, place, earlier) refl
+
+pointer_within : (contents : List ℕ) (at target end : ℕ) → label_type_at contents at at ≡ Some (Pointer target) → at + 2 ≤ end → end ≤ length contents → label_type_at (take end contents) at at ≡ Some (Pointer target)
+pointer_within contents at target end is room within =
+    let p = label_type_is contents at at (Pointer target) is in
+    let first : slice_index (take end contents) at ≡ slice_index contents at = get_or-take end contents at 0 (omega arith) in
+    let second : slice_index (take end contents) (at + 1) ≡ slice_index contents (at + 1) = get_or-take end contents (at + 1) 0 (omega arith) in
+    pointer_there (take end contents) at at target (rw first p.0) (omega (arith, length-take end contents)) (rw (first, second) p.2) p.3
+
+-- a chain is the same where fewer octets are read
+pub leads_within : (contents : List ℕ) (at final end : ℕ) → Leads contents at final → at + 2 ≤ end → end ≤ length contents → Leads (take end contents) at final
+leads_within contents at final end stays room within = stays
+leads_within contents at final end (leads {target = target} is later) room within =
+    let p = label_type_is contents at at (Pointer target) is in
+    leads (pointer_within contents at target end is room within) (leads_within contents target final end later (omega (arith, p.3)) within)
+
+-- a reading goes on at the final target
+pub followed_final : (contents : List ℕ) (start at final after : ℕ) (prefix : List ℕ) → Followed contents start at at (Some after) prefix → Leads contents at final → Followed contents start final final (Some after) prefix
+followed_final contents start at final after prefix followed stays = followed
+followed_final contents start at final after prefix followed (leads {target = target} is later) =
+    let p = label_type_is contents at at (Pointer target) is in
+    followed_final contents start target final after prefix (followed_pointer contents start at at target (Some after) prefix followed is p.1 p.3) later
+
+-- pointers lead back
+pub leads_back : (contents : List ℕ) (at final : ℕ) → Leads contents at final → final ≤ at
+leads_back contents at final stays = omega arith
+leads_back contents at final (leads {target = target} is later) =
+    let p = label_type_is contents at at (Pointer target) is in
+    omega (arith, p.3, leads_back contents target final later)
+
+pub final_pointer : (contents : List ℕ) (at target final : ℕ) → label_type_at contents at at ≡ Some (Pointer target) → IsFinal contents target final → IsFinal contents at final
+final_pointer contents at target final is f = record { reached = leads is f.reached; last = f.last }
+
+-- ---- chains that are met on the way
+
+pub chained_label : (contents : List ℕ) (start at size : ℕ) → label_type_at contents start at ≡ Some (Label size) → ChainedFrom contents start at → ChainedFrom contents start (at + 1 + size)
+chained_label contents start at size is (at_label {size = other} also later) =
+    let same : other ≡ size = (let h = sym also ∙ is in cc) in
+    rw same at later
+chained_label contents start at size is (at_pointer also later) = absurd (let h = sym also ∙ is in cc)
+chained_label contents start at size is (to_pointer also high) = absurd (let h = sym also ∙ is in cc)
+
+pub chained_pointer : (contents : List ℕ) (start at target : ℕ) → label_type_at contents start at ≡ Some (Pointer target) → slice_index contents target < 192 → ChainedFrom contents start at → ChainedFrom contents target target
+chained_pointer contents start at target is low (at_label also later) = absurd (let h = sym also ∙ is in cc)
+chained_pointer contents start at target is low (at_pointer {target = other} also later) =
+    let same : other ≡ target = (let h = sym also ∙ is in cc) in
+    rw same at later
+chained_pointer contents start at target is low (to_pointer {target = other} also high) =
+    let same : other ≡ target = (let h = sym also ∙ is in cc) in
+    absurd (omega (arith, low, rw same at high))
+
+pub chained_root : (contents : List ℕ) (start at : ℕ) → label_type_at contents start at ≡ Some Root → ¬ ChainedFrom contents start at
+chained_root contents start at is (at_label also later) = absurd (let h = sym also ∙ is in cc)
+chained_root contents start at is (at_pointer also later) = absurd (let h = sym also ∙ is in cc)
+chained_root contents start at is (to_pointer also high) = absurd (let h = sym also ∙ is in cc)

@@ -1,0 +1,27 @@
+-- Chains of pointers: compression pointers that lead to pointers (RFC 1035 section 4.1.4). Places are those of the octets after the header.
+use Rattle.std.specs.Prelude.{◌≡◌, ℕ, ◌+◌, ◌<◌, ◌≤◌, length, slice_index, Some}
+use Rattle.dns_wire.specs.Octets.{Octets, Places}
+use Rattle.dns_wire.specs.declared.name_cursor.LabelType.TheVariants.{Label, Pointer}
+use Rattle.dns_wire.specs.declared.sizes.TheConstants.{POINTER_TAG}
+use Rattle.dns_wire.specs.Pointers.{label_type_at}
+
+-- From the place on there are pointers alone, each at the target of the one before it, and the last leads to `final`. Of no pointer it is the
+-- place itself.
+pub data Leads (contents : Octets) : ℕ → ℕ → Type 0 where
+  stays : {at : ℕ} → Leads contents at at
+  leads : {at target final : ℕ} → label_type_at contents at at ≡ Some (Pointer target) → Leads contents target final → Leads contents at final
+
+-- the final target of a place: pointers lead there from the place, and no pointer is there
+pub record IsFinal (contents : Octets) (at final : ℕ) : Type 0 where
+  pub reached : Leads contents at final
+  pub last : (target : ℕ) → ¬ (label_type_at contents final final ≡ Some (Pointer target))
+
+-- each place up to the length of the table has its final target there
+abbrev pub AreFinal : Octets → Places → Type 0
+AreFinal contents targets = (at : ℕ) → at < length targets → IsFinal contents at (slice_index targets at)
+
+-- a pointer that is met on the way from a place of a segment on leads to an octet that begins a pointer
+pub data ChainedFrom (contents : Octets) : ℕ → ℕ → Type 0 where
+  at_label : {start at size : ℕ} → label_type_at contents start at ≡ Some (Label size) → ChainedFrom contents start (at + 1 + size) → ChainedFrom contents start at
+  at_pointer : {start at target : ℕ} → label_type_at contents start at ≡ Some (Pointer target) → ChainedFrom contents target target → ChainedFrom contents start at
+  to_pointer : {start at target : ℕ} → label_type_at contents start at ≡ Some (Pointer target) → POINTER_TAG ≤ slice_index contents target → ChainedFrom contents start at

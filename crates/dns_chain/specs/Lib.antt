@@ -1,0 +1,2 @@
+-- What the contracts on chains of pointers cite.
+pub mod Chains

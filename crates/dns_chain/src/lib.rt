@@ -1,0 +1,14 @@
+//! Names of a message whose compression pointers lead to pointers. Each pointer is followed once for the whole message, so that long
+//! chains of pointers take no more time than their octets.
+#![tactic(auto)]
+
+mod data;
+mod final_targets;
+mod laws;
+mod question;
+mod record;
+mod unchained;
+
+pub use final_targets::FinalTargets;
+pub use laws::unchained_names_take_few_steps;
+pub use unchained::{has_chained_name, unchained_end};

@@ -1,0 +1,67 @@
+//! A first look at a name in a message.
+
+ghost use Rattle.std.specs.Prelude.{◌≡◌, ◌⊎◌, ℕ, IfSome, IfNone, OnSome, IsFalse};
+ghost use Rattle.dns_wire.specs.Octets.{Labels};
+ghost use Rattle.dns_wire.specs.Pointers.{NameAt};
+ghost use Rattle.dns_chain.specs.Chains.{ChainedFrom};
+
+use dns_name::Name;
+use dns_record::RType;
+use dns_wire::{LabelType, NameCursor, POINTER_TAG, SplitMessageBytes};
+
+/// Where the name at a place ends, if none of its pointers leads to another pointer. It is `None` exactly if one does, or if no name is
+/// there. It takes at most two steps for each label.
+pub fn unchained_end(contents: &[u8], start: usize) -> Option<usize>
+    ensures some { IfSome result (λ end. (labels : Labels) × NameAt contents.now start labels end) }
+    ensures unchained { OnSome result (¬ ChainedFrom contents.now start start) }
+    ensures none { IfNone result (ChainedFrom contents.now start start ⊎ ((labels : Labels) (end : ℕ) → ¬ NameAt contents.now start labels end)) }
+{
+    let mut size = 1;
+    let mut cursor = NameCursor::new(start);
+    loop {
+        let at = cursor.at;
+        match cursor.next_label_type(contents) {
+            Err(_) => return None,
+            Ok(LabelType::Root) => return Some(cursor.end.unwrap_or(at + 1)),
+            Ok(LabelType::Label(label)) => {
+                size += 1 + label;
+                if size > Name::MAX_SIZE {
+                    return None;
+                }
+            }
+            Ok(LabelType::Pointer(target)) => {
+                if contents[target] >= POINTER_TAG {
+                    return None;
+                }
+            }
+        }
+    }
+}
+
+/// Whether a name in the data of this type that begin at a place is behind a chain of pointers, or not read.
+fn has_chained_data(contents: &[u8], start: usize, rtype: RType) -> bool {
+    match rtype {
+        RType::NS | RType::CNAME | RType::PTR => unchained_end(contents, start).is_none(),
+        RType::MX => start < contents.len() && unchained_end(contents, start + 2).is_none(),
+        RType::SOA | RType::RP => match unchained_end(contents, start) {
+            Some(second) => unchained_end(contents, second).is_none(),
+            None => true,
+        },
+        _ => false,
+    }
+}
+
+/// Whether a name of the record at a place, its owner or one in its data, is behind a chain of pointers, or not read. So much is proved: where it
+/// is false, the owner is a name, and none of its pointers leads to another pointer.
+pub fn has_chained_name(contents: &[u8], start: usize) -> bool
+    ensures name { IsFalse result → (labels : Labels) × (end : ℕ) × NameAt contents.now start labels end }
+    ensures unchained { IsFalse result → ¬ ChainedFrom contents.now start start }
+{
+    match unchained_end(contents, start) {
+        Some(end) => match RType::split_message_bytes(contents, end) {
+            Ok((rtype, at)) => has_chained_data(contents, at + 8, rtype),
+            Err(_) => false,
+        },
+        None => true,
+    }
+}
