@@ -80,8 +80,7 @@ impl<'a> FinalTargets<'a> {
     }
 
     /// Reads the name at a place of the contents, of which only those up to `end` are read, and gives the place where it ends. Each of its pointers
-    /// is followed to its final target at once, so that it takes at most two steps for each label. `ParseError` comes exactly if no name is
-    /// there (RFC 1035 section 4.1.4).
+    /// is followed to its final target at once. `ParseError` comes exactly if no name is there (RFC 1035 section 4.1.4).
     pub fn split_name(&self, start: usize, end: usize) -> Result<(NameBuf, usize), ParseError>
         requires { end ≤ length self.now }
         ensures exact { Gives (λ x. (x.0, x.1)) result (name_at (take end self.now) start) }

@@ -1,5 +1,5 @@
-//! Names of a message whose compression pointers lead to pointers. Each pointer is followed once for the whole message, so that long
-//! chains of pointers take no more time than their octets.
+//! Names, questions and records of a message whose compression pointers lead to pointers. Each pointer is followed once for the whole
+//! message.
 #![tactic(auto)]
 
 mod data;

@@ -10,7 +10,7 @@ use dns_record::RType;
 use dns_wire::{LabelType, NameCursor, POINTER_TAG, SplitMessageBytes};
 
 /// Where the name at a place ends, if none of its pointers leads to another pointer. It is `None` exactly if one does, or if no name is
-/// there. It takes at most two steps for each label.
+/// there. Such a name has at most two steps for each label and two more (`unchained_names_take_few_steps`).
 pub fn unchained_end(contents: &[u8], start: usize) -> Option<usize>
     ensures some { IfSome result (λ end. (labels : Labels) × NameAt contents.now start labels end) }
     ensures unchained { OnSome result (¬ ChainedFrom contents.now start start) }
@@ -51,8 +51,8 @@ fn has_chained_data(contents: &[u8], start: usize, rtype: RType) -> bool {
     }
 }
 
-/// Whether a name of the record at a place, its owner or one in its data, is behind a chain of pointers, or not read. So much is proved: where it
-/// is false, the owner is a name, and none of its pointers leads to another pointer.
+/// Whether a name of the record at a place, its owner or one in its data, is behind a chain of pointers, or not read. Only its owner is in the
+/// contract: where this is false, the owner is a name, and none of its pointers leads to another pointer.
 pub fn has_chained_name(contents: &[u8], start: usize) -> bool
     ensures name { IsFalse result → (labels : Labels) × (end : ℕ) × NameAt contents.now start labels end }
     ensures unchained { IsFalse result → ¬ ChainedFrom contents.now start start }
