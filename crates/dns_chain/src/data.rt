@@ -1,4 +1,4 @@
-//! Record data whose names may be behind chains of pointers.
+//! Record data whose names may go through chains of pointers.
 
 ghost use Rattle.std.specs.Prelude.{◌≡◌, ◌≤◌, length, map, take, IfOk, MatchResult};
 ghost use Rattle.std.specs.Result.{IsOkAnd};

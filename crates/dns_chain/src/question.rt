@@ -1,4 +1,4 @@
-//! Questions whose names may be behind chains of pointers.
+//! Questions whose names may go through chains of pointers.
 
 ghost use Rattle.std.specs.Prelude.{◌≡◌, ◌≤◌, length, IfOk};
 ghost use Rattle.dns_wire.specs.Pointers.{name_at};

@@ -1,4 +1,4 @@
-//! Records whose names may be behind chains of pointers.
+//! Records whose names may go through chains of pointers.
 
 ghost use Rattle.std.specs.Prelude.{◌≡◌, ◌≤◌, length, map, IfOk};
 ghost use Rattle.dns_wire.specs.Pointers.{name_at};

@@ -38,7 +38,7 @@ pub fn unchained_end(contents: &[u8], start: usize) -> Option<usize>
     }
 }
 
-/// Whether a name in the data of this type that begin at a place is behind a chain of pointers, or not read.
+/// Whether a name in the data of this type that begin at a place goes through a chain of pointers, or is not read.
 fn has_chained_data(contents: &[u8], start: usize, rtype: RType) -> bool {
     match rtype {
         RType::NS | RType::CNAME | RType::PTR => unchained_end(contents, start).is_none(),
@@ -51,7 +51,7 @@ fn has_chained_data(contents: &[u8], start: usize, rtype: RType) -> bool {
     }
 }
 
-/// Whether a name of the record at a place, its owner or one in its data, is behind a chain of pointers, or not read. Only its owner is in the
+/// Whether a name of the record at a place, its owner or one in its data, goes through a chain of pointers, or is not read. Only its owner is in the
 /// contract: where this is false, the owner is a name, and none of its pointers leads to another pointer.
 pub fn has_chained_name(contents: &[u8], start: usize) -> bool
     ensures name { IsFalse result → (labels : Labels) × (end : ℕ) × NameAt contents.now start labels end }
