@@ -8,7 +8,7 @@
 
 enum { ONE_TEXT = 131072, TWO_TEXTS = 262144, HEADER = 12, MOST_NAME = 255, MOST_LABELS = 127 };
 
-/* Digits are copied STEP at a time, so up to STEP more than are wanted are read and written. Arrays have SLACK octets behind them. */
+/* Digits are copied STEP at a time, so up to STEP more than are wanted are read and written. Arrays have SLACK octets after them. */
 enum { STEP = 32, SLACK = 4 * STEP };
 
 enum status { SHORT = 1, ITEM, BAD_HEX, TOO_LONG, USAGE, READ_FAULT, WRITE_FAULT, NO_MEMORY };
@@ -69,7 +69,7 @@ static char *room_for(size_t n) {
 
 /* ---- digits */
 
-/* Copies n digits and gives where they end. What is copied from room to room has STEP free octets behind it, since up to STEP more than
+/* Copies n digits and gives where they end. What is copied from room to room has STEP free octets after it, since up to STEP more than
  * the digits are read. */
 static inline char *copy(char *to, const char *from, size_t n) {
     memcpy(to, from, STEP);

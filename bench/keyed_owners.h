@@ -1,7 +1,7 @@
 /* Owners by keys, for `keyed.c` and `follow_once.c`. */
 
 /* An owner: its digits, and its key, which has the order of owners: the digits of its labels from the last to the first, each with a 0
- * behind it. Eight octets 0 follow a key. */
+ * after it. Eight octets 0 follow a key. */
 struct owner {
     const char *digits, *key;
     unsigned digits_size, key_size;

@@ -27,7 +27,7 @@ first_group (a ∷ b ∷ []) long = absurd (omega arith)
 first_group (a ∷ []) long = absurd (omega arith)
 first_group [] long = absurd (omega arith)
 
--- a group's text is written behind the text of the groups before it
+-- a group's text is written after the text of the groups before it
 pub group_written : (octets text group : List ℕ) (i j k : ℕ) → length octets ≡ 20 → length text ≡ 32 → i < 4 → length group ≡ 8 → k ≡ 5
     → group ≡ base32hex_of (take k (drop (5 * i) octets)) → take (8 * i) text ++ base32hex_of (drop (5 * i) octets) ≡ base32hex_of octets
     → take (8 * (i + 1)) (put_mid (8 * i) j text group) ++ base32hex_of (drop (5 * (i + 1)) octets) ≡ base32hex_of octets

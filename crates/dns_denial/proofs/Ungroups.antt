@@ -78,7 +78,7 @@ first_eight (a ∷ b ∷ []) long = absurd (omega arith)
 first_eight (a ∷ []) long = absurd (omega arith)
 first_eight [] long = absurd (omega arith)
 
--- behind the first group is the text of the octets behind the first five
+-- after the first group is the text of the octets after the first five
 behind_eight : (xs : List ℕ) → 5 ≤ length xs → drop 8 (base32hex_of xs) ≡ base32hex_of (drop 5 xs)
 unfolding base32hex_of
 behind_eight (a ∷ b ∷ c ∷ d ∷ e ∷ rest) long = refl
@@ -126,7 +126,7 @@ pub text_long : (n : ℕ) (xs : List ℕ) → length xs ≡ 5 * n → length (ba
 unfolding base32hex_of
 text_long zero [] long = refl
 text_long zero (x ∷ xs) long = absurd (omega arith)
-text_long (suc n) (a ∷ b ∷ c ∷ d ∷ e ∷ rest) long = let behind = text_long n rest (omega arith) in omega arith
+text_long (suc n) (a ∷ b ∷ c ∷ d ∷ e ∷ rest) long = let later = text_long n rest (omega arith) in omega arith
 text_long (suc n) (a ∷ b ∷ c ∷ d ∷ []) long = absurd (omega arith)
 text_long (suc n) (a ∷ b ∷ c ∷ []) long = absurd (omega arith)
 text_long (suc n) (a ∷ b ∷ []) long = absurd (omega arith)
