@@ -22,8 +22,8 @@ use dns_wire::{NameCompressor, ParseBytes};
 use std::alloc::{AllocError, Global};
 use std::fmt::Write;
 
-/// The most octets of a text that a name or a string is read from: `h96.z6.Example.`, less than 16.
-const LONGEST_TEXT: usize = 16;
+/// Room for a text that a name or a string is read from, in octets. The longest, `h96.z6.Example.`, has 15.
+const TEXT_ROOM: usize = 16;
 
 /// The line on the message of that many generated records, at most 1,000: how many records its canonical list has, how many octets
 /// these have, and how many the message has, whose names are shared.
@@ -67,7 +67,7 @@ fn push_records(
     requires none { HasMade 0 builder.old }
     ensures { OnOk result (HasMade count builder.new) }
 {
-    let mut text = String::with_capacity(alloc, LONGEST_TEXT)?;
+    let mut text = String::with_capacity(alloc, TEXT_ROOM)?;
     for index in 0..count {
         push_record(&mut text, builder, index)?;
     }

@@ -1,37 +1,22 @@
 -- Names that are read through chains of pointers.
-use Rattle.std.proofs.Common.{◌≡◌, ℕ, ◌+◌, ◌-◌, ◌<◌, ◌≤◌, false, ltb, leb, List, length, take, Some, refl, sym, ◌∙◌, arith}
-use Rattle.std.specs.Prelude.{slice_index, ◌==◌}
-use Rattle.std.proofs.lemmas.Bool.Decides.{nat_tests}
-use Rattle.std.proofs.lemmas.Bool.{le-ltb}
+use Rattle.std.proofs.Common.{◌≡◌, ℕ, ◌+◌, ◌<◌, ◌≤◌, List, length, take, Some, refl, sym, ◌∙◌, arith}
+use Rattle.std.specs.Prelude.{slice_index}
 use Rattle.std.proofs.lemmas.List.{get_or-take, length-take}
 use Rattle.dns_wire.specs.declared.name_cursor.LabelType.TheVariants.{Root, Label, Pointer}
-use Rattle.dns_wire.specs.Pointers.{offset_at, label_type_at}
-use Rattle.dns_wire.proofs.Following.{label_type_is}
+use Rattle.dns_wire.specs.Pointers.{label_type_at}
+use Rattle.dns_wire.proofs.Following.{label_type_is, label_type_pointer}
 use Rattle.dns_name.proofs.Followed.{Followed, followed_pointer}
 use Rattle.dns_chain.specs.Chains.{Leads, IsFinal, ChainedFrom}
 use Rattle.dns_chain.specs.Chains.ChainedFrom.{at_label, at_pointer, to_pointer}
 use Rattle.dns_chain.specs.Chains.Leads.{stays, leads}
 
--- what a pointer has, of other contents with the same octets at its place
-pub pointer_there : (contents : List ℕ) (start at target : ℕ) → 192 ≤ slice_index contents at → at + 2 ≤ length contents → offset_at contents at ≡ target + 12 → target < start → label_type_at contents start at ≡ Some (Pointer target)
-unfolding label_type_at
-pointer_there contents start at target high room is before =
-    let there : leb (length contents) at ≡ false = grind (arith, nat_tests) in
-    let more : (slice_index contents at == 0) ≡ false = grind (arith, nat_tests) in
-    let long : ltb (slice_index contents at) 64 ≡ false = le-ltb _ _ (omega arith) in
-    let bad : ltb (slice_index contents at) 192 ≡ false = le-ltb _ _ high in
-    let fits : ltb (length contents) (at + 2) ≡ false = le-ltb _ _ room in
-    let past : ltb (offset_at contents at) 12 ≡ false = le-ltb _ _ (omega arith) in
-    let place : offset_at contents at - 12 ≡ target = omega arith in
-    let earlier : leb start target ≡ false = grind (arith, nat_tests) in
-    rw (there, more, long, bad, fits, past, place, earlier) refl
-
+-- a pointer is the same where fewer octets are read
 pointer_within : (contents : List ℕ) (at target end : ℕ) → label_type_at contents at at ≡ Some (Pointer target) → at + 2 ≤ end → end ≤ length contents → label_type_at (take end contents) at at ≡ Some (Pointer target)
 pointer_within contents at target end is room within =
     let p = label_type_is contents at at (Pointer target) is in
     let first : slice_index (take end contents) at ≡ slice_index contents at = get_or-take end contents at 0 (omega arith) in
     let second : slice_index (take end contents) (at + 1) ≡ slice_index contents (at + 1) = get_or-take end contents (at + 1) 0 (omega arith) in
-    pointer_there (take end contents) at at target (rw first p.0) (omega (arith, length-take end contents)) (rw (first, second) p.2) p.3
+    label_type_pointer (take end contents) at at target (rw first p.0) (omega (arith, length-take end contents)) (rw (first, second) p.2) p.3
 
 -- a chain is the same where fewer octets are read
 pub leads_within : (contents : List ℕ) (at final end : ℕ) → Leads contents at final → at + 2 ≤ end → end ≤ length contents → Leads (take end contents) at final

@@ -8,9 +8,7 @@ ghost use Rattle.dns_wire.specs.declared.sizes.TheConstants.{LAST_PLACE};
 ghost use Rattle.dns_chain.specs.Chains.{AreFinal, IsFinal, Leads};
 
 use dns_name::{Name, NameBuf};
-use dns_wire::{
-    LAST_PLACE, LabelType, NameCursor, ParseBytes, ParseError, copy_at, read_label_type,
-};
+use dns_wire::{LAST_PLACE, LabelType, NameCursor, ParseError, copy_at, read_label_type};
 use std::alloc::{AllocError, Global};
 use std::marker::Model;
 
@@ -95,7 +93,7 @@ impl<'a> FinalTargets<'a> {
             match cursor.next_label_type(contents)? {
                 LabelType::Root => {
                     copy_at(&[0], &mut buffer, size);
-                    let name = NameBuf::parse_bytes(&buffer[..size + 1])?;
+                    let name = NameBuf::from_buffer(buffer, size + 1);
                     return Ok((name, cursor.end.unwrap_or(at + 1)));
                 }
                 LabelType::Label(label) => {

@@ -1,5 +1,5 @@
-//! Names, questions and records of a message whose compression pointers lead to pointers. Each pointer is followed once for the whole
-//! message.
+//! Names, questions and records of a message whose compression pointers lead to pointers. The final target of each pointer is found
+//! once for the whole message.
 #![tactic(auto)]
 
 mod data;

@@ -4,7 +4,7 @@ ghost use Rattle.std.specs.Prelude.{◌≡◌, None, IfOk, IfErr};
 ghost use Rattle.dns_text.specs.Outcomes.{RefusesFor};
 ghost use Rattle.dns_lines.specs.Answers.{PrintsDigest, digest_refusal};
 
-use dns_message::collapsed;
+use dns_message::CanonicalForms;
 use dns_normal::{Refusal, message_of, records_in};
 use dns_text::{PrintError, hex_line};
 use dns_zone::digest_of;
@@ -19,8 +19,8 @@ pub(crate) fn digest_line(alloc: Global, text: &[u8]) -> Result<Vec<u8>, PrintEr
 {
     let message = message_of(alloc, text)?;
     let records = records_in(alloc, &message)?;
-    let order = collapsed(alloc, &records)?;
-    let digest = digest_of(alloc, &order)?;
-    let printed = hex_line(alloc, &digest)?;
+    let forms = CanonicalForms::new(alloc).with_all(&records)?;
+    let order = forms.collapsed(alloc)?;
+    let printed = hex_line(alloc, &digest_of(&order))?;
     Ok(printed)
 }

@@ -25,6 +25,7 @@ pub mod Pushed
 pub mod BuiltLemmas
 pub mod Repushed
 pub mod FirstOfRuns
+pub mod FormLemmas
 pub mod CanonicalListSameness
 pub mod SeveralMessages
 pub mod Shorter

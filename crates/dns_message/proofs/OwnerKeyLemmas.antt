@@ -18,14 +18,14 @@ use Rattle.dns_record.proofs.ComparedOctets.{then_assoc}
 use Rattle.dns_name.specs.Order.{key, key_cmp}
 use Rattle.dns_message.specs.OwnerKeys.{key_octet, label_key, labels_key, owner_key}
 
-low : (x : ℕ) → x < 65 → key_octet x ≡ x + 1
+pub low : (x : ℕ) → x < 65 → key_octet x ≡ x + 1
 low x few = ap (λ b. cond b (x + 1) (to_ascii_lowercase x)) (lt-ltb x 65 few)
 
-high : (x : ℕ) → 65 ≤ x → key_octet x ≡ to_ascii_lowercase x
+pub high : (x : ℕ) → 65 ≤ x → key_octet x ≡ to_ascii_lowercase x
 high x many = ap (λ b. cond b (x + 1) (to_ascii_lowercase x)) (le-ltb x 65 many)
 
 -- beyond `@` the octets in lowercase are beyond `Z`
-past_capitals : (x : ℕ) → 65 ≤ x → 90 < to_ascii_lowercase x
+pub past_capitals : (x : ℕ) → 65 ≤ x → 90 < to_ascii_lowercase x
 past_capitals x many = elim (cases_lt 90 x) [
   | inl past ↦ omega (arith, past, (lowercase_is x).2 past)
   | inr letter ↦ omega (arith, many, (lowercase_is x).0 (many, letter))

@@ -3,6 +3,7 @@ pub mod Building
 pub mod Built
 pub mod Canonical
 pub mod Counted
+pub mod Forms
 pub mod Headers
 pub mod MessageOctets
 pub mod Messages

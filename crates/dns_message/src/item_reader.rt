@@ -1,4 +1,4 @@
-//! Reading the items of a message at their places, where each pointer of a chain is followed once.
+//! Reading the items of a message at their places, where the pointers of chains are followed by their final targets.
 
 ghost use Rattle.std.specs.Prelude.{◌≡◌, ◌≤◌, length, IfOk, MatchOption, Some, None};
 ghost use Rattle.dns_wire.specs.Octets.{Labels, Octets};

@@ -43,8 +43,9 @@ fn add_item<'a>(
     }
 }
 
-/// Reads a whole message, and keeps its records but those of type OPT, in the message's order. Their data are borrowed by the
-/// message, and memory is taken once, for as many as the header counts and the contents can hold.
+/// Reads a whole message, and keeps its records except those of type OPT, in the message's order. Their data are borrowed from the
+/// message. Memory for them is taken once, for as many as the header counts and the contents can hold; at the first chain of pointers
+/// it is taken for the final targets too.
 pub fn read_records(alloc: Global, message: &[u8]) -> Result<Vec<CanonicalRecord<'_>>, CanonError>
     ensures read { IfOk result (λ records. (rs : List RecordValue) × Valid message.now rs × (records.items ≡ filter is_not_opt rs)) }
     ensures refused { IfErr result (RefusedOrMemory message.now) }

@@ -14,11 +14,11 @@ const ALIAS: &[u8] =
 const SINGLE: &[u8] = b"\x06single\x07example\x03org\0\0\x01\0\x01\0\0\x01\x2c\0\x04\xc0\0\x02\x5a";
 
 /// Four answers: an address of `A.` for 60 seconds, the same of `a.` for 59 and for 61, and another address.
-const ADDRESSES: &[u8] =
+pub(crate) const ADDRESSES: &[u8] =
     b"\x12\x34\x81\x80\0\0\0\x04\0\0\0\0\x01A\0\0\x01\0\x01\0\0\0\x3c\0\x04\xc0\0\x02\x01\x01a\0\0\x01\0\x01\0\0\0\x3b\0\x04\xc0\0\x02\x01\x01a\0\0\x01\0\x01\0\0\0\x3d\0\x04\xc0\0\x02\x01\x01a\0\0\x01\0\x01\0\0\0\x3b\0\x04\xc0\0\x02\x02";
 
 /// The canonical octets of the first address, for 59 seconds.
-const LEAST: &[u8] = b"\x01a\0\0\x01\0\x01\0\0\0\x3b\0\x04\xc0\0\x02\x01";
+pub(crate) const LEAST: &[u8] = b"\x01a\0\0\x01\0\x01\0\0\0\x3b\0\x04\xc0\0\x02\x01";
 
 /// The next item, as a record.
 fn next_record<'a>(parser: &mut MessageParser<'a>) -> Option<CanonicalRecord<'a>> {
@@ -161,7 +161,7 @@ fn alike_records_collapse_to_the_least_ttl(rt: HostRuntime) {
 }
 
 /// The message of the most records: 5,956 of 11 octets, one of each class from 0 on.
-fn most_records() -> [u8; 65_528] {
+pub(crate) fn most_records() -> [u8; 65_528] {
     let mut message = [0; 65_528];
     message[6] = 0x17;
     message[7] = 0x44;

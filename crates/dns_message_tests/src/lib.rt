@@ -7,6 +7,7 @@ mod assertions;
 mod boxed_record_data;
 mod built_records;
 #[cfg(test)]
+mod canonical_forms;
 mod canonical_record;
 #[cfg(test)]
 mod edns_conversion;

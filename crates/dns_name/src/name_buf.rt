@@ -56,7 +56,7 @@ impl NameBuf {
     }
 
     /// The name whose octets are that many at the start of the buffer.
-    pub(crate) fn from_buffer(buffer: [u8; Name::MAX_SIZE], size: usize) -> NameBuf
+    pub fn from_buffer(buffer: [u8; Name::MAX_SIZE], size: usize) -> NameBuf
         requires short { size ≤ 255 }
         requires name { all_of (plain_name (take size buffer)) ≡ Some (name_labels (take size buffer)) }
         ensures { result ≡ name_labels (take size buffer) }

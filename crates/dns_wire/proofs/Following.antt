@@ -24,7 +24,7 @@ label_type_root contents start at within is =
     let ended : (slice_index contents at == 0) ≡ true = grind (arith, nat_tests) in
     rw (there, ended) refl
 
-label_type_label : (contents : List ℕ) (start at : ℕ) → 0 < slice_index contents at → slice_index contents at < 64 → at + 1 + slice_index contents at ≤ length contents → label_type_at contents start at ≡ Some (Label (slice_index contents at))
+pub label_type_label : (contents : List ℕ) (start at : ℕ) → 0 < slice_index contents at → slice_index contents at < 64 → at + 1 + slice_index contents at ≤ length contents → label_type_at contents start at ≡ Some (Label (slice_index contents at))
 unfolding label_type_at
 label_type_label contents start at some small room =
     let there : leb (length contents) at ≡ false = grind (arith, nat_tests) in
@@ -33,7 +33,7 @@ label_type_label contents start at some small room =
     let fits : ltb (length contents) (at + 1 + slice_index contents at) ≡ false = le-ltb _ _ room in
     rw (there, more, short, fits) refl
 
-label_type_pointer : (contents : List ℕ) (start at target : ℕ) → 192 ≤ slice_index contents at → at + 2 ≤ length contents → offset_at contents at ≡ target + 12 → target < start → label_type_at contents start at ≡ Some (Pointer target)
+pub label_type_pointer : (contents : List ℕ) (start at target : ℕ) → 192 ≤ slice_index contents at → at + 2 ≤ length contents → offset_at contents at ≡ target + 12 → target < start → label_type_at contents start at ≡ Some (Pointer target)
 unfolding label_type_at
 label_type_pointer contents start at target high room is before =
     let there : leb (length contents) at ≡ false = grind (arith, nat_tests) in

@@ -1,16 +1,19 @@
 -- The records of the messages so far, and why the next one is refused.
-use Rattle.std.proofs.Common.{◌≡◌, ◌<◌, ◌≤◌, ◌+◌, ℕ, suc, List, [], ◌∷◌, ◌++◌, length, map, take, drop, drop-cons, get_or, filter, Some, sym, ap, ◌∙◌, arith, take-append-drop}
+use Rattle.std.proofs.Common.{◌≡◌, ◌<◌, ◌≤◌, ◌+◌, ℕ, suc, List, [], ◌∷◌, ◌++◌, length, map, take, drop, drop-cons, get_or, filter, Bool, ◌||◌, Some, sym, ap, ◌∙◌, arith, take-append-drop}
 use Rattle.std.proofs.lemmas.List.{get_or-map, length-map, map-append, take-map, take_all, take_more}
 use Rattle.std.proofs.lemmas.List.Elements.{filter-append}
+use Rattle.std.proofs.lemmas.List.Folds.{list_any-append}
 use Rattle.dns_text.specs.Outcomes.{RefusesFor}
 use Rattle.dns_message.specs.Canonical.{is_not_opt}
 use Rattle.dns_message.specs.Messages.{RecordValue, Valid, message_reading}
+use Rattle.dns_message.specs.Order.{SortKey, sort_key}
 use Rattle.dns_message.specs.Refusals.{RefusedAs, RefusedOrMemory, first_refused}
 use Rattle.dns_message.specs.Several.{AreValid, all_records}
 use Rattle.dns_message.specs.declared.canon_error.CanonError.{CanonError}
 use Rattle.dns_message.specs.declared.canon_error.CanonError.TheVariants.{Short, Item, Memory}
 use Rattle.dns_message.proofs.SeveralMessages.{records_more, refused_reading, valid_before}
 use Rattle.dns_zone.specs.Texts.{first_refusal, message_error, on_first}
+use Rattle.dns_zone.specs.Zone.{belongs, has_soa, is_soa_of}
 
 module _ {X : Type 0} (vs : List X) (f : X → List ℕ) where
   -- one more
@@ -27,10 +30,21 @@ module _ {X : Type 0} (vs : List X) (f : X → List ℕ) where
       ∙ ap (λ (l : List (List ℕ)). take n (map f vs) ++ l) (drop-cons (map f vs) n [] (omega (arith, within, length-map vs f)) ∙ ap (λ (m : List ℕ). m ∷ drop (suc n) (map f vs)) one)
 
 -- the records of one more message
-pub kept_more : (before : List (List ℕ)) (m : List ℕ) (rs old more new : List RecordValue) → Valid m rs → old ≡ filter is_not_opt (all_records before) → more ≡ filter is_not_opt rs → new ≡ old ++ more
-    → new ≡ filter is_not_opt (all_records (before ++ m ∷ []))
-kept_more before m rs old more new valid old-is more-is new-is =
-    new-is ∙ (λ i. old-is i ++ more-is i) ∙ sym (filter-append is_not_opt (all_records before) rs) ∙ ap (filter is_not_opt) (sym (records_more before m rs valid))
+pub kept_more : (before : List (List ℕ)) (m : List ℕ) (rs more : List RecordValue) → Valid m rs → more ≡ filter is_not_opt rs
+    → filter is_not_opt (all_records before) ++ more ≡ filter is_not_opt (all_records (before ++ m ∷ []))
+kept_more before m rs more valid more-is =
+    ap (λ (l : List RecordValue). filter is_not_opt (all_records before) ++ l) more-is ∙ sym (filter-append is_not_opt (all_records before) rs) ∙ ap (filter is_not_opt) (sym (records_more before m rs valid))
+
+-- their forms, if they are in the zone
+pub members_more : (apex : List (List ℕ)) (records more all : List RecordValue) (old new : List SortKey) → records ++ more ≡ all → old ≡ map sort_key (filter (belongs apex) records)
+    → new ≡ old ++ map sort_key (filter (belongs apex) more) → new ≡ map sort_key (filter (belongs apex) all)
+members_more apex records more all old new all-is old-is new-is =
+    new-is ∙ ap (λ (l : List SortKey). l ++ map sort_key (filter (belongs apex) more)) old-is ∙ sym (map-append sort_key (filter (belongs apex) records) (filter (belongs apex) more))
+    ∙ ap (map sort_key) (sym (filter-append (belongs apex) records more)) ∙ ap (λ (l : List RecordValue). map sort_key (filter (belongs apex) l)) all-is
+
+-- and whether one is the SOA record
+pub soa_more : (apex : List (List ℕ)) (records more all : List RecordValue) (old : Bool) → records ++ more ≡ all → old ≡ has_soa apex records → (old || has_soa apex more) ≡ has_soa apex all
+soa_more apex records more all old all-is old-is = ap (λ (b : Bool). b || has_soa apex more) old-is ∙ sym (list_any-append (is_soa_of apex) records more) ∙ ap (has_soa apex) all-is
 
 -- a message that is refused after valid ones
 pub refuses_next : (messages before after : List (List ℕ)) (m : List ℕ) (rss : List (List RecordValue)) (n : ℕ) (error : CanonError) → messages ≡ before ++ m ∷ after → length before ≡ n → AreValid before rss → RefusedOrMemory m error

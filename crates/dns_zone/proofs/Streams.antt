@@ -31,11 +31,6 @@ longer vs f i total size v within is size-is total-is = omega (arith, size-is, t
 pub members_kept : (apex : List (List ℕ)) (rs : List RecordValue) → map canonical_wire (collapsed (filter (belongs apex) (filter is_not_opt rs))) ≡ members apex rs
 members_kept apex rs = ap (λ (l : List RecordValue). map canonical_wire (collapsed l)) (in_zone_kept apex rs ∙ sym (in_zone_not_opt apex rs))
 
--- octets that are written over as many others are all that is there
-pub record_put : (items new held wire : List ℕ) (len : ℕ) → len ≡ length items → length items ≡ length wire → length new ≡ length items → held ≡ take len (new ++ drop (length new) items) → take (length wire) new ≡ wire → held ≡ wire
-record_put items new held wire len len-is size long held-is put =
-    held-is ∙ take_at new (drop (length new) items) len (omega (arith, len-is, long)) ∙ sym (take_all (length wire) new (omega (arith, size, long))) ∙ put
-
 -- the printed text
 pub text_is : (count octets : ℕ) (lists : List (List ℕ)) (digits : List ℕ) → count ≡ length lists → octets ≡ length (concat lists) → digits ≡ flat_map shown (sha384 (concat lists))
     → codes "records " ++ (decimal count ++ (codes " octets " ++ (decimal octets ++ (10 ∷ codes "digest " ++ (digits ++ 10 ∷ []))))) ≡ zone_output lists

@@ -1,23 +1,21 @@
 //! The digest of a zone, and the text for it.
 
-ghost use Rattle.std.specs.Prelude.{◌≡◌, ◌^◌, ◌<◌, true, List, Some, None, IfOk, IfErr, OnOk, filter, length, map};
+ghost use Rattle.std.specs.Prelude.{◌≡◌, ◌^◌, ◌<◌, true, List, Some, None, IfOk, IfErr, OnOk, length, map};
 ghost use Rattle.std.specs.List.{concat};
 ghost use Rattle.sha2.specs.Sha512.{sha384};
-ghost use Rattle.dns_message.specs.Canonical.{canonical_wire};
 ghost use Rattle.dns_message.specs.Messages.{message_reading};
-ghost use Rattle.dns_message.specs.Order.{collapsed};
+ghost use Rattle.dns_message.specs.Order.{octets_of_key};
 ghost use Rattle.dns_message.specs.Refusals.{first_refused};
 ghost use Rattle.dns_message.specs.Several.{all_records};
 ghost use Rattle.dns_text.specs.Outcomes.{RefusesFor};
 ghost use Rattle.dns_wire.specs.Octets.{Octets};
 ghost use Rattle.dns_zone.specs.Digests.{IsDigestOf};
 ghost use Rattle.dns_zone.specs.Texts.{on_messages};
-ghost use Rattle.dns_zone.specs.Zone.{belongs, has_soa, members, zone_output};
+ghost use Rattle.dns_zone.specs.Zone.{has_soa, members, zone_output};
 
-use crate::member::{belongs, has_soa};
-use crate::messages::records_in;
+use crate::messages::zone_records;
 use crate::refusal::Refusal;
-use dns_message::{CanonicalRecord, collapsed, put_canonical};
+use dns_message::CanonicalForm;
 use dns_name::RevNameBuf;
 use dns_text::PrintError;
 use sha2::{Digest, Sha384};
@@ -34,53 +32,37 @@ pub struct ZoneDigest {
     pub digest: [u8; 48],
 }
 
-/// The SHA-384 digest of the canonical octets of the records, one after another (FIPS 180-4). `AllocError` is out of memory, which is
-/// taken for the octets of one record.
-pub fn digest_of(alloc: Global, records: &[&CanonicalRecord<'_>]) -> Result<[u8; 48], AllocError>
-    ensures { IfOk result (λ digest. digest ≡ sha384 (concat (map (λ r. canonical_wire r.now) records.now))) }
+/// The SHA-384 digest of the canonical octets of the records, one after another (FIPS 180-4).
+pub fn digest_of(records: &[CanonicalForm<'_>]) -> [u8; 48]
+    ensures { result ≡ sha384 (concat (map octets_of_key records.now)) }
 {
     let mut hasher = Sha384::new();
     for found in records {
-        let mut octets = vec![in alloc; 0; found.size()]?;
-        put_canonical(found, &mut octets);
-        hasher.update(&octets[..]);
+        hasher.update(found.octets());
     }
-    Ok(hasher.finalize())
+    hasher.finalize()
 }
 
 /// How many canonical octets the records have in all.
-fn octets_in(records: &[&CanonicalRecord<'_>]) -> u128
-    ensures { result ≡ length (concat (map (λ r. canonical_wire r.now) records.now)) }
+fn octets_in(records: &[CanonicalForm<'_>]) -> u128
+    ensures { result ≡ length (concat (map octets_of_key records.now)) }
 {
     let mut total = 0;
     for found in records {
-        total += found.size() as u128;
+        total += found.octets().len() as u128;
     }
     total
 }
 
 /// The digest of members in order.
-fn digest_for(alloc: Global, records: &[&CanonicalRecord<'_>]) -> Result<ZoneDigest, AllocError>
-    ensures { IfOk result (IsDigestOf (map (λ r. canonical_wire r.now) records.now)) }
+fn digest_for(records: &[CanonicalForm<'_>]) -> ZoneDigest
+    ensures { IsDigestOf (map octets_of_key records.now) result }
 {
-    Ok(ZoneDigest {
+    ZoneDigest {
         records: records.len(),
         octets: octets_in(records),
-        digest: digest_of(alloc, records)?,
-    })
-}
-
-/// The digest of the zone of an apex, by the records other than OPT.
-fn digest_among(
-    alloc: Global,
-    mut records: Vec<CanonicalRecord<'_>>,
-    apex: &RevNameBuf,
-) -> Result<ZoneDigest, AllocError>
-    ensures { IfOk result (IsDigestOf (map canonical_wire (collapsed (filter (belongs apex.now) records.entry.items)))) }
-{
-    records.retain(|found| belongs(found, apex));
-    let order = collapsed(alloc, &records)?;
-    digest_for(alloc, &order)
+        digest: digest_of(records),
+    }
 }
 
 /// The digest of the zone of an apex, for the records that the messages have (RFC 8976, the SIMPLE scheme with SHA-384). The refusals are those
@@ -97,12 +79,12 @@ pub fn zone_digest(
     ensures soa { OnOk result (has_soa apex.now (all_records (map (λ m. m.items) messages.now)) ≡ true) }
     ensures refused { IfErr result (RefusesFor (on_messages apex.now (Some (map (λ m. m.items) messages.now)))) }
 {
-    let records = records_in(alloc, messages)?;
-    if !has_soa(&records, apex) {
+    let found = zone_records(alloc, messages, apex)?;
+    if !found.has_soa {
         return Err(PrintError::Refused(Refusal::NoSoa));
     }
-    let digest = digest_among(alloc, records, apex)?;
-    Ok(digest)
+    let order = found.forms.collapsed(alloc)?;
+    Ok(digest_for(&order))
 }
 
 /// The text for a digest: how many members it is taken of, how many octets they have, and the digest.

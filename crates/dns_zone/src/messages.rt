@@ -1,19 +1,23 @@
-//! The messages in a text, and their records.
+//! The messages in a text, and what they hold of a zone.
 
-ghost use Rattle.std.specs.Prelude.{◌≡◌, ◌≤◌, ◌<◌, ◌+◌, ◌^◌, [], ◌∷◌, Some, None, IfOk, IfErr, filter, length, map, vec_len};
+ghost use Rattle.std.specs.Prelude.{◌≡◌, ◌≤◌, ◌<◌, ◌+◌, ◌^◌, [], ◌∷◌, ◌++◌, Some, None, IfOk, IfErr, filter, length, map, vec_len};
 ghost use Rattle.dns_wire.specs.Hexadecimal.{Spells, SpellsNothing, spelled, trim};
 ghost use Rattle.dns_text.specs.Outcomes.{RefusesFor};
 ghost use Rattle.dns_text.specs.Spelled.{all_spelled};
 ghost use Rattle.dns_message.specs.Canonical.{is_not_opt};
 ghost use Rattle.dns_message.specs.Messages.{message_reading};
+ghost use Rattle.dns_message.specs.Order.{sort_key};
 ghost use Rattle.dns_message.specs.Refusals.{first_refused};
 ghost use Rattle.dns_message.specs.Several.{all_records};
 ghost use Rattle.dns_zone.specs.Texts.{first_refusal, message_error, spelling_refusal, texts_in};
+ghost use Rattle.dns_zone.specs.Zone.{belongs, has_soa};
 
+use crate::member::{belongs, has_soa};
 use crate::refusal::Refusal;
-use dns_message::{CanonError, CanonicalRecord, read_records};
+use dns_message::{CanonError, CanonicalForms, CanonicalRecord, read_records};
+use dns_name::RevNameBuf;
 use dns_text::{HexError, PrintError, octets_of, trimmed};
-use std::alloc::Global;
+use std::alloc::{AllocError, Global};
 
 /// The octets of the message that a line spells.
 fn message_in(alloc: Global, line: &[u8]) -> Result<Vec<u8>, PrintError<Refusal>>
@@ -59,22 +63,57 @@ fn refused(message: u32, error: CanonError) -> PrintError<Refusal>
     }
 }
 
-/// The records of all messages other than OPT, in order.
-pub(crate) fn records_in(
+/// What messages hold of a zone.
+#[derive(Drop)]
+pub(crate) struct ZoneRecords {
+    /// The canonical forms of the records in the zone.
+    pub(crate) forms: CanonicalForms,
+    /// Whether one of all records is the SOA record of the apex.
+    pub(crate) has_soa: bool,
+}
+
+/// The forms, and after them those of the records that are in the zone of the apex. `AllocError` is out of memory.
+fn with_members(
+    forms: CanonicalForms,
+    records: &[CanonicalRecord<'_>],
+    apex: &RevNameBuf,
+) -> Result<CanonicalForms, AllocError>
+    ensures { IfOk result (λ more. more ≡ forms ++ map sort_key (filter (belongs apex.now) records.now)) }
+{
+    let mut forms = forms;
+    for found in records {
+        if belongs(found, apex) {
+            forms = forms.with(found)?;
+        }
+    }
+    Ok(forms)
+}
+
+/// What the messages hold of the zone of the apex.
+pub(crate) fn zone_records(
     alloc: Global,
     messages: &[Vec<u8>],
-) -> Result<Vec<CanonicalRecord<'_>>, PrintError<Refusal>>
+    apex: &RevNameBuf,
+) -> Result<ZoneRecords, PrintError<Refusal>>
     requires { length messages.now < 2 ^ 32 }
     ensures valid { IfOk result (λ _. first_refused 0 (map message_reading (map (λ m. m.items) messages.now)) ≡ None) }
-    ensures read { IfOk result (λ records. records.items ≡ filter is_not_opt (all_records (map (λ m. m.items) messages.now))) }
+    ensures members { IfOk result (λ found. found.forms ≡ map sort_key (filter (belongs apex.now) (filter is_not_opt (all_records (map (λ m. m.items) messages.now))))) }
+    ensures soa { IfOk result (λ found. found.has_soa ≡ has_soa apex.now (filter is_not_opt (all_records (map (λ m. m.items) messages.now)))) }
     ensures refused { IfErr result (RefusesFor (first_refusal (map (λ m. m.items) messages.now))) }
 {
-    let mut records = Vec::new(alloc);
+    let mut forms = CanonicalForms::new(alloc);
+    let mut soa = false;
     for (number, message) in messages.iter().enumerate() {
         match read_records(alloc, message) {
-            Ok(mut more) => records.append(&mut more)?,
+            Ok(records) => {
+                soa = soa || has_soa(&records, apex);
+                forms = with_members(forms, &records, apex)?;
+            }
             Err(error) => return Err(refused(number as u32, error)),
         }
     }
-    Ok(records)
+    Ok(ZoneRecords {
+        forms,
+        has_soa: soa,
+    })
 }

@@ -7,7 +7,7 @@ ghost use Rattle.dns_message.specs.Seen.{data_seen};
 use crate::canonical_record::CanonicalRecord;
 use dns_name::{NameBuf, RevNameBuf};
 use dns_rdata::RecordData;
-use dns_record::{RClass, RType};
+use dns_record::{RClass, RType, TTL};
 
 impl<'a> CanonicalRecord<'a> {
     /// The owner, from the root on (RFC 1035 section 3.2.1).
@@ -29,6 +29,13 @@ impl<'a> CanonicalRecord<'a> {
         ensures { result.code.value ≡ self.now.class }
     {
         self.found.rclass
+    }
+
+    /// The TTL (RFC 1035 section 3.2.1).
+    pub fn ttl(&self) -> TTL
+        ensures { result.value.value ≡ self.now.ttl }
+    {
+        self.found.ttl
     }
 
     /// The data, which are of the record's type.

@@ -39,6 +39,7 @@ pub(crate) fn mark_labels(name: &[u8], back: usize) -> [bool; CLASSES]
 }
 
 /// As `may_be_marked`, where the octets may end before the label does.
+#[inline(always)]
 fn may_be_marked_near_end(
     contents: &[u8],
     place: usize,

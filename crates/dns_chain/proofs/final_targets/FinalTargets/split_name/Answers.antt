@@ -20,18 +20,15 @@ returns-in_err-next_label_type-clause-exact c =
 found : (c : In-Root) → Reads (take c.args.end c.self.inside.contents.now) c.args.start (take c.loop-buffer.size c.loop-buffer.buffer ++ 0 ∷ []) (unwrap_or c.loop-buffer.cursor.end (c.loop-buffer.cursor.at + 1))
 found c = followed_root _ _ _ _ _ _ c.loop-buffer.invariant.followed (rw c.in-Root.is at c.in_ok-next_label_type.ensures.exact) (rw c.in-Root.is at c.in_ok-next_label_type.ensures.fits)
 
-pub returns-in_err-name-in-Root-clause-exact : goal.returns-in_err-name-in-Root-clause-exact
-returns-in_err-name-in-Root-clause-exact c =
-    let f = found (goal.at.returns-in_err-name-in-Root-clause-exact c).In-Root in
-    let refused = rw c.copy_at.ensures.prefix at c.in_err-name-in-Root.ensures in
-    absurd (let h = sym refused ∙ f.whole in cc)
+pub from_buffer-name-requires-clause-name : goal.from_buffer-name-requires-clause-name
+from_buffer-name-requires-clause-name c =
+    let f = found (goal.at.from_buffer-name-requires-clause-name c).In-Root in
+    rw c.copy_at.ensures.prefix f.whole
 
 pub returns-in-Root-clause-exact : goal.returns-in-Root-clause-exact
 returns-in-Root-clause-exact c =
     let f = found (goal.at.returns-in-Root-clause-exact c).In-Root in
-    let parsed = rw c.copy_at.ensures.prefix at c.in_ok-name-in-Root.ensures in
-    let name : c.in_ok-name-in-Root.name ≡ name_labels (take c.loop-buffer.size c.loop-buffer.buffer ++ 0 ∷ []) = (let h = sym parsed ∙ f.whole in cc) in
-    rw (c.unwrap_or.ensures, rw c.in-Root.is at c.in_ok-next_label_type.ensures.moves, name) (rw c.self.view_is at f.reads)
+    rw (c.unwrap_or.ensures, rw c.in-Root.is at c.in_ok-next_label_type.ensures.moves, c.from_buffer-name.ensures, c.copy_at.ensures.prefix) (rw c.self.view_is at f.reads)
 
 pub returns-then-size-label-ge-MAX_SIZE-clause-exact : goal.returns-then-size-label-ge-MAX_SIZE-clause-exact
 returns-then-size-label-ge-MAX_SIZE-clause-exact c =

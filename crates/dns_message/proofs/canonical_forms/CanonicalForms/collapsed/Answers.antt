@@ -1,0 +1,19 @@
+use Rattle.std.proofs.Common.{◌≡◌, ◌∙◌, ap, sym, map, List, rules}
+use Rattle.std.proofs.lemmas.Fn.{dedup_same}
+use Rattle.std.specs.Ordering.{eq_by_cmp}
+use Rattle.std.specs.List.{dedup}
+use Rattle.dns_message.specs.Messages.{RecordValue}
+use Rattle.dns_message.specs.Order.{SortKey, alike_cmp, octets_of_key, sort_key, collapsed}
+use Rattle.dns_message.proofs.FormLemmas.{sorted_forms}
+use Rattle.dns_message.proofs.Collapsing.{keys_collapsed}
+use Rattle.dns_message.proofs.SortedRecords.{octets_of_keys}
+use Rattle.dns_message.proofs.canonical_forms.CanonicalForms.collapsed.Goals as goal
+
+pub returns-clause-keys : goal.returns-clause-keys
+returns-clause-keys c = λ rs are.
+    let left = dedup_same _ (eq_by_cmp alike_cmp) _ (λ x y b f' x' y' k. search rules) _ _ c.dedup_by.ensures.filtered in
+    let forms : c.in_ok-forms.forms.items ≡ map sort_key rs = rw (c.deref.ensures.value, c.deref-3.ensures.value) at c.in_ok-forms.ensures ∙ c.self.view_is ∙ are in
+    left ∙ ap (dedup (eq_by_cmp alike_cmp)) (sorted_forms rs _ c.sort_unstable.new.self.items forms c.sort_unstable.ensures.permutation c.sort_unstable.ensures.sorted) ∙ sym (keys_collapsed rs)
+
+pub returns-clause-octets : goal.returns-clause-octets
+returns-clause-octets c = λ rs are. ap (map octets_of_key) (returns-clause-keys c rs are) ∙ octets_of_keys (collapsed rs)

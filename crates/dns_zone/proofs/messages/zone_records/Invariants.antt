@@ -1,0 +1,16 @@
+use Rattle.std.proofs.Common.{◌≡◌, List, filter, map, take}
+use Rattle.dns_message.specs.Canonical.{is_not_opt}
+use Rattle.dns_message.specs.Messages.{RecordValue}
+use Rattle.dns_message.specs.Order.{sort_key}
+use Rattle.dns_message.specs.Several.{AreValid, all_records}
+use Rattle.dns_zone.specs.Zone.{belongs, has_soa}
+use Rattle.dns_zone.proofs.messages.zone_records.Given as goal
+
+-- the messages so far are valid, and what they hold of the zone has been kept
+abbrev pub invariant-loop-number : goal.invariant-loop-number
+invariant-loop-number l = record {
+  records : List (List RecordValue);
+  valid : AreValid (take l.number (map (λ m. m.items) l.messages)) records;
+  members : l.forms ≡ map sort_key (filter (belongs l.apex) (filter is_not_opt (all_records (take l.number (map (λ m. m.items) l.messages)))));
+  soa : l.soa ≡ has_soa l.apex (filter is_not_opt (all_records (take l.number (map (λ m. m.items) l.messages))));
+}
