@@ -266,12 +266,12 @@ impl<'a, N: ParseName<'a>> ParseRecordDataBytes<'a> for RecordData<'a, N> {
         rtype: RType,
     ) -> Result<RecordData<'a, N>, ParseError> {
         match rtype {
-            RType::NS => as_data(Ns::parse_bytes(bytes)),
-            RType::CNAME => as_data(CName::parse_bytes(bytes)),
-            RType::SOA => as_data(Soa::parse_bytes(bytes)),
-            RType::PTR => as_data(Ptr::parse_bytes(bytes)),
-            RType::MX => as_data(Mx::parse_bytes(bytes)),
-            RType::RP => as_data(Rp::parse_bytes(bytes)),
+            RType::NS => as_data!(Ns, Ns::parse_bytes(bytes)),
+            RType::CNAME => as_data!(CName, CName::parse_bytes(bytes)),
+            RType::SOA => as_data!(Soa, Soa::parse_bytes(bytes)),
+            RType::PTR => as_data!(Ptr, Ptr::parse_bytes(bytes)),
+            RType::MX => as_data!(Mx, Mx::parse_bytes(bytes)),
+            RType::RP => as_data!(Rp, Rp::parse_bytes(bytes)),
             _ => read_plain(bytes, rtype),
         }
     }
@@ -284,12 +284,12 @@ impl<'a, N: ParseName<'a> + SplitMessageBytes<'a>> ParseRecordData<'a> for Recor
         rtype: RType,
     ) -> Result<RecordData<'a, N>, ParseError> {
         match rtype {
-            RType::NS => as_data(Ns::parse_message_bytes(contents, start)),
-            RType::CNAME => as_data(CName::parse_message_bytes(contents, start)),
-            RType::SOA => as_data(Soa::parse_message_bytes(contents, start)),
-            RType::PTR => as_data(Ptr::parse_message_bytes(contents, start)),
-            RType::MX => as_data(Mx::parse_message_bytes(contents, start)),
-            RType::RP => as_data(Rp::parse_message_bytes(contents, start)),
+            RType::NS => as_data!(Ns, Ns::parse_message_bytes(contents, start)),
+            RType::CNAME => as_data!(CName, CName::parse_message_bytes(contents, start)),
+            RType::SOA => as_data!(Soa, Soa::parse_message_bytes(contents, start)),
+            RType::PTR => as_data!(Ptr, Ptr::parse_message_bytes(contents, start)),
+            RType::MX => as_data!(Mx, Mx::parse_message_bytes(contents, start)),
+            RType::RP => as_data!(Rp, Rp::parse_message_bytes(contents, start)),
             _ if contents.len() < start => Err(ParseError),
             _ => read_plain(&contents[start..], rtype),
         }
