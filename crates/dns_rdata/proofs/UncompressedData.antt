@@ -1,11 +1,11 @@
 -- Data in which no name may have pointers are the same whatever the names of other data are seen as.
 use Rattle.std.proofs.Common.{◌≡◌, ℕ, ◌<◌, ◌≤◌, Bool, true, false, cond, ltb, List, [], ◌∷◌, length, drop, ◌-◌, Option, Some, None, Result, Ok, Err, refl, sym, ap, ◌∙◌}
-use Rattle.std.specs.Prelude.{map, option_map, unwrap_or, is_some, ◌==◌, ◌&&◌, ◌||◌, IfOk}
+use Rattle.std.specs.Prelude.{map, option_map, unwrap_or, is_some, ◌==◌, ◌&&◌, ◌||◌}
 use Rattle.std.specs.Cmp.{first_so, second_so}
 use Rattle.std.proofs.lemmas.Bool.{eqb-true, lt-ltb}
 use Rattle.dns_wire.proofs.AtPlaces.{all_from}
 use Rattle.dns_wire.specs.Names.{plain_name}
-use Rattle.dns_wire.specs.Reading.{Gives, LeavesRest, octet, octets, number, plain_at, all_of, all_at, with_end}
+use Rattle.dns_wire.specs.Reading.{LeavesRest, octet, octets, number, plain_at, all_of, all_at, with_end}
 use Rattle.dns_wire.specs.Steps.{◌>>=◌, first_to}
 use Rattle.dns_record.specs.Data.{data_as, data_in}
 use Rattle.dns_record.specs.Fields.{Field, FieldOf, named_by}
@@ -19,6 +19,7 @@ use Rattle.dns_record.specs.CharacterStrings.{character_string, character_string
 use Rattle.dns_record.specs.TypeBitMaps.{bitmap, some_bitmap}
 use Rattle.dns_record.proofs.UncompressedNames.{is_uncompressed, all_uncompressed, is_uncompressed_format, all_placed}
 use Rattle.dns_rdata.specs.Data.{as_uncompressed, data_fields, IsDataOf}
+use Rattle.dns_rdata.specs.Compressible.{is_compressible_type, IsRead}
 use Rattle.dns_rdata.specs.Plain.{is_uncompressed_type, no_compressible, ReadsPlain}
 use Rattle.dns_rdata.specs.declared.record_data.RecordData.{RecordData}
 
@@ -144,10 +145,6 @@ none_placed place rtype contents at plain trailing =
 
 -- ---- types by their numbers
 
--- the types with names that pointers may lead through: NS, CNAME, SOA, PTR, MX and RP
-abbrev is_compressible_type : ℕ → Bool
-is_compressible_type n = n == 2 || n == 5 || n == 6 || n == 12 || n == 15 || n == 17
-
 abbrev all_formats_so : List (ℕ × List Kind) → Bool
 all_formats_so [] = true
 all_formats_so (first ∷ others) = (is_compressible_type first.0 || is_uncompressed_format first.1) && all_formats_so others
@@ -204,10 +201,6 @@ plain_made make fields number rtype bytes v is uncompressed so gives = (
 pub plain_refused : {N : Type 0} (number rtype : ℕ) (bytes : List ℕ) → rtype ≡ number → is_uncompressed_format (rdata_format number) ≡ true
     → all_of (fields_of no_name (rdata_format number) bytes) ≡ None → data_as {N = N} no_compressible rtype bytes ≡ None
 plain_refused number rtype bytes is uncompressed gives = data_plain no_compressible number rtype bytes is uncompressed ∙ ap (option_map (map as_uncompressed)) gives
-
--- the clauses of reading
-abbrev IsRead : {N S E : Type 0} → (N → S) → Result (RecordData N) E → ℕ → Option (List (FieldOf S)) → Type 0
-IsRead seen made rtype found = Gives (λ v. map (named_by seen) (data_fields v)) made found × IfOk made (λ v. IsDataOf v rtype)
 
 pub compressible_made : {N S X : Type 0} (seen : N → S) (make : X → RecordData N) (fields : X → List (FieldOf N)) (number rtype : ℕ) (reads : ℕ → Option (List (FieldOf S))) (found : Option (List (FieldOf S))) (v : X) → rtype ≡ number → reads number ≡ found
     → (data_fields (make v) ≡ fields v) × IsDataOf (make v) number
