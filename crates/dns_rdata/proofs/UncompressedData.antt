@@ -1,11 +1,11 @@
 -- Data in which no name may have pointers are the same whatever the names of other data are seen as.
 use Rattle.std.proofs.Common.{◌≡◌, ℕ, ◌<◌, ◌≤◌, Bool, true, false, cond, ltb, List, [], ◌∷◌, length, drop, ◌-◌, Option, Some, None, Result, Ok, Err, refl, sym, ap, ◌∙◌}
-use Rattle.std.specs.Prelude.{map, option_map, unwrap_or, is_some, ◌==◌, ◌&&◌, ◌||◌}
+use Rattle.std.specs.Prelude.{map, option_map, unwrap_or, is_some, ◌==◌, ◌&&◌, ◌||◌, MatchResult, IsOkAnd}
 use Rattle.std.specs.Cmp.{first_so, second_so}
 use Rattle.std.proofs.lemmas.Bool.{eqb-true, lt-ltb}
 use Rattle.dns_wire.proofs.AtPlaces.{all_from}
 use Rattle.dns_wire.specs.Names.{plain_name}
-use Rattle.dns_wire.specs.Reading.{LeavesRest, octet, octets, number, plain_at, all_of, all_at, with_end}
+use Rattle.dns_wire.specs.Reading.{Gives, LeavesRest, octet, octets, number, plain_at, all_of, all_at, with_end}
 use Rattle.dns_wire.specs.Steps.{◌>>=◌, first_to}
 use Rattle.dns_record.specs.Data.{data_as, data_in}
 use Rattle.dns_record.specs.Fields.{Field, FieldOf, named_by}
@@ -202,14 +202,22 @@ pub plain_refused : {N : Type 0} (number rtype : ℕ) (bytes : List ℕ) → rty
     → all_of (fields_of no_name (rdata_format number) bytes) ≡ None → data_as {N = N} no_compressible rtype bytes ≡ None
 plain_refused number rtype bytes is uncompressed gives = data_plain no_compressible number rtype bytes is uncompressed ∙ ap (option_map (map as_uncompressed)) gives
 
-pub compressible_made : {N S X : Type 0} (seen : N → S) (make : X → RecordData N) (fields : X → List (FieldOf N)) (number rtype : ℕ) (reads : ℕ → Option (List (FieldOf S))) (found : Option (List (FieldOf S))) (v : X) → rtype ≡ number → reads number ≡ found
+pub compressible_given : {N S X : Type 0} (seen : N → S) (make : X → RecordData N) (fields : X → List (FieldOf N)) (number rtype : ℕ) (reads : ℕ → Option (List (FieldOf S))) (found : Option (List (FieldOf S))) (v : X) → rtype ≡ number → reads number ≡ found
     → (data_fields (make v) ≡ fields v) × IsDataOf (make v) number
     → found ≡ Some (map (named_by seen) (fields v)) → (reads rtype ≡ Some (map (named_by seen) (data_fields (make v)))) × IsDataOf (make v) rtype
-compressible_made {N} seen make fields number rtype reads found v is same so gives =
+compressible_given {N} seen make fields number rtype reads found v is same so gives =
     rw is (same ∙ gives ∙ ap (λ (fs : List (FieldOf N)). Some (map (named_by seen) fs)) (sym so.0), so.1)
 
 pub compressible_refused : {S : Type 0} (number rtype : ℕ) (reads : ℕ → Option (List (FieldOf S))) (found : Option (List (FieldOf S))) → rtype ≡ number → reads number ≡ found → found ≡ None → reads rtype ≡ None
 compressible_refused number rtype reads found is same gives = rw is (same ∙ gives)
+
+-- the same of what was converted
+pub compressible_made : {N S X E : Type 0} (seen : N → S) (make : X → RecordData N) (fields : X → List (FieldOf N)) (number rtype : ℕ) (reads : ℕ → Option (List (FieldOf S))) (found : Option (List (FieldOf S))) (read : Result X E) (made : Result (RecordData N) E) → rtype ≡ number → reads number ≡ found
+    → ((v : X) → (data_fields (make v) ≡ fields v) × IsDataOf (make v) number)
+    → Gives (λ v. map (named_by seen) (fields v)) read found → MatchResult read (λ v. IsOkAnd made (λ w. w ≡ make v)) (λ e. made ≡ Err e) → IsRead seen made rtype (reads rtype)
+compressible_made seen make fields number rtype reads found (Ok v) (Ok w) is same so gives by = rw by (compressible_given seen make fields number rtype reads found v is same (so v) gives)
+compressible_made seen make fields number rtype reads found (Ok v) (Err e) is same so gives by = absurd by
+compressible_made seen make fields number rtype reads found (Err e) made is same so gives by = rw by (compressible_refused number rtype reads found is same gives, tt)
 
 pub plain_read : {N S E : Type 0} (seen : N → S) (name : List ℕ → Option (S × List ℕ)) (rtype : ℕ) (bytes : List ℕ) (made : Result (RecordData N) E) → is_uncompressed_type rtype ≡ true → ReadsPlain made rtype bytes → IsRead seen made rtype (data_as name rtype bytes)
 plain_read seen name rtype bytes (Ok v) plain reads = (seen_plain seen name rtype bytes plain ∙ ap (option_map (map (named_by seen))) reads.0, reads.1)

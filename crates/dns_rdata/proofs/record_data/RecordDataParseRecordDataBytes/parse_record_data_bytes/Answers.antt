@@ -2,12 +2,12 @@ use Rattle.std.proofs.Common.{refl, rules}
 use Rattle.dns_basic.specs.Types.{ns_fields, cname_fields, soa_fields, ptr_fields, mx_fields, rp_fields}
 use Rattle.dns_record.specs.Data.{data_as}
 use Rattle.dns_rdata.specs.declared.record_data.RecordData.TheVariants.{Ns, CName, Soa, Ptr, Mx, Rp}
-use Rattle.dns_rdata.proofs.UncompressedData.{compressible_made, compressible_refused, compressible_read, uncompressed_unless_compressible, plain_read}
+use Rattle.dns_rdata.proofs.UncompressedData.{compressible_given, compressible_refused, compressible_read, uncompressed_unless_compressible, plain_read}
 use Rattle.dns_rdata.proofs.record_data.RecordDataParseRecordDataBytes.parse_record_data_bytes.Goals as goal
 
 pub returns-in-Ok : goal.returns-in-Ok
 returns-in-Ok g c =
-    let r = compressible_made g.N.ParseBytes.seen Ns ns_fields 2 c.args.rtype.code.value (λ n. data_as g.N.ParseBytes.reads n c.args.bytes.now) _ c.in-Ok.value (search rules) (compressible_read g.N.ParseBytes.reads 2 c.args.bytes.now) (refl, (refl, tt)) c.in-Ok.ensures in
+    let r = compressible_given g.N.ParseBytes.seen Ns ns_fields 2 c.args.rtype.code.value (λ n. data_as g.N.ParseBytes.reads n c.args.bytes.now) _ c.in-Ok.value (search rules) (compressible_read g.N.ParseBytes.reads 2 c.args.bytes.now) (refl, (refl, tt)) c.in-Ok.ensures in
     record { exact = r.0; typed = r.1 }
 
 pub returns-in-Err : goal.returns-in-Err
@@ -16,7 +16,7 @@ returns-in-Err g c =
 
 pub returns-in-Ok-parse_bytes : goal.returns-in-Ok-parse_bytes
 returns-in-Ok-parse_bytes g c =
-    let r = compressible_made g.N.ParseBytes.seen CName cname_fields 5 c.args.rtype.code.value (λ n. data_as g.N.ParseBytes.reads n c.args.bytes.now) _ c.in-Ok-parse_bytes.value (search rules) (compressible_read g.N.ParseBytes.reads 5 c.args.bytes.now) (refl, (refl, tt)) c.in-Ok-parse_bytes.ensures in
+    let r = compressible_given g.N.ParseBytes.seen CName cname_fields 5 c.args.rtype.code.value (λ n. data_as g.N.ParseBytes.reads n c.args.bytes.now) _ c.in-Ok-parse_bytes.value (search rules) (compressible_read g.N.ParseBytes.reads 5 c.args.bytes.now) (refl, (refl, tt)) c.in-Ok-parse_bytes.ensures in
     record { exact = r.0; typed = r.1 }
 
 pub returns-in-Err-parse_bytes : goal.returns-in-Err-parse_bytes
@@ -25,7 +25,7 @@ returns-in-Err-parse_bytes g c =
 
 pub returns-in-Ok-parse_bytes-2 : goal.returns-in-Ok-parse_bytes-2
 returns-in-Ok-parse_bytes-2 g c =
-    let r = compressible_made g.N.ParseBytes.seen Soa soa_fields 6 c.args.rtype.code.value (λ n. data_as g.N.ParseBytes.reads n c.args.bytes.now) _ c.in-Ok-parse_bytes-2.value (search rules) (compressible_read g.N.ParseBytes.reads 6 c.args.bytes.now) (refl, (refl, tt)) c.in-Ok-parse_bytes-2.ensures in
+    let r = compressible_given g.N.ParseBytes.seen Soa soa_fields 6 c.args.rtype.code.value (λ n. data_as g.N.ParseBytes.reads n c.args.bytes.now) _ c.in-Ok-parse_bytes-2.value (search rules) (compressible_read g.N.ParseBytes.reads 6 c.args.bytes.now) (refl, (refl, tt)) c.in-Ok-parse_bytes-2.ensures in
     record { exact = r.0; typed = r.1 }
 
 pub returns-in-Err-parse_bytes-2 : goal.returns-in-Err-parse_bytes-2
@@ -34,7 +34,7 @@ returns-in-Err-parse_bytes-2 g c =
 
 pub returns-in-Ok-parse_bytes-3 : goal.returns-in-Ok-parse_bytes-3
 returns-in-Ok-parse_bytes-3 g c =
-    let r = compressible_made g.N.ParseBytes.seen Ptr ptr_fields 12 c.args.rtype.code.value (λ n. data_as g.N.ParseBytes.reads n c.args.bytes.now) _ c.in-Ok-parse_bytes-3.value (search rules) (compressible_read g.N.ParseBytes.reads 12 c.args.bytes.now) (refl, (refl, tt)) c.in-Ok-parse_bytes-3.ensures in
+    let r = compressible_given g.N.ParseBytes.seen Ptr ptr_fields 12 c.args.rtype.code.value (λ n. data_as g.N.ParseBytes.reads n c.args.bytes.now) _ c.in-Ok-parse_bytes-3.value (search rules) (compressible_read g.N.ParseBytes.reads 12 c.args.bytes.now) (refl, (refl, tt)) c.in-Ok-parse_bytes-3.ensures in
     record { exact = r.0; typed = r.1 }
 
 pub returns-in-Err-parse_bytes-3 : goal.returns-in-Err-parse_bytes-3
@@ -43,7 +43,7 @@ returns-in-Err-parse_bytes-3 g c =
 
 pub returns-in-Ok-parse_bytes-4 : goal.returns-in-Ok-parse_bytes-4
 returns-in-Ok-parse_bytes-4 g c =
-    let r = compressible_made g.N.ParseBytes.seen Mx mx_fields 15 c.args.rtype.code.value (λ n. data_as g.N.ParseBytes.reads n c.args.bytes.now) _ c.in-Ok-parse_bytes-4.value (search rules) (compressible_read g.N.ParseBytes.reads 15 c.args.bytes.now) (refl, (refl, tt)) c.in-Ok-parse_bytes-4.ensures in
+    let r = compressible_given g.N.ParseBytes.seen Mx mx_fields 15 c.args.rtype.code.value (λ n. data_as g.N.ParseBytes.reads n c.args.bytes.now) _ c.in-Ok-parse_bytes-4.value (search rules) (compressible_read g.N.ParseBytes.reads 15 c.args.bytes.now) (refl, (refl, tt)) c.in-Ok-parse_bytes-4.ensures in
     record { exact = r.0; typed = r.1 }
 
 pub returns-in-Err-parse_bytes-4 : goal.returns-in-Err-parse_bytes-4
@@ -52,7 +52,7 @@ returns-in-Err-parse_bytes-4 g c =
 
 pub returns-in-Ok-parse_bytes-5 : goal.returns-in-Ok-parse_bytes-5
 returns-in-Ok-parse_bytes-5 g c =
-    let r = compressible_made g.N.ParseBytes.seen Rp rp_fields 17 c.args.rtype.code.value (λ n. data_as g.N.ParseBytes.reads n c.args.bytes.now) _ c.in-Ok-parse_bytes-5.value (search rules) (compressible_read g.N.ParseBytes.reads 17 c.args.bytes.now) (refl, (refl, tt)) c.in-Ok-parse_bytes-5.ensures in
+    let r = compressible_given g.N.ParseBytes.seen Rp rp_fields 17 c.args.rtype.code.value (λ n. data_as g.N.ParseBytes.reads n c.args.bytes.now) _ c.in-Ok-parse_bytes-5.value (search rules) (compressible_read g.N.ParseBytes.reads 17 c.args.bytes.now) (refl, (refl, tt)) c.in-Ok-parse_bytes-5.ensures in
     record { exact = r.0; typed = r.1 }
 
 pub returns-in-Err-parse_bytes-5 : goal.returns-in-Err-parse_bytes-5
