@@ -12,10 +12,10 @@ use dns_record::RType;
 use dns_sec::{CDNSKey, Cds, DNSKey, Ds, Rrsig, ZoneMD};
 use dns_wire::{ParseBytes, ParseError};
 
-/// What was read as data of one type, as data of any type.
+/// A result that has data of one type, as one that has data of any type.
 macro_rules! as_data {
-    ($variant:ident, $read:expr) => {
-        match $read {
+    ($variant:ident, $result:expr) => {
+        match $result {
             Ok(value) => Ok(RecordData::$variant(value)),
             Err(error) => Err(error),
         }

@@ -123,12 +123,12 @@ impl<N: Clone> Clone for RecordData<'_, N> {
 
     fn clone(&self) -> Result<Self, AllocError> {
         match self {
-            RecordData::Ns(v) => Ok(RecordData::Ns(v.clone()?)),
-            RecordData::CName(v) => Ok(RecordData::CName(v.clone()?)),
-            RecordData::Soa(v) => Ok(RecordData::Soa(v.clone()?)),
-            RecordData::Ptr(v) => Ok(RecordData::Ptr(v.clone()?)),
-            RecordData::Mx(v) => Ok(RecordData::Mx(v.clone()?)),
-            RecordData::Rp(v) => Ok(RecordData::Rp(v.clone()?)),
+            RecordData::Ns(v) => as_data!(Ns, v.clone()),
+            RecordData::CName(v) => as_data!(CName, v.clone()),
+            RecordData::Soa(v) => as_data!(Soa, v.clone()),
+            RecordData::Ptr(v) => as_data!(Ptr, v.clone()),
+            RecordData::Mx(v) => as_data!(Mx, v.clone()),
+            RecordData::Rp(v) => as_data!(Rp, v.clone()),
             plain => Ok(plain.without_names().unwrap()),
         }
     }
