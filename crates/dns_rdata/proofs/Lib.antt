@@ -4,3 +4,4 @@ pub mod Canonical
 pub mod Forms
 pub mod UncompressedData
 pub mod CompressedData
+pub mod PlainOctets

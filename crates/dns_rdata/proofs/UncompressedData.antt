@@ -1,6 +1,6 @@
 -- Data in which no name may have pointers are the same whatever the names of other data are seen as.
 use Rattle.std.proofs.Common.{◌≡◌, ℕ, ◌<◌, ◌≤◌, Bool, true, false, cond, ltb, List, [], ◌∷◌, length, drop, ◌-◌, Option, Some, None, Result, Ok, Err, refl, sym, ap, ◌∙◌}
-use Rattle.std.specs.Prelude.{map, option_map, unwrap_or, is_some, ◌==◌, ◌&&◌, ◌||◌, MatchResult, IsOkAnd, IfOk}
+use Rattle.std.specs.Prelude.{map, option_map, unwrap_or, is_some, ◌==◌, ◌&&◌, ◌||◌, MatchResult, IsOkAnd}
 use Rattle.std.specs.Cmp.{first_so, second_so}
 use Rattle.std.proofs.lemmas.Bool.{eqb-true, lt-ltb}
 use Rattle.dns_wire.proofs.AtPlaces.{all_from}
@@ -19,6 +19,7 @@ use Rattle.dns_record.specs.CharacterStrings.{character_string, character_string
 use Rattle.dns_record.specs.TypeBitMaps.{bitmap, some_bitmap}
 use Rattle.dns_record.proofs.UncompressedNames.{is_uncompressed, all_uncompressed, is_uncompressed_format, all_placed}
 use Rattle.dns_rdata.specs.Data.{as_uncompressed, data_fields, IsDataOf}
+use Rattle.dns_rdata.specs.Compressible.{is_compressible_type, IsRead}
 use Rattle.dns_rdata.specs.Plain.{is_uncompressed_type, no_compressible, ReadsPlain}
 use Rattle.dns_rdata.specs.declared.record_data.RecordData.{RecordData}
 
@@ -144,10 +145,6 @@ none_placed place rtype contents at plain trailing =
 
 -- ---- types by their numbers
 
--- the types with names that pointers may lead through: NS, CNAME, SOA, PTR, MX and RP
-abbrev is_compressible_type : ℕ → Bool
-is_compressible_type n = n == 2 || n == 5 || n == 6 || n == 12 || n == 15 || n == 17
-
 abbrev all_formats_so : List (ℕ × List Kind) → Bool
 all_formats_so [] = true
 all_formats_so (first ∷ others) = (is_compressible_type first.0 || is_uncompressed_format first.1) && all_formats_so others
@@ -192,28 +189,35 @@ unknown_read name rtype bytes none = rw (no_format rtype none) refl
 
 -- ---- what was read as data of one type, as data of any type
 
-pub plain_made : {N X E : Type 0} (make : X → RecordData N) (fields : X → List Field) (number rtype : ℕ) (bytes : List ℕ) (read : Result X E) (made : Result (RecordData N) E) → rtype ≡ number → is_uncompressed_format (rdata_format number) ≡ true
-    → ((v : X) → (data_fields (make v) ≡ map as_uncompressed (fields v)) × IsDataOf (make v) number)
-    → Gives fields read (all_of (fields_of no_name (rdata_format number) bytes)) → MatchResult read (λ v. IsOkAnd made (λ w. w ≡ make v)) (λ e. made ≡ Err e) → ReadsPlain made rtype bytes
-plain_made make fields number rtype bytes (Ok v) (Ok w) is uncompressed so gives by = (
-  data_plain no_compressible number rtype bytes is uncompressed ∙ ap (option_map (map as_uncompressed)) gives ∙ ap Some (sym (so v).0 ∙ sym (ap data_fields by)),
-  rw (by, is) (so v).1,
+pub plain_made : {N X : Type 0} (make : X → RecordData N) (fields : X → List Field) (number rtype : ℕ) (bytes : List ℕ) (v : X) → rtype ≡ number → is_uncompressed_format (rdata_format number) ≡ true
+    → (data_fields (make v) ≡ map as_uncompressed (fields v)) × IsDataOf (make v) number
+    → all_of (fields_of no_name (rdata_format number) bytes) ≡ Some (fields v) → (data_as {N = N} no_compressible rtype bytes ≡ Some (data_fields (make v))) × IsDataOf (make v) rtype
+plain_made make fields number rtype bytes v is uncompressed so gives = (
+  data_plain no_compressible number rtype bytes is uncompressed ∙ ap (option_map (map as_uncompressed)) gives ∙ ap Some (sym so.0),
+  rw is so.1,
 )
-plain_made make fields number rtype bytes (Ok v) (Err e) is uncompressed so gives by = absurd by
-plain_made make fields number rtype bytes (Err e) made is uncompressed so gives by =
-    rw by (data_plain no_compressible number rtype bytes is uncompressed ∙ ap (option_map (map as_uncompressed)) gives)
 
--- the clauses of reading
-abbrev IsRead : {N S E : Type 0} → (N → S) → Result (RecordData N) E → ℕ → Option (List (FieldOf S)) → Type 0
-IsRead seen made rtype found = Gives (λ v. map (named_by seen) (data_fields v)) made found × IfOk made (λ v. IsDataOf v rtype)
+-- and what was refused
+pub plain_refused : {N : Type 0} (number rtype : ℕ) (bytes : List ℕ) → rtype ≡ number → is_uncompressed_format (rdata_format number) ≡ true
+    → all_of (fields_of no_name (rdata_format number) bytes) ≡ None → data_as {N = N} no_compressible rtype bytes ≡ None
+plain_refused number rtype bytes is uncompressed gives = data_plain no_compressible number rtype bytes is uncompressed ∙ ap (option_map (map as_uncompressed)) gives
 
+pub compressible_given : {N S X : Type 0} (seen : N → S) (make : X → RecordData N) (fields : X → List (FieldOf N)) (number rtype : ℕ) (reads : ℕ → Option (List (FieldOf S))) (found : Option (List (FieldOf S))) (v : X) → rtype ≡ number → reads number ≡ found
+    → (data_fields (make v) ≡ fields v) × IsDataOf (make v) number
+    → found ≡ Some (map (named_by seen) (fields v)) → (reads rtype ≡ Some (map (named_by seen) (data_fields (make v)))) × IsDataOf (make v) rtype
+compressible_given {N} seen make fields number rtype reads found v is same so gives =
+    rw is (same ∙ gives ∙ ap (λ (fs : List (FieldOf N)). Some (map (named_by seen) fs)) (sym so.0), so.1)
+
+pub compressible_refused : {S : Type 0} (number rtype : ℕ) (reads : ℕ → Option (List (FieldOf S))) (found : Option (List (FieldOf S))) → rtype ≡ number → reads number ≡ found → found ≡ None → reads rtype ≡ None
+compressible_refused number rtype reads found is same gives = rw is (same ∙ gives)
+
+-- the same of what was converted
 pub compressible_made : {N S X E : Type 0} (seen : N → S) (make : X → RecordData N) (fields : X → List (FieldOf N)) (number rtype : ℕ) (reads : ℕ → Option (List (FieldOf S))) (found : Option (List (FieldOf S))) (read : Result X E) (made : Result (RecordData N) E) → rtype ≡ number → reads number ≡ found
     → ((v : X) → (data_fields (make v) ≡ fields v) × IsDataOf (make v) number)
     → Gives (λ v. map (named_by seen) (fields v)) read found → MatchResult read (λ v. IsOkAnd made (λ w. w ≡ make v)) (λ e. made ≡ Err e) → IsRead seen made rtype (reads rtype)
-compressible_made {N} seen make fields number rtype reads found (Ok v) (Ok w) is same so gives by =
-    rw (is, by) (same ∙ gives ∙ ap (λ (fs : List (FieldOf N)). Some (map (named_by seen) fs)) (sym (so v).0), (so v).1)
+compressible_made seen make fields number rtype reads found (Ok v) (Ok w) is same so gives by = rw by (compressible_given seen make fields number rtype reads found v is same (so v) gives)
 compressible_made seen make fields number rtype reads found (Ok v) (Err e) is same so gives by = absurd by
-compressible_made seen make fields number rtype reads found (Err e) made is same so gives by = rw (is, by) (same ∙ gives, tt)
+compressible_made seen make fields number rtype reads found (Err e) made is same so gives by = rw by (compressible_refused number rtype reads found is same gives, tt)
 
 pub plain_read : {N S E : Type 0} (seen : N → S) (name : List ℕ → Option (S × List ℕ)) (rtype : ℕ) (bytes : List ℕ) (made : Result (RecordData N) E) → is_uncompressed_type rtype ≡ true → ReadsPlain made rtype bytes → IsRead seen made rtype (data_as name rtype bytes)
 plain_read seen name rtype bytes (Ok v) plain reads = (seen_plain seen name rtype bytes plain ∙ ap (option_map (map (named_by seen))) reads.0, reads.1)

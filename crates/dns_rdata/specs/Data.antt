@@ -1,5 +1,5 @@
 -- Data of any type: the number of their type, their fields, and their octets.
-use Rattle.std.specs.Prelude.{◌≡◌, ℕ, List, [], ◌∷◌, ◌++◌, length, map, false, ⊤}
+use Rattle.std.specs.Prelude.{◌≡◌, ℕ, List, [], ◌∷◌, ◌++◌, length, map, true, false, Bool, ⊤}
 use Rattle.std.specs.Int.{to_be_bytes}
 use Rattle.dns_wire.specs.Octets.{Octets}
 use Rattle.dns_wire.specs.Names.{wire}
@@ -109,3 +109,17 @@ NamesFit fits (Ptr v) = fits v.name
 NamesFit fits (Mx v) = fits v.exchange
 NamesFit fits (Rp v) = fits v.mailbox × fits v.texts
 NamesFit fits v = ⊤
+
+-- no name in the data is one that pointers may lead through
+abbrev pub is_plain : {N : Type 0} → RecordData N → Bool
+is_plain (Ns v) = false
+is_plain (CName v) = false
+is_plain (Soa v) = false
+is_plain (Ptr v) = false
+is_plain (Mx v) = false
+is_plain (Rp v) = false
+is_plain v = true
+
+-- the octets of such data
+abbrev pub plain_octets : {N : Type 0} → RecordData N → Octets
+plain_octets v = written_fields (λ name. []) (data_fields v)

@@ -8,6 +8,7 @@ pub mod EdnsRecordLemmas
 pub mod BoxedValue
 pub mod Mapping
 pub mod Plain
+pub mod Compressible
 pub mod ContentSameness
 pub mod FieldShapes
 pub mod FormatLemmas

@@ -1,5 +1,5 @@
 -- Data whose type has no name that pointers may lead through.
-use Rattle.std.specs.Prelude.{◌≡◌, ℕ, Bool, Option, Some, None, Result, Ok, Err}
+use Rattle.std.specs.Prelude.{◌≡◌, ◌==◌, ◌||◌, ℕ, Bool, Option, Some, None, Result, Ok, Err}
 use Rattle.dns_wire.specs.Octets.{Octets}
 use Rattle.dns_record.specs.Data.{data_as}
 use Rattle.dns_record.specs.Formats.{rdata_format}
@@ -10,6 +10,14 @@ use Rattle.dns_rdata.specs.declared.record_data.RecordData.{RecordData}
 -- the RDATA format of the type has no such name
 unfoldable pub is_uncompressed_type : ℕ → Bool
 is_uncompressed_type rtype = is_uncompressed_format (rdata_format rtype)
+
+-- A, HINFO, TXT, AAAA, SRV and DNAME
+abbrev pub is_general_type : ℕ → Bool
+is_general_type n = n == 1 || n == 13 || n == 16 || n == 28 || n == 33 || n == 39
+
+-- DS, RRSIG, DNSKEY, CDS, CDNSKEY and ZONEMD
+abbrev pub is_signed_type : ℕ → Bool
+is_signed_type n = n == 43 || n == 46 || n == 48 || n == 59 || n == 60 || n == 63
 
 -- no such name is read
 abbrev pub no_compressible : {N : Type 0} → Octets → Option (N × Octets)

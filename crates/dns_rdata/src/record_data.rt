@@ -1,6 +1,6 @@
 //! Record data of any type.
 
-ghost use Rattle.std.specs.Prelude.{◌≡◌, ◌↔◌, ◌≤◌, ◌<◌, ◌^◌, ℕ, List, length, map, IsTrue, IfOk};
+ghost use Rattle.std.specs.Prelude.{◌≡◌, ◌↔◌, ◌≤◌, ◌<◌, ◌^◌, ℕ, List, length, map, IsTrue, IfOk, true, ⊤};
 ghost use Rattle.dns_wire.specs.Building.{Builds};
 ghost use Rattle.dns_wire.specs.Reading.{Gives};
 ghost use Rattle.std.specs.Cmp.Lexicographic.{slice_cmp};
@@ -14,8 +14,9 @@ ghost use Rattle.dns_record.specs.Formats.{has_rdata_format};
 ghost use Rattle.dns_record.proofs.FieldLayoutLemmas.{fields_match};
 ghost use Rattle.std.specs.Fn.{CalledAt, TakesAt};
 ghost use Rattle.dns_rdata.specs.Mapping.{TakesNames, HoldsGiven, without_names};
-ghost use Rattle.dns_rdata.specs.Data.{data_fields, type_number, IsProper, IsDataOf, NamesFit, written_fields};
+ghost use Rattle.dns_rdata.specs.Data.{data_fields, type_number, IsProper, IsDataOf, NamesFit, written_fields, is_plain, plain_octets};
 
+use crate::compressible_data::read_compressible_at;
 use crate::plain_data::{as_data, read_plain};
 use crate::unknown::UnknownRecordData;
 use dns_basic::{CName, Mx, Ns, Ptr, Rp, Soa};
@@ -26,8 +27,8 @@ use dns_plain::{A, Aaaa, DName, HInfo, Srv, Txt};
 use dns_record::{CanonicalRecordData, ParseRecordData, ParseRecordDataBytes, RType};
 use dns_sec::{CDNSKey, Cds, DNSKey, Ds, Rrsig, ZoneMD};
 use dns_wire::{
-    BuildBytes, BuildInMessage, NameCompressor, ParseBytes, ParseError, ParseMessageBytes,
-    ParseName, SplitMessageBytes, TruncationError,
+    BuildBytes, BuildInMessage, NameCompressor, ParseBytes, ParseError, ParseName,
+    SplitMessageBytes, TruncationError,
 };
 use std::alloc::AllocError;
 use std::cmp::Ordering;
@@ -122,12 +123,12 @@ impl<N: Clone> Clone for RecordData<'_, N> {
 
     fn clone(&self) -> Result<Self, AllocError> {
         match self {
-            RecordData::Ns(v) => Ok(RecordData::Ns(v.clone()?)),
-            RecordData::CName(v) => Ok(RecordData::CName(v.clone()?)),
-            RecordData::Soa(v) => Ok(RecordData::Soa(v.clone()?)),
-            RecordData::Ptr(v) => Ok(RecordData::Ptr(v.clone()?)),
-            RecordData::Mx(v) => Ok(RecordData::Mx(v.clone()?)),
-            RecordData::Rp(v) => Ok(RecordData::Rp(v.clone()?)),
+            RecordData::Ns(v) => as_data!(Ns, v.clone()),
+            RecordData::CName(v) => as_data!(CName, v.clone()),
+            RecordData::Soa(v) => as_data!(Soa, v.clone()),
+            RecordData::Ptr(v) => as_data!(Ptr, v.clone()),
+            RecordData::Mx(v) => as_data!(Mx, v.clone()),
+            RecordData::Rp(v) => as_data!(Rp, v.clone()),
             plain => Ok(plain.without_names().unwrap()),
         }
     }
@@ -201,6 +202,34 @@ impl<'a, N> RecordData<'a, N> {
         }
     }
 
+    /// Writes data without names that pointers may lead through at a place of the buffer, as `build_at` does.
+    fn build_plain_at(&self, bytes: &mut [u8], start: usize) -> Result<usize, TruncationError>
+        requires plain { is_plain self.now ≡ true }
+        requires room { start ≤ length bytes.old }
+        ensures { Builds ⊤ (plain_octets self.now) bytes.old start bytes.new result }
+    {
+        match self {
+            RecordData::A(v) => v.build_at(bytes, start),
+            RecordData::HInfo(v) => v.build_at(bytes, start),
+            RecordData::Txt(v) => v.build_at(bytes, start),
+            RecordData::Srv(v) => v.build_at(bytes, start),
+            RecordData::Aaaa(v) => v.build_at(bytes, start),
+            RecordData::DName(v) => v.build_at(bytes, start),
+            RecordData::Opt(v) => v.build_at(bytes, start),
+            RecordData::Ds(v) => v.build_at(bytes, start),
+            RecordData::Rrsig(v) => v.build_at(bytes, start),
+            RecordData::Nsec(v) => v.build_at(bytes, start),
+            RecordData::DNSKey(v) => v.build_at(bytes, start),
+            RecordData::Nsec3(v) => v.build_at(bytes, start),
+            RecordData::Nsec3Param(v) => v.build_at(bytes, start),
+            RecordData::Cds(v) => v.build_at(bytes, start),
+            RecordData::CDNSKey(v) => v.build_at(bytes, start),
+            RecordData::ZoneMD(v) => v.build_at(bytes, start),
+            RecordData::Unknown(_, v) => v.build_at(bytes, start),
+            _ => unreachable!(),
+        }
+    }
+
     /// The data with what the function makes of their names, called on them in the order of the fields.
     pub fn map_names<R, F: FnMut(N) -> R>(self, f: F) -> RecordData<'a, R>
         requires { TakesNames F.pre F.step f self }
@@ -266,12 +295,12 @@ impl<'a, N: ParseName<'a>> ParseRecordDataBytes<'a> for RecordData<'a, N> {
         rtype: RType,
     ) -> Result<RecordData<'a, N>, ParseError> {
         match rtype {
-            RType::NS => as_data(Ns::parse_bytes(bytes)),
-            RType::CNAME => as_data(CName::parse_bytes(bytes)),
-            RType::SOA => as_data(Soa::parse_bytes(bytes)),
-            RType::PTR => as_data(Ptr::parse_bytes(bytes)),
-            RType::MX => as_data(Mx::parse_bytes(bytes)),
-            RType::RP => as_data(Rp::parse_bytes(bytes)),
+            RType::NS => as_data!(Ns, Ns::parse_bytes(bytes)),
+            RType::CNAME => as_data!(CName, CName::parse_bytes(bytes)),
+            RType::SOA => as_data!(Soa, Soa::parse_bytes(bytes)),
+            RType::PTR => as_data!(Ptr, Ptr::parse_bytes(bytes)),
+            RType::MX => as_data!(Mx, Mx::parse_bytes(bytes)),
+            RType::RP => as_data!(Rp, Rp::parse_bytes(bytes)),
             _ => read_plain(bytes, rtype),
         }
     }
@@ -283,15 +312,10 @@ impl<'a, N: ParseName<'a> + SplitMessageBytes<'a>> ParseRecordData<'a> for Recor
         start: usize,
         rtype: RType,
     ) -> Result<RecordData<'a, N>, ParseError> {
-        match rtype {
-            RType::NS => as_data(Ns::parse_message_bytes(contents, start)),
-            RType::CNAME => as_data(CName::parse_message_bytes(contents, start)),
-            RType::SOA => as_data(Soa::parse_message_bytes(contents, start)),
-            RType::PTR => as_data(Ptr::parse_message_bytes(contents, start)),
-            RType::MX => as_data(Mx::parse_message_bytes(contents, start)),
-            RType::RP => as_data(Rp::parse_message_bytes(contents, start)),
-            _ if contents.len() < start => Err(ParseError),
-            _ => read_plain(&contents[start..], rtype),
+        match read_compressible_at(contents, start, rtype) {
+            Some(read) => read,
+            None if contents.len() < start => Err(ParseError),
+            None => read_plain(&contents[start..], rtype),
         }
     }
 }
@@ -303,29 +327,13 @@ impl<N: BuildBytes> BuildBytes for RecordData<'_, N> {
 
     fn build_at(&self, bytes: &mut [u8], start: usize) -> Result<usize, TruncationError> {
         match self {
-            RecordData::A(v) => v.build_at(bytes, start),
             RecordData::Ns(v) => v.build_at(bytes, start),
             RecordData::CName(v) => v.build_at(bytes, start),
             RecordData::Soa(v) => v.build_at(bytes, start),
             RecordData::Ptr(v) => v.build_at(bytes, start),
-            RecordData::HInfo(v) => v.build_at(bytes, start),
             RecordData::Mx(v) => v.build_at(bytes, start),
-            RecordData::Txt(v) => v.build_at(bytes, start),
             RecordData::Rp(v) => v.build_at(bytes, start),
-            RecordData::Srv(v) => v.build_at(bytes, start),
-            RecordData::Aaaa(v) => v.build_at(bytes, start),
-            RecordData::DName(v) => v.build_at(bytes, start),
-            RecordData::Opt(v) => v.build_at(bytes, start),
-            RecordData::Ds(v) => v.build_at(bytes, start),
-            RecordData::Rrsig(v) => v.build_at(bytes, start),
-            RecordData::Nsec(v) => v.build_at(bytes, start),
-            RecordData::DNSKey(v) => v.build_at(bytes, start),
-            RecordData::Nsec3(v) => v.build_at(bytes, start),
-            RecordData::Nsec3Param(v) => v.build_at(bytes, start),
-            RecordData::Cds(v) => v.build_at(bytes, start),
-            RecordData::CDNSKey(v) => v.build_at(bytes, start),
-            RecordData::ZoneMD(v) => v.build_at(bytes, start),
-            RecordData::Unknown(_, v) => v.build_at(bytes, start),
+            plain => plain.build_plain_at(bytes, start),
         }
     }
 
@@ -375,29 +383,13 @@ impl<N: BuildInMessage> BuildInMessage for RecordData<'_, N> {
         compressor: &mut NameCompressor,
     ) -> Result<usize, TruncationError> {
         match self {
-            RecordData::A(v) => v.build_in_message(contents, start, compressor),
             RecordData::Ns(v) => v.build_in_message(contents, start, compressor),
             RecordData::CName(v) => v.build_in_message(contents, start, compressor),
             RecordData::Soa(v) => v.build_in_message(contents, start, compressor),
             RecordData::Ptr(v) => v.build_in_message(contents, start, compressor),
-            RecordData::HInfo(v) => v.build_in_message(contents, start, compressor),
             RecordData::Mx(v) => v.build_in_message(contents, start, compressor),
-            RecordData::Txt(v) => v.build_in_message(contents, start, compressor),
             RecordData::Rp(v) => v.build_in_message(contents, start, compressor),
-            RecordData::Srv(v) => v.build_in_message(contents, start, compressor),
-            RecordData::Aaaa(v) => v.build_in_message(contents, start, compressor),
-            RecordData::DName(v) => v.build_in_message(contents, start, compressor),
-            RecordData::Opt(v) => v.build_in_message(contents, start, compressor),
-            RecordData::Ds(v) => v.build_in_message(contents, start, compressor),
-            RecordData::Rrsig(v) => v.build_in_message(contents, start, compressor),
-            RecordData::Nsec(v) => v.build_in_message(contents, start, compressor),
-            RecordData::DNSKey(v) => v.build_in_message(contents, start, compressor),
-            RecordData::Nsec3(v) => v.build_in_message(contents, start, compressor),
-            RecordData::Nsec3Param(v) => v.build_in_message(contents, start, compressor),
-            RecordData::Cds(v) => v.build_in_message(contents, start, compressor),
-            RecordData::CDNSKey(v) => v.build_in_message(contents, start, compressor),
-            RecordData::ZoneMD(v) => v.build_in_message(contents, start, compressor),
-            RecordData::Unknown(_, v) => v.build_in_message(contents, start, compressor),
+            plain => plain.build_plain_at(contents, start),
         }
     }
 }
@@ -451,29 +443,16 @@ impl<N: CanonicalName> CanonicalRecordData for RecordData<'_, N> {
 
     fn build_canonical_at(&self, bytes: &mut [u8], start: usize) -> Result<usize, TruncationError> {
         match self {
-            RecordData::A(v) => v.build_canonical_at(bytes, start),
             RecordData::Ns(v) => v.build_canonical_at(bytes, start),
             RecordData::CName(v) => v.build_canonical_at(bytes, start),
             RecordData::Soa(v) => v.build_canonical_at(bytes, start),
             RecordData::Ptr(v) => v.build_canonical_at(bytes, start),
-            RecordData::HInfo(v) => v.build_canonical_at(bytes, start),
             RecordData::Mx(v) => v.build_canonical_at(bytes, start),
-            RecordData::Txt(v) => v.build_canonical_at(bytes, start),
             RecordData::Rp(v) => v.build_canonical_at(bytes, start),
             RecordData::Srv(v) => v.build_canonical_at(bytes, start),
-            RecordData::Aaaa(v) => v.build_canonical_at(bytes, start),
             RecordData::DName(v) => v.build_canonical_at(bytes, start),
-            RecordData::Opt(v) => v.build_canonical_at(bytes, start),
-            RecordData::Ds(v) => v.build_canonical_at(bytes, start),
             RecordData::Rrsig(v) => v.build_canonical_at(bytes, start),
-            RecordData::Nsec(v) => v.build_canonical_at(bytes, start),
-            RecordData::DNSKey(v) => v.build_canonical_at(bytes, start),
-            RecordData::Nsec3(v) => v.build_canonical_at(bytes, start),
-            RecordData::Nsec3Param(v) => v.build_canonical_at(bytes, start),
-            RecordData::Cds(v) => v.build_canonical_at(bytes, start),
-            RecordData::CDNSKey(v) => v.build_canonical_at(bytes, start),
-            RecordData::ZoneMD(v) => v.build_canonical_at(bytes, start),
-            RecordData::Unknown(_, v) => v.build_canonical_at(bytes, start),
+            plain => plain.build_plain_at(bytes, start),
         }
     }
 
