@@ -26,6 +26,9 @@ TIME_LIMIT = struct.pack("ll", 10_000, 0)
 LONGEST = 300
 MOST_KILOBYTES = 100_000
 
+# No message takes more memory than this.
+MOST_FOR_A_MESSAGE = 20 * 1024
+
 
 @dataclass
 class Command:
@@ -375,6 +378,15 @@ def check_memory_limits(report):
         report.add(f"{command.name}, a limit on memory", came, done is not None and refused > 0 and not wrong)
 
 
+def check_largest_message(report):
+    """`canon` on the message that takes the most memory of those that were found, which must be enough."""
+    text, lines = samples.largest_message()
+    line = ["sh", "-c", f'ulimit -v {MOST_FOR_A_MESSAGE}; exec "$0" "$@"', PROGRAM, "canon"]
+    ran = subprocess.run(line, input=text, capture_output=True, timeout=LONGEST)
+    came = f"with {MOST_FOR_A_MESSAGE} KB status {ran.returncode}, {len(ran.stdout):,} octets of lines"
+    report.add("canon on the largest message", came, ran.returncode == 0 and ran.stdout == lines)
+
+
 def build():
     """Builds the program if it is not current. That proves the library, which takes its time."""
     with open(samples.ROOT / "samples" / "address.hex", "rb") as given:
@@ -397,5 +409,6 @@ def check(report):
         check_interrupted_calls,
         check_failing_calls,
         check_memory_limits,
+        check_largest_message,
     ):
         part(report)

@@ -97,3 +97,15 @@ def long_message():
     records = owner + fixed_fields + addresses[0] + b"".join(b"\xc0\x0c" + fixed_fields + address for address in addresses[1:])
     lines = b"".join((owner + fixed_fields + address).hex().encode() + b"\n" for address in addresses)
     return (header + records).hex().encode(), lines
+
+
+def largest_message():
+    """The text of a message of 4,079 RP records that differ in class, and its lines. The owner and both names of each are one name of
+    255 octets, to which pointers of two octets lead, so that these lines are the most that was found for a message."""
+    name = b"".join(bytes([size]) + b"a" * size for size in (63, 63, 63, 61)) + b"\0"
+    classes = [number.to_bytes(2, "big") for number in range(4079)]
+    header = bytes.fromhex("0000 8400 0001 0fef 0000 0000")
+    question = name + bytes.fromhex("0011 0001")
+    records = b"".join(b"\xc0\x0c\0\x11" + number + bytes.fromhex("0000003c 0004 c00c c00c") for number in classes)
+    lines = b"".join((name + b"\0\x11" + number + bytes.fromhex("0000003c 01fe") + 2 * name).hex().encode() + b"\n" for number in classes)
+    return (header + question + records).hex().encode(), lines

@@ -8,6 +8,7 @@ mod boxed_record_data;
 mod built_records;
 #[cfg(test)]
 mod canonical_forms;
+#[cfg(test)]
 mod canonical_record;
 #[cfg(test)]
 mod edns_conversion;
