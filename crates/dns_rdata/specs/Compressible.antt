@@ -1,5 +1,5 @@
 -- Data whose type has names that pointers may lead through.
-use Rattle.std.specs.Prelude.{◌≡◌, ◌==◌, ◌||◌, ℕ, List, map, Bool, false, Option, Some, None, Result, IfOk}
+use Rattle.std.specs.Prelude.{◌==◌, ◌||◌, ℕ, List, map, Bool, Option, Result, IfOk}
 use Rattle.dns_wire.specs.Reading.{Gives}
 use Rattle.dns_record.specs.Fields.{FieldOf, named_by}
 use Rattle.dns_rdata.specs.Data.{data_fields, IsDataOf}
@@ -12,8 +12,3 @@ is_compressible_type n = n == 2 || n == 5 || n == 6 || n == 12 || n == 15 || n =
 -- `Ok` exactly if the RDATA format reads fields, with data of the type that have these
 abbrev pub IsRead : {N S E : Type 0} → (N → S) → Result (RecordData N) E → ℕ → Option (List (FieldOf S)) → Type 0
 IsRead seen made rtype found = Gives (λ v. map (named_by seen) (data_fields v)) made found × IfOk made (λ v. IsDataOf v rtype)
-
--- what is answered for a type: how data of such a type are read, and nothing of others
-abbrev pub ReadsCompressible : {N S E : Type 0} → (N → S) → Option (Result (RecordData N) E) → ℕ → Option (List (FieldOf S)) → Type 0
-ReadsCompressible seen (Some made) rtype found = IsRead seen made rtype found
-ReadsCompressible seen None rtype found = is_compressible_type rtype ≡ false

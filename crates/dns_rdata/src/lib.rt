@@ -3,7 +3,6 @@
 
 mod box_error;
 mod boxed_record_data;
-mod compressible_data;
 mod edns_conversion;
 mod edns_laws;
 mod edns_record;

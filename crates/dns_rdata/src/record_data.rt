@@ -16,7 +16,6 @@ ghost use Rattle.std.specs.Fn.{CalledAt, TakesAt};
 ghost use Rattle.dns_rdata.specs.Mapping.{TakesNames, HoldsGiven, without_names};
 ghost use Rattle.dns_rdata.specs.Data.{data_fields, type_number, IsProper, IsDataOf, NamesFit, written_fields, is_plain, plain_octets};
 
-use crate::compressible_data::read_compressible_at;
 use crate::plain_data::{as_data, read_plain};
 use crate::unknown::UnknownRecordData;
 use dns_basic::{CName, Mx, Ns, Ptr, Rp, Soa};
@@ -27,8 +26,8 @@ use dns_plain::{A, Aaaa, DName, HInfo, Srv, Txt};
 use dns_record::{CanonicalRecordData, ParseRecordData, ParseRecordDataBytes, RType};
 use dns_sec::{CDNSKey, Cds, DNSKey, Ds, Rrsig, ZoneMD};
 use dns_wire::{
-    BuildBytes, BuildInMessage, NameCompressor, ParseBytes, ParseError, ParseName,
-    SplitMessageBytes, TruncationError,
+    BuildBytes, BuildInMessage, NameCompressor, ParseBytes, ParseError, ParseMessageBytes,
+    ParseName, SplitMessageBytes, TruncationError,
 };
 use std::alloc::AllocError;
 use std::cmp::Ordering;
@@ -312,10 +311,15 @@ impl<'a, N: ParseName<'a> + SplitMessageBytes<'a>> ParseRecordData<'a> for Recor
         start: usize,
         rtype: RType,
     ) -> Result<RecordData<'a, N>, ParseError> {
-        match read_compressible_at(contents, start, rtype) {
-            Some(read) => read,
-            None if contents.len() < start => Err(ParseError),
-            None => read_plain(&contents[start..], rtype),
+        match rtype {
+            RType::NS => as_data!(Ns, Ns::parse_message_bytes(contents, start)),
+            RType::CNAME => as_data!(CName, CName::parse_message_bytes(contents, start)),
+            RType::SOA => as_data!(Soa, Soa::parse_message_bytes(contents, start)),
+            RType::PTR => as_data!(Ptr, Ptr::parse_message_bytes(contents, start)),
+            RType::MX => as_data!(Mx, Mx::parse_message_bytes(contents, start)),
+            RType::RP => as_data!(Rp, Rp::parse_message_bytes(contents, start)),
+            _ if contents.len() < start => Err(ParseError),
+            _ => read_plain(&contents[start..], rtype),
         }
     }
 }
