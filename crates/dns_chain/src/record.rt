@@ -1,34 +1,29 @@
 //! Records whose names may go through chains of pointers.
 
-ghost use Rattle.std.specs.Prelude.{◌≡◌, ◌≤◌, length, map, IfOk};
+ghost use Rattle.std.specs.Prelude.{◌≡◌, ◌≤◌, length, IfOk};
 ghost use Rattle.dns_wire.specs.Pointers.{name_at};
 ghost use Rattle.dns_wire.specs.Reading.{Gives};
-ghost use Rattle.dns_record.specs.Data.{data_in};
-ghost use Rattle.dns_record.specs.Fields.{named_by};
 ghost use Rattle.dns_record.specs.Records.{record_in, SizedDataIn};
 ghost use Rattle.dns_record.specs.Seen.{record_seen};
-ghost use Rattle.dns_rdata.specs.Data.{data_fields, IsDataOf};
+ghost use Rattle.dns_record.specs.Unparsed.{few_in};
 
-use crate::data::parse_data;
 use crate::final_targets::FinalTargets;
-use dns_name::{NameBuf, RevNameBuf};
+use dns_name::RevNameBuf;
 use dns_num::U16;
-use dns_rdata::RecordData;
-use dns_record::{RClass, RType, Record, TTL};
+use dns_record::{ParseRecordData, RClass, RType, Record, TTL, UnparsedRecordData};
 use dns_wire::{ParseError, SplitMessageBytes};
 
 impl<'a> FinalTargets<'a> {
-    /// Reads the record at a place of the contents as `Record::split_message_bytes` does, and gives the place where it ends. `ParseError` comes
-    /// exactly if no record is there (RFC 1035 section 4.1.3).
+    /// Reads the record at a place of the contents as `Record::split_message_bytes` does, its data as they are, and gives the place
+    /// where it ends. `ParseError` comes exactly if no record is there (RFC 1035 section 4.1.3).
     #[tactic(auto, unfolding(dns_record::specs::Records::record_in))]
-    pub fn split_record(
+    pub fn split_unparsed_record(
         &self,
         start: usize,
-    ) -> Result<(Record<RevNameBuf, RecordData<'a, NameBuf>>, usize), ParseError>
-        ensures exact { Gives (λ x. (record_seen (λ n. n) (λ v. map (named_by (λ n. n)) (data_fields v)) x.0, x.1)) result (record_in name_at (data_in name_at) self.now start) }
+    ) -> Result<(Record<RevNameBuf, UnparsedRecordData<'a>>, usize), ParseError>
+        ensures exact { Gives (λ x. (record_seen (λ n. n) (λ v. v.octets.now) x.0, x.1)) result (record_in name_at (λ _ contents at. few_in contents at) self.now start) }
         ensures within { IfOk result (λ x. (start ≤ x.1) × (x.1 ≤ length self.now)) }
-        ensures sized { IfOk result (λ x. SizedDataIn (data_in name_at) self.now (map (named_by (λ n. n)) (data_fields x.0.rdata)) x.0.rtype.code.value x.1) }
-        ensures typed { IfOk result (λ x. IsDataOf x.0.rdata x.0.rtype.code.value) }
+        ensures sized { IfOk result (λ x. SizedDataIn (λ _ contents at. few_in contents at) self.now x.0.rdata.octets.now x.0.rtype.code.value x.1) }
     {
         let contents = self.contents();
         let (owner, at) = self.split_name(start, contents.len())?;
@@ -40,7 +35,7 @@ impl<'a> FinalTargets<'a> {
         if contents.len() < end {
             return Err(ParseError);
         }
-        let rdata = parse_data(self, at, end, rtype)?;
+        let rdata = UnparsedRecordData::parse_record_data(&contents[..end], at, rtype)?;
         let rname = RevNameBuf::from(owner);
         let value = Record {
             rname,

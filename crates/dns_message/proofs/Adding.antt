@@ -13,11 +13,11 @@ use Rattle.dns_message.specs.Messages.{Question, RecordValue, item_at}
 use Rattle.dns_message.specs.Messages.Item.{QuestionItem, RecordItem}
 use Rattle.dns_message.specs.Parsing.{AddsItem}
 
-question_there : (section : ℕ) (contents : Octets) (start : ℕ) → section ≡ 0 → item_at section contents start ≡ first_to QuestionItem (question_in name_at contents start)
+pub question_there : (section : ℕ) (contents : Octets) (start : ℕ) → section ≡ 0 → item_at section contents start ≡ first_to QuestionItem (question_in name_at contents start)
 unfolding item_at
 question_there section contents start is = rw is refl
 
-record_there : (section : ℕ) (contents : Octets) (start : ℕ) → section ≢ 0 → item_at section contents start ≡ first_to RecordItem (record_in name_at (data_in name_at) contents start)
+pub record_there : (section : ℕ) (contents : Octets) (start : ℕ) → section ≢ 0 → item_at section contents start ≡ first_to RecordItem (record_in name_at (data_in name_at) contents start)
 unfolding item_at
 record_there section contents start is_not = rw (ne_eqb section 0 is_not) refl
 

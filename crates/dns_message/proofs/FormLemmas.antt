@@ -1,9 +1,8 @@
 -- Canonical forms of records, one after another.
-use Rattle.std.proofs.Common.{◌≡◌, ℕ, zero, suc, ◌+◌, ◌<◌, ◌≤◌, List, [], ◌∷◌, ◌++◌, Option, Some, length, map, take, drop, take_all, flat_map, get_or, append-nil, refl, sym, ap, ap₂, subst, ◌∙◌, inl, inr, arith}
+use Rattle.std.proofs.Common.{◌≡◌, ℕ, zero, suc, ◌+◌, ◌<◌, ◌≤◌, List, [], ◌∷◌, ◌++◌, Option, length, map, take, drop, take_all, flat_map, get_or, append-nil, refl, sym, ap, ap₂, subst, ◌∙◌, inl, inr, arith}
 use Rattle.std.specs.Prelude.{reverse, unwrap_or}
 use Rattle.std.specs.Cmp.Lexicographic.{slice_cmp}
 use Rattle.std.specs.Int.{w16, w32, to_be_bytes}
-use Rattle.std.specs.List.{All}
 use Rattle.std.specs.List.Sorted.{IsPermutation, IsSorted}
 use Rattle.std.specs.Ordering.{is_lt, nat_cmp}
 use Rattle.std.specs.Char.{to_ascii_lowercase}
@@ -15,7 +14,7 @@ use Rattle.std.proofs.lemmas.List.Concat.{flat_map-cons}
 use Rattle.std.proofs.lemmas.List.Elements.{All-push}
 use Rattle.std.proofs.lemmas.List.Sorted.{ranks_by, sorted_far}
 use Rattle.std.proofs.lemmas.Str.Ascii.{lowercase_is, lowercase-lowercase}
-use Rattle.dns_wire.specs.Names.{lowered, wire, IsName, plain_name}
+use Rattle.dns_wire.specs.Names.{lowered, wire, IsName}
 use Rattle.dns_wire.proofs.Backward.{lowered-reverse}
 use Rattle.dns_wire.proofs.Lowered.{name_lowered}
 use Rattle.dns_wire.proofs.Spelled.{plain_name_again}
@@ -24,7 +23,7 @@ use Rattle.dns_message.specs.Canonical.{canonical_wire}
 use Rattle.dns_message.specs.Forms.{form_owner_key, form_of_parts, form_in, IsForm, span_of, forms_in, AreForms}
 use Rattle.dns_message.specs.Messages.{RecordValue}
 use Rattle.dns_message.specs.Order.{SortKey, sort_key, sort_key_cmp, octets_of_key, in_order}
-use Rattle.dns_message.specs.OwnerKeys.{key_octet, label_key, labels_key, owner_key}
+use Rattle.dns_message.specs.OwnerKeys.{key_octet, labels_key, owner_key}
 use Rattle.dns_message.specs.Sorted.{Ascends, times}
 use Rattle.dns_message.specs.declared.form_span.FormSpan.{FormSpan}
 use Rattle.dns_message.proofs.Ordering.{key_canonical_wire}

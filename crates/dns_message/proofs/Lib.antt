@@ -26,6 +26,7 @@ pub mod BuiltLemmas
 pub mod Repushed
 pub mod FirstOfRuns
 pub mod FormLemmas
+pub mod FormsAdded
 pub mod CanonicalListSameness
 pub mod SeveralMessages
 pub mod Shorter
@@ -38,5 +39,6 @@ pub mod KindLemmas
 pub mod Surviving
 pub mod ListTexts
 pub mod TextLemmas
+pub mod UnparsedRecords
 pub mod WellFormedLemmas
 pub mod Whole

@@ -1,5 +1,5 @@
 -- Canonical forms: the octets by which a record is compared and written (RFC 4034 sections 6.1 to 6.3).
-use Rattle.std.specs.Prelude.{◌≡◌, ◌≤◌, ◌+◌, ℕ, List, [], ◌∷◌, drop, flat_map, length, map, reverse, take, unwrap_or}
+use Rattle.std.specs.Prelude.{◌≡◌, ◌≤◌, ℕ, List, [], ◌∷◌, drop, flat_map, length, map, reverse, take, unwrap_or}
 use Rattle.std.specs.List.{All}
 use Rattle.dns_wire.specs.Octets.{Octets, Labels}
 use Rattle.dns_wire.specs.Names.{lowered, plain_name}

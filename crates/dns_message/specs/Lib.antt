@@ -4,6 +4,7 @@ pub mod Built
 pub mod Canonical
 pub mod Counted
 pub mod Forms
+pub mod FormsRead
 pub mod Headers
 pub mod MessageOctets
 pub mod Messages
@@ -18,5 +19,6 @@ pub mod Seen
 pub mod Several
 pub mod Sorted
 pub mod Texts
+pub mod UnparsedRecords
 pub mod WellFormed
 pub mod Worded

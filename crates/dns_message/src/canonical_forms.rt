@@ -1,19 +1,29 @@
 //! Records as their canonical octets, one after another.
 
-ghost use Rattle.std.specs.Prelude.{◌≡◌, ◌≤◌, ◌↔◌, [], ◌∷◌, ◌++◌, List, IfOk, IsTrue, length, map};
+ghost use Rattle.std.specs.Prelude.{◌≡◌, ◌≤◌, ◌<◌, ◌^◌, ◌↔◌, [], ◌∷◌, ◌++◌, List, IfOk, IsTrue, length, map};
+ghost use Rattle.dns_wire.specs.Names.{wire, lowered};
+ghost use Rattle.dns_record.specs.Fields.{fields_octets, named_by};
+ghost use Rattle.dns_record.specs.Records.{octets_of_parts};
+ghost use Rattle.dns_record.specs.Seen.{record_seen};
+ghost use Rattle.dns_rdata.specs.Data.{data_fields, IsDataOf};
 ghost use Rattle.dns_message.specs.Canonical.{canonical_wire};
 ghost use Rattle.dns_message.specs.Forms.{AreForms, forms_in};
 ghost use Rattle.dns_message.specs.Messages.{RecordValue};
 ghost use Rattle.dns_message.specs.Order.{sort_key, octets_of_key, collapsed};
 
 use crate::canonical_form::CanonicalForm;
+use crate::canonical_parts::{build_canonical_record, canonical_size};
 use crate::canonical_record::CanonicalRecord;
 use crate::form_span::FormSpan;
 use crate::owner_key::push_owner_key;
-use dns_name::CanonicalName;
-use dns_wire::BuildBytes;
+use dns_name::{CanonicalName, RevNameBuf};
+use dns_rdata::RecordData;
+use dns_record::{CanonicalRecordData, Record};
 use std::alloc::{AllocError, Global};
 use std::marker::Model;
+
+/// The octets of an owner and of its key for which memory is taken before they are read. More is taken as they need it.
+const OWNER_ROOM: usize = 32;
 
 /// The canonical forms of records of other types than OPT (RFC 4034 section 6.2), in the order in which they were added. For each
 /// record they take its canonical octets, as many octets as its owner has, and 24 more. They are seen as what the records are compared by.
@@ -37,15 +47,19 @@ impl Model for CanonicalForms {
 }
 
 /// Puts the canonical octets of a record after others, and gives how many they are. `AllocError` is out of memory.
-fn push_canonical(octets: &mut Vec<u8>, found: &CanonicalRecord<'_>) -> Result<usize, AllocError>
-    ensures put { IfOk result (λ _. octets.new.items ≡ octets.old.items ++ canonical_wire found.now) }
-    ensures size { IfOk result (λ size. size ≡ length (canonical_wire found.now)) }
+fn push_canonical<D: CanonicalRecordData>(
+    octets: &mut Vec<u8>,
+    found: &Record<&RevNameBuf, &D>,
+) -> Result<usize, AllocError>
+    requires { length (D.canonical found.now.rdata.now) < 2 ^ 16 }
+    ensures put { IfOk result (λ _. octets.new.items ≡ octets.old.items ++ octets_of_parts (wire (lowered found.now.rname.now)) found.now.rtype.code.value found.now.rclass.code.value found.now.ttl.value.value (D.canonical found.now.rdata.now)) }
+    ensures size { IfOk result (λ size. size ≡ length (octets_of_parts (wire (lowered found.now.rname.now)) found.now.rtype.code.value found.now.rclass.code.value found.now.ttl.value.value (D.canonical found.now.rdata.now))) }
     ensures short { IfOk result (λ size. size ≤ CanonicalRecord.MAX_SIZE) }
 {
     let start = octets.len();
-    let size = found.size();
+    let size = canonical_size(found);
     octets.resize(start + size, 0)?;
-    found.build_at(octets, start).unwrap();
+    build_canonical_record(found, octets, start).unwrap();
     Ok(size)
 }
 
@@ -90,29 +104,57 @@ impl CanonicalForms {
         }
     }
 
-    /// These forms, and after them that of a record. `AllocError` is out of memory; the forms are then given up.
-    pub fn with(self, found: &CanonicalRecord<'_>) -> Result<CanonicalForms, AllocError>
-        ensures { IfOk result (λ forms. forms ≡ self ++ sort_key found.now ∷ []) }
+    /// No forms, with memory for those of that many records whose data have that many octets. `AllocError` is out of memory.
+    pub(crate) fn with_capacity(
+        alloc: Global,
+        records: usize,
+        octets: usize,
+    ) -> Result<CanonicalForms, AllocError>
+        ensures { IfOk result (λ forms. forms ≡ []) }
+    {
+        let owners = records.saturating_mul(OWNER_ROOM);
+        Ok(CanonicalForms {
+            owner_keys: Vec::with_capacity(alloc, owners)?,
+            octets: Vec::with_capacity(alloc, owners.saturating_add(octets))?,
+            spans: Vec::with_capacity(alloc, records)?,
+        })
+    }
+
+    /// These forms, and after them that of the record that has these parts. `AllocError` is out of memory; the forms are then given up.
+    pub(crate) fn with_parts<N: CanonicalName>(
+        self,
+        found: &Record<&RevNameBuf, &RecordData<'_, N>>,
+    ) -> Result<CanonicalForms, AllocError>
+        requires typed { IsDataOf found.now.rdata.now found.now.rtype.code.value }
+        requires short { length (fields_octets (map (named_by N.name) (data_fields found.now.rdata.now))) < 2 ^ 16 }
+        ensures { IfOk result (λ forms. forms ≡ self ++ sort_key (record_seen (λ o. o.now) (λ d. map (named_by N.name) (data_fields d.now)) found.now) ∷ []) }
     {
         let CanonicalForms {
             mut owner_keys,
             mut octets,
             mut spans,
         } = self;
-        push_owner_key(&mut owner_keys, found.owner().as_revname())?;
+        push_owner_key(&mut owner_keys, found.rname.as_revname())?;
         let size = push_canonical(&mut octets, found)?;
         spans.push(FormSpan {
-            owner_size: found.owner().composed_size(),
+            owner_size: found.rname.composed_size(),
             size,
-            class: found.rclass().code.get(),
-            rtype: found.rtype().code.get(),
-            ttl: found.ttl().as_secs(),
+            class: found.rclass.code.get(),
+            rtype: found.rtype.code.get(),
+            ttl: found.ttl.as_secs(),
         })?;
         Ok(CanonicalForms {
             owner_keys,
             octets,
             spans,
         })
+    }
+
+    /// These forms, and after them that of a record. `AllocError` is out of memory; the forms are then given up.
+    pub fn with(self, found: &CanonicalRecord<'_>) -> Result<CanonicalForms, AllocError>
+        ensures { IfOk result (λ forms. forms ≡ self ++ sort_key found.now ∷ []) }
+    {
+        self.with_parts(&found.parts())
     }
 
     /// These forms, and after them those of the records. `AllocError` is out of memory; the forms are then given up.

@@ -7,8 +7,9 @@ ghost use Rattle.std.specs.Cmp.{partial_order_from_own_ties};
 ghost use Rattle.std.specs.Cmp.Rules.{comparing};
 ghost use Rattle.std.specs.Ordering.{on, as_partial_cmp, eq_by_cmp};
 ghost use Rattle.dns_wire.specs.Building.{Builds, LendsRest};
-ghost use Rattle.dns_record.specs.Fields.{canonical_octets, fields_octets};
-ghost use Rattle.dns_rdata.specs.Data.{type_number};
+ghost use Rattle.dns_record.specs.Fields.{fields_octets};
+ghost use Rattle.dns_record.specs.Seen.{record_seen};
+ghost use Rattle.dns_rdata.specs.Data.{IsDataOf};
 ghost use Rattle.dns_record.specs.Types.{opt_number};
 ghost use Rattle.dns_message.specs.Canonical.{canonical_wire, is_not_opt};
 ghost use Rattle.dns_message.specs.Messages.{RecordValue, records_among};
@@ -18,9 +19,9 @@ ghost use Rattle.dns_message.specs.Seen.{AreSound, HasSoundDataUnlessOpt, data_s
 
 mod parts;
 
+use crate::canonical_parts::{build_canonical_record, canonical_size};
 use crate::item::{MessageItem, ParsedMessageItem};
-use dns_name::{CanonicalName, Lowercased, NameBuf, RevNameBuf};
-use dns_num::{SizePrefixed, U16};
+use dns_name::{NameBuf, RevNameBuf};
 use dns_rdata::RecordData;
 use dns_record::{CanonicalRecordData, RType, Record};
 use dns_wire::{BuildBytes, TruncationError};
@@ -73,6 +74,22 @@ impl<'a> CanonicalRecord<'a> {
         } else {
             Some(CanonicalRecord { found })
         }
+    }
+
+    /// The record with references to its owner and to its data.
+    pub(crate) fn parts(&self) -> Record<&RevNameBuf, &RecordData<'a, NameBuf>>
+        ensures value { record_seen (λ o. o.now) (λ d. data_seen d.now) result ≡ self.now }
+        ensures typed { IsDataOf result.rdata.now result.rtype.code.value }
+        ensures short { length (fields_octets (data_seen result.rdata.now)) < 2 ^ 16 }
+    {
+        let found = &self.found;
+        Record::new(
+            &found.rname,
+            found.rtype,
+            found.rclass,
+            found.ttl,
+            &found.rdata,
+        )
     }
 
     /// Whether the records are alike: the same owner in lowercase, class, type and canonical data. Their TTLs may differ (RFC 2181
@@ -145,43 +162,13 @@ impl<'a> CanonicalRecord<'a> {
     }
 }
 
-/// The canonical octets of data, among other parts.
-#[derive(Drop)]
-struct CanonicalData<'r, 'a> {
-    rdata: &'r RecordData<'a, NameBuf>,
-    ghost short: { length (fields_octets (data_seen rdata.now)) < 2 ^ 16 },
-}
-
-impl BuildBytes for CanonicalData<'_, '_> {
-    ghost octets = { λ v. canonical_octets (type_number v.rdata.now) (data_seen v.rdata.now) };
-
-    fn build_at(&self, bytes: &mut [u8], start: usize) -> Result<usize, TruncationError> {
-        self.rdata.build_canonical_at(bytes, start)
-    }
-
-    #[tactic(auto, using(crate::proofs::Lengths::as_whole, crate::proofs::Lengths::as_canonical))]
-    fn built_bytes_size(&self) -> usize {
-        self.rdata.built_bytes_size()
-    }
-}
-
 /// The canonical octets: the owner in lowercase, type, class, TTL, the number of the data's octets, and these (RFC 4034
 /// section 6.2).
 impl BuildBytes for CanonicalRecord<'_> {
     ghost octets = { canonical_wire };
 
     fn build_at(&self, bytes: &mut [u8], start: usize) -> Result<usize, TruncationError> {
-        let owner = Lowercased {
-            name: &self.found.rname,
-        };
-        let data = SizePrefixed::<U16, _>::new(CanonicalData {
-            rdata: &self.found.rdata,
-        });
-        let parts = (
-            &self.found.rtype,
-            (&self.found.rclass, (&self.found.ttl, data)),
-        );
-        (owner, parts).build_at(bytes, start)
+        build_canonical_record(&self.parts(), bytes, start)
     }
 
     /// The number of octets, at most 65,800.
@@ -189,7 +176,7 @@ impl BuildBytes for CanonicalRecord<'_> {
         ensures size { result ≡ length (canonical_wire self.now) }
         ensures short { result ≤ CanonicalRecord.MAX_SIZE }
     {
-        self.found.rname.composed_size() + (10 + self.found.rdata.built_bytes_size())
+        canonical_size(&self.parts())
     }
 }
 

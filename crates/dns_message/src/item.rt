@@ -48,10 +48,7 @@ fn begins_edns(octets: &[u8]) -> bool
 
 /// Reads the record at a place, and gives the place where it ends.
 #[tactic(auto, using(crate::proofs::Sound::short_data))]
-pub(crate) fn read_record(
-    contents: &[u8],
-    start: usize,
-) -> Result<(ParsedRecord<'_>, usize), ParseError>
+fn read_record(contents: &[u8], start: usize) -> Result<(ParsedRecord<'_>, usize), ParseError>
     ensures exact { Gives (λ x. (record_value x.0, x.1)) result (record_in name_at (data_in name_at) contents.now start) }
     ensures within { IfOk result (λ x. (start ≤ x.1) × (x.1 ≤ length contents.now)) }
     ensures sound { IfOk result (λ x. AreSound x.0) }

@@ -1,19 +1,27 @@
 //! Reading the items of a message at their places, where the pointers of chains are followed by their final targets.
 
-ghost use Rattle.std.specs.Prelude.{◌≡◌, ◌≤◌, length, IfOk, MatchOption, Some, None};
+ghost use Rattle.std.specs.Prelude.{◌≡◌, ◌≤◌, length, take, IfOk, OnErr, MatchOption, Some, None};
 ghost use Rattle.dns_wire.specs.Octets.{Labels, Octets};
 ghost use Rattle.dns_wire.specs.Pointers.{name_at};
 ghost use Rattle.dns_wire.specs.Reading.{Gives};
 ghost use Rattle.dns_record.specs.Data.{data_in};
 ghost use Rattle.dns_record.specs.Questions.{QuestionOf, question_in};
 ghost use Rattle.dns_record.specs.Records.{record_in};
-ghost use Rattle.dns_message.specs.Seen.{AreSound, record_value};
+ghost use Rattle.dns_rdata.specs.Data.{IsDataOf};
+ghost use Rattle.dns_message.specs.Seen.{AreSound, data_seen, record_value};
+ghost use Rattle.dns_message.specs.UnparsedRecords.{DataAreAt, data_start, unparsed_in, unparsed_value, with_data};
 
-use crate::item::{ParsedRecord, end_of_question, read_record};
+use crate::item::{ParsedRecord, end_of_question};
 use dns_chain::{FinalTargets, has_chained_name, unchained_end};
-use dns_wire::ParseError;
+use dns_name::{NameBuf, RevNameBuf};
+use dns_rdata::RecordData;
+use dns_record::{ParseRecordData, RType, Record, UnparsedRecordData};
+use dns_wire::{ParseError, SplitMessageBytes};
 use std::alloc::{AllocError, Global};
 use std::marker::Model;
+
+/// A record whose data are as they are.
+pub(crate) type UnparsedRecord<'a> = Record<RevNameBuf, UnparsedRecordData<'a>>;
 
 /// The contents of a message, and the final targets of its pointers once a chain of pointers was met. It is seen as the contents.
 #[derive(Drop)]
@@ -25,12 +33,13 @@ pub(crate) struct ItemReader<'a> {
 impl<'a> Model for ItemReader<'a> {
     ghost use Rattle.std.specs.Prelude.{◌≡◌, IfSome};
     ghost use Rattle.dns_wire.specs.Octets.{Octets};
+    ghost use Rattle.dns_wire.specs.Reading.{AreOctets};
 
     ghost Value = { Octets };
 
     ghost view = { λ r. r.contents.now };
 
-    ghost invariant = { λ r. IfSome r.targets (λ targets. targets ≡ r.contents.now) };
+    ghost invariant = { λ r. AreOctets r.contents.now × IfSome r.targets (λ targets. targets ≡ r.contents.now) };
 }
 
 impl<'a> ItemReader<'a> {
@@ -68,17 +77,58 @@ impl<'a> ItemReader<'a> {
         Ok(())
     }
 
+    /// Reads the record at a place, its data as they are, and gives the place where it ends.
+    pub(crate) fn split_unparsed_record(
+        &self,
+        start: usize,
+    ) -> Result<(UnparsedRecord<'a>, usize), ParseError>
+        ensures exact { Gives (λ x. (unparsed_value x.0, x.1)) result (record_in name_at unparsed_in self.now start) }
+        ensures within { IfOk result (λ x. (start ≤ x.1) × (x.1 ≤ length self.now)) }
+        ensures placed { IfOk result (λ x. DataAreAt self.now x.0.rdata.octets.now x.1) }
+        ensures data { IfOk result (λ x. record_in name_at (data_in name_at) self.now start
+            ≡ with_data (unparsed_value x.0) x.1 (data_in name_at x.0.rtype.code.value (take x.1 self.now) (data_start x.1 x.0.rdata.octets.now))) }
+        ensures refused { OnErr result (record_in name_at (data_in name_at) self.now start ≡ None) }
+    {
+        match &self.targets {
+            Some(targets) => targets.split_unparsed_record(start),
+            None => Record::split_message_bytes(self.contents, start),
+        }
+    }
+
+    /// Reads the data of a record of this type, from the place up to `end`, where the record ends.
+    pub(crate) fn parse_record_data(
+        &self,
+        start: usize,
+        end: usize,
+        rtype: RType,
+    ) -> Result<RecordData<'a, NameBuf>, ParseError>
+        requires { end ≤ length self.now }
+        ensures exact { Gives data_seen result (data_in name_at rtype.code.value (take end self.now) start) }
+        ensures typed { IfOk result (λ v. IsDataOf v rtype.code.value) }
+    {
+        match &self.targets {
+            Some(targets) => targets.parse_record_data(start, end, rtype),
+            None => RecordData::parse_record_data(&self.contents[..end], start, rtype),
+        }
+    }
+
     /// Reads the record at a place, and gives the place where it ends.
-    #[tactic(auto, using(crate::proofs::Sound::short_data))]
     pub(crate) fn read_record(&self, start: usize) -> Result<(ParsedRecord<'a>, usize), ParseError>
         ensures exact { Gives (λ x. (record_value x.0, x.1)) result (record_in name_at (data_in name_at) self.now start) }
         ensures within { IfOk result (λ x. (start ≤ x.1) × (x.1 ≤ length self.now)) }
         ensures sound { IfOk result (λ x. AreSound x.0) }
     {
-        match &self.targets {
-            Some(targets) => targets.split_record(start),
-            None => read_record(self.contents, start),
-        }
+        let (unparsed, end) = self.split_unparsed_record(start)?;
+        let data_start = end - unparsed.rdata.octets().len();
+        let rdata = self.parse_record_data(data_start, end, unparsed.rtype)?;
+        let found = Record {
+            rname: unparsed.rname,
+            rtype: unparsed.rtype,
+            rclass: unparsed.rclass,
+            ttl: unparsed.ttl,
+            rdata,
+        };
+        Ok((found, end))
     }
 
     /// Where the question at a place ends; `None` exactly if no question is there.

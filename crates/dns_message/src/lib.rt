@@ -8,7 +8,9 @@ mod canon_error;
 mod canonical_form;
 mod canonical_forms;
 mod canonical_list;
+mod canonical_parts;
 mod canonical_record;
+mod form_reader;
 mod form_span;
 mod header;
 mod item;
@@ -34,6 +36,7 @@ pub use canonical_form::CanonicalForm;
 pub use canonical_forms::CanonicalForms;
 pub use canonical_list::{collapse, collapsed};
 pub use canonical_record::CanonicalRecord;
+pub use form_reader::read_forms;
 pub use header::{Header, HeaderFlags, SectionCounts};
 pub use item::{MessageItem, ParsedMessageItem};
 pub use laws::{

@@ -13,6 +13,9 @@ use dns_wire::{HEADER_SIZE, ParseBytes, ParseError};
 /// The most octets of a message: over TCP its size is sent as a number of 16 bits (RFC 1035 section 4.2.2).
 pub const MAX_MESSAGE_SIZE: usize = 65_535;
 
+/// The fewest octets of a record: a root, and ten octets after it (RFC 1035 section 3.2.1).
+const FEWEST_OCTETS: usize = 11;
+
 /// A message: its header, and the contents after it (RFC 1035 section 4.1). Whether its items can be read is not yet known.
 #[derive(Clone, Copy, Debug)]
 pub struct Message<'a> {
@@ -45,6 +48,13 @@ impl<'a> Message<'a> {
         ensures { result.now ≡ drop HEADER_SIZE self.now.slice.now }
     {
         &self.slice[HEADER_SIZE..]
+    }
+
+    /// No fewer than its records: those that the header counts, and no more than the contents can hold.
+    pub(crate) fn most_records(&self) -> usize {
+        let [_, answers, authorities, additional] = self.header().counts.as_array();
+        let counted = usize::from(answers) + usize::from(authorities) + usize::from(additional);
+        counted.min(self.contents().len() / FEWEST_OCTETS)
     }
 
     /// All the octets.

@@ -13,9 +13,6 @@ use crate::parser::MessageParser;
 use dns_wire::BuildBytes;
 use std::alloc::{AllocError, Global};
 
-/// The fewest octets of a record: a root, and ten octets after it (RFC 1035 section 3.2.1).
-const FEWEST_OCTETS: usize = 11;
-
 /// Reads the item of a section at a place, and puts it after the records, unless it is a question or of type OPT. It gives the place where
 /// the item ends; `None` exactly if none is there. `AllocError` is out of memory.
 fn add_item<'a>(
@@ -53,10 +50,7 @@ pub fn read_records(alloc: Global, message: &[u8]) -> Result<Vec<CanonicalRecord
     let Ok(mut parser) = MessageParser::new(message) else {
         return Err(CanonError::Short);
     };
-    let [_, answers, authorities, additional] = parser.header().counts.as_array();
-    let counted = usize::from(answers) + usize::from(authorities) + usize::from(additional);
-    let held = parser.message().contents().len() / FEWEST_OCTETS;
-    let mut records = Vec::with_capacity(alloc, counted.min(held))?;
+    let mut records = Vec::with_capacity(alloc, parser.message().most_records())?;
     let mut reader = ItemReader::new(parser.message().contents());
     while let Some(position) = parser.coming() {
         let start = parser.offset();

@@ -1,6 +1,5 @@
-use Rattle.std.proofs.Common.{◌≡◌, ◌++◌, ◌∷◌, [], List, ap, sym, take, ◌∙◌}
-use Rattle.dns_message.specs.Forms.{form_in, form_owner_key, forms_in}
-use Rattle.dns_message.specs.Order.{SortKey, octets_of_key}
+use Rattle.std.proofs.Common.{◌++◌, ◌∷◌, [], sym, ◌∙◌}
+use Rattle.dns_message.specs.Forms.{forms_in}
 use Rattle.dns_message.proofs.FormLemmas.{form_is, is_form_of_parts, next_form}
 use Rattle.dns_message.proofs.canonical_forms.split_forms.Goals as goal
 

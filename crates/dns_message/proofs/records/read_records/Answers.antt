@@ -1,4 +1,4 @@
-use Rattle.std.proofs.Common.{◌≡◌, ◌∙◌, ap, sym, drop, Some, None}
+use Rattle.std.proofs.Common.{◌∙◌, ap, sym, drop, Some, None}
 use Rattle.dns_wire.specs.Octets.{Octets}
 use Rattle.dns_message.specs.Parsing.{parsed_message, next_start}
 use Rattle.dns_message.proofs.Adding.{placed}
@@ -8,7 +8,7 @@ use Rattle.dns_message.proofs.records.read_records.Goals as goal
 pub loop-position-init : goal.loop-position-init
 loop-position-init c = record {
   read = read_none c.args.message.now c.in-Ok.parser c.in_ok-records.records.items c.in-Ok.ensures.message c.in-Ok.ensures.start c.in_ok-records.ensures.items;
-  reader = c.new-reader.ensures ∙ c.contents-2.ensures ∙ ap (λ (l : Octets). drop 12 l) (c.message-2.ensures ∙ c.in-Ok.ensures.message.1);
+  reader = c.new-reader.ensures ∙ c.contents.ensures ∙ ap (λ (l : Octets). drop 12 l) (c.message-2.ensures ∙ c.in-Ok.ensures.message.1);
 }
 
 pub returns-in_default-2-clause-refused : goal.returns-in_default-2-clause-refused

@@ -1,4 +1,4 @@
-use Rattle.std.proofs.Common.{◌+◌, ◌-◌, ◌≤◌, ap, arith, drop, length, length-drop, rules, take_all, ◌∙◌}
+use Rattle.std.proofs.Common.{◌+◌, ◌-◌, ap, arith, drop, length, length-drop, rules, take_all, ◌∙◌}
 use Rattle.dns_message.specs.Forms.{form_owner_key}
 use Rattle.dns_message.specs.Order.{octets_of_key}
 use Rattle.dns_message.proofs.FormLemmas.{data_follow}

@@ -1,9 +1,8 @@
-use Rattle.std.proofs.Common.{◌≡◌, ◌∙◌, ap, sym, map, List, rules}
+use Rattle.std.proofs.Common.{◌≡◌, ◌∙◌, ap, sym, map, rules}
 use Rattle.std.proofs.lemmas.Fn.{dedup_same}
 use Rattle.std.specs.Ordering.{eq_by_cmp}
 use Rattle.std.specs.List.{dedup}
-use Rattle.dns_message.specs.Messages.{RecordValue}
-use Rattle.dns_message.specs.Order.{SortKey, alike_cmp, octets_of_key, sort_key, collapsed}
+use Rattle.dns_message.specs.Order.{alike_cmp, octets_of_key, sort_key, collapsed}
 use Rattle.dns_message.proofs.FormLemmas.{sorted_forms}
 use Rattle.dns_message.proofs.Collapsing.{keys_collapsed}
 use Rattle.dns_message.proofs.SortedRecords.{octets_of_keys}

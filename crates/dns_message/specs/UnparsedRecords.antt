@@ -1,0 +1,38 @@
+-- Records whose data are as they are, to be read when their type is known.
+use Rattle.std.specs.Prelude.{◌≡◌, ◌≤◌, ℕ, ◌-◌, List, drop, length, take, Option, Some, None}
+use Rattle.dns_wire.specs.Octets.{Octets, Labels}
+use Rattle.dns_record.specs.Fields.{Field}
+use Rattle.dns_record.specs.Records.{RecordOf}
+use Rattle.dns_record.specs.Seen.{record_seen}
+use Rattle.dns_record.specs.Unparsed.{few_in}
+use Rattle.dns_record.specs.declared.record.Record.{Record}
+use Rattle.dns_record.specs.declared.unparsed.UnparsedRecordData.{UnparsedRecordData}
+use Rattle.dns_message.specs.Messages.{RecordValue}
+
+-- a record, with its owner's labels and its data's octets
+abbrev pub UnparsedValue : Type 0
+UnparsedValue = RecordOf Labels Octets
+
+-- the octets of data of whatever type
+abbrev pub unparsed_in : ℕ → Octets → ℕ → Option Octets
+unparsed_in rtype contents at = few_in contents at
+
+abbrev pub unparsed_value : Record Labels UnparsedRecordData → UnparsedValue
+unparsed_value = record_seen (λ labels. labels) (λ v. v.octets.now)
+
+-- the record with these fields as its data
+abbrev pub with_content : UnparsedValue → List Field → RecordValue
+with_content r content = record { owner = r.owner; rtype = r.rtype; class = r.class; ttl = r.ttl; content = content }
+
+-- the record and its end, if its data are read
+abbrev pub with_data : UnparsedValue → ℕ → Option (List Field) → Option (RecordValue × ℕ)
+with_data r end None = None
+with_data r end (Some content) = Some (with_content r content, end)
+
+-- where the data begin that end there
+abbrev pub data_start : ℕ → Octets → ℕ
+data_start end octets = end - length octets
+
+-- these octets of the contents are those before the end
+abbrev pub DataAreAt : Octets → Octets → ℕ → Type 0
+DataAreAt contents octets end = (length octets ≤ end) × (octets ≡ drop (data_start end octets) (take end contents))
