@@ -9,28 +9,28 @@ use Rattle.dns_wire.proofs.HexadecimalLemmas.{spelled_octets}
 use Rattle.dns_message.proofs.CanonicalListSameness.{message_outputs}
 use Rattle.dns_message.proofs.OneReading.{valid_one}
 use Rattle.std.specs.Ordering.{eq_by_cmp}
-use Rattle.dns_message.specs.Order.{record_cmp, sort_key, collapsed}
+use Rattle.dns_message.specs.Order.{SortKey, sort_key_cmp, sort_key, collapsed}
 use Rattle.std.specs.Prelude.{filter}
 use Rattle.dns_message.specs.Canonical.{is_not_opt}
 use Rattle.dns_canon.specs.Parts.{first_text, second_text}
-use Rattle.dns_canon.proofs.SortedReferences.{keys_tie, same_in_order}
+use Rattle.dns_canon.proofs.SortedForms.{forms_tie, same_in_order}
 use Rattle.dns_canon.specs.Run.{Prints, ReportsSameness}
 use Rattle.dns_canon.specs.declared.words.Command.TheVariants as command
 
 -- ---- what is reported
 
--- the word for the records of two messages, in order
-pub reported : (t u m n : List ℕ) (rs ss records others : List RecordValue) (printed : List ℕ) → Spells t m → Spells u n → Valid m rs → Valid n ss → map sort_key records ≡ map sort_key (collapsed (filter is_not_opt rs)) → map sort_key others ≡ map sort_key (collapsed (filter is_not_opt ss))
-    → (map sort_key records ≡ map sort_key others → printed ≡ codes "same" ++ 10 ∷ []) → (¬ (map sort_key records ≡ map sort_key others) → printed ≡ codes "different" ++ 10 ∷ [])
+-- the word for the canonical forms of two messages, in order
+pub reported : (t u m n : List ℕ) (rs ss : List RecordValue) (forms others : List SortKey) (printed : List ℕ) → Spells t m → Spells u n → Valid m rs → Valid n ss → forms ≡ map sort_key (collapsed (filter is_not_opt rs)) → others ≡ map sort_key (collapsed (filter is_not_opt ss))
+    → (forms ≡ others → printed ≡ codes "same" ++ 10 ∷ []) → (¬ (forms ≡ others) → printed ≡ codes "different" ++ 10 ∷ [])
     → ReportsSameness rs ss printed
-reported t u m n rs ss records others printed first second valid also sorted sorted-too same different = by (pointwise (eq_by_cmp record_cmp) records others) refl where
-  are : (map sort_key records ≡ map sort_key others) ↔ Same rs ss
-  are = same_in_order rs ss records others sorted sorted-too (message_outputs m n rs ss (spelled_octets (trim t) m first) (spelled_octets (trim u) n second) valid also)
+reported t u m n rs ss forms others printed first second valid also sorted sorted-too same different = by (pointwise (eq_by_cmp sort_key_cmp) forms others) refl where
+  are : (forms ≡ others) ↔ Same rs ss
+  are = same_in_order rs ss forms others sorted sorted-too (message_outputs m n rs ss (spelled_octets (trim t) m first) (spelled_octets (trim u) n second) valid also)
 
-  by : (test : Bool) → pointwise (eq_by_cmp record_cmp) records others ≡ test → ReportsSameness rs ss printed
-  by true e = let equal = (keys_tie records others).0 e in inl (are.0 equal, same equal)
+  by : (test : Bool) → pointwise (eq_by_cmp sort_key_cmp) forms others ≡ test → ReportsSameness rs ss printed
+  by true e = let equal = (forms_tie forms others).0 e in inl (are.0 equal, same equal)
   by false e =
-      let other : ¬ (map sort_key records ≡ map sort_key others) = λ equal. (let clash : false ≡ true = sym e ∙ (keys_tie records others).1 equal in absurd cc) in
+      let other : ¬ (forms ≡ others) = λ equal. (let clash : false ≡ true = sym e ∙ (forms_tie forms others).1 equal in absurd cc) in
       inr (λ s. other (are.1 s), different other)
 
 -- ---- in words

@@ -3,13 +3,11 @@
 ghost use Rattle.std.specs.Prelude.{◌≡◌, ◌≤◌, ◌⊎◌, ◌↔◌, List, map, length, IfOk, IfErr, OnErr, IsNone, IsTrue, slice_get};
 ghost use Rattle.std.specs.Option.{option_copied};
 ghost use Rattle.dns_message.specs.Refusals.{RefusedAs, RefusedOrMemory};
-ghost use Rattle.dns_message.specs.Canonical.{canonical_wire};
 ghost use Rattle.dns_message.specs.Messages.{RecordValue, Valid};
-ghost use Rattle.dns_message.specs.Order.{canonical_list};
+ghost use Rattle.dns_message.specs.Order.{canonical_list, octets_of_key};
 ghost use Rattle.dns_wire.specs.Octets.{Octets};
 
-use dns_message::{CanonError, CanonicalRecord, collapsed, read_records};
-use dns_wire::BuildBytes;
+use dns_message::{CanonError, CanonicalForm, read_forms};
 use std::alloc::{AllocError, Global};
 use std::marker::Model;
 
@@ -75,22 +73,13 @@ impl CanonList {
     }
 }
 
-/// The canonical octets of a record.
-fn octets_of_record(alloc: Global, found: &CanonicalRecord<'_>) -> Result<Vec<u8>, AllocError>
-    ensures { IfOk result (λ octets. octets.items ≡ canonical_wire found.now) }
+/// The canonical octets of the forms, in their order.
+fn all_octets(alloc: Global, forms: &[CanonicalForm<'_>]) -> Result<Vec<Vec<u8>>, AllocError>
+    ensures { IfOk result (λ lists. map (λ list. list.items) lists.items ≡ map octets_of_key forms.now) }
 {
-    let mut octets = vec![in alloc; 0; found.size()]?;
-    found.build_at(&mut octets, 0).unwrap();
-    Ok(octets)
-}
-
-/// The canonical octets of the records, in their order.
-fn all_octets(alloc: Global, records: &[&CanonicalRecord<'_>]) -> Result<Vec<Vec<u8>>, AllocError>
-    ensures { IfOk result (λ lists. map (λ list. list.items) lists.items ≡ map (λ r. canonical_wire r.now) records.now) }
-{
-    let mut lists = Vec::with_capacity(alloc, records.len())?;
-    for found in records {
-        lists.push(octets_of_record(alloc, found)?)?;
+    let mut lists = Vec::with_capacity(alloc, forms.len())?;
+    for form in forms {
+        lists.push(Vec::from_slice(alloc, form.octets())?)?;
     }
     Ok(lists)
 }
@@ -114,8 +103,8 @@ pub fn canonicalise(alloc: Global, message: &[u8]) -> Result<CanonList, CanonErr
     ensures exactly { (error : CanonError) → RefusedAs message.now error
         → (result ≡ Err error) ⊎ (result ≡ Err CanonError.Memory) }
 {
-    let records = read_records(alloc, message)?;
-    let order = collapsed(alloc, &records)?;
+    let forms = read_forms(alloc, message)?;
+    let order = forms.collapsed(alloc)?;
     let lists = all_octets(alloc, &order)?;
     Ok(CanonList { lists })
 }

@@ -3,7 +3,6 @@
 ghost use Rattle.std.specs.Prelude.{◌↔◌, true, false, ◌≡◌, ◌≢◌, ◌⊎◌, ◌+◌, ◌≤◌, [], ◌∷◌, ◌++◌, ℕ, codes, length, map, Some, None, IfOk, IfErr, IfSome, OnOk, IsOk, IsErr, MatchResult};
 ghost use Rattle.dns_wire.specs.Outside.{Rose, HasCause, BecomesFlag, WritesPrefix, Puts};
 ghost use Rattle.std.specs.Io.KnownBytes.{Appends};
-ghost use Rattle.dns_message.specs.Order.{sort_key};
 ghost use Rattle.dns_canon.specs.Run.{AllowedStatus, ended, Prints, WritesText, Empties};
 ghost use Rattle.dns_canon.specs.Statuses.{note_of};
 ghost use Rattle.dns_text.specs.Taken.{TakesAtMost};
@@ -11,25 +10,25 @@ ghost use Rattle.dns_canon.specs.ExpectedStatus.{reads, text_read, limit_of, exp
 ghost use Rattle.dns_canon.specs.Words.{command_of};
 ghost use Rattle.dns_canon.specs.declared.words.TheConstants.{MOST_RECORDS};
 
-use crate::lines::{LineBuffer, put_records};
+use crate::lines::{LineBuffer, put_forms};
 use crate::make::make_text;
-use crate::message::records_of;
+use crate::message::forms_in;
 use crate::parts::parted;
 use crate::status::Status;
 use crate::words::{Command, LIMIT_OF_TWO, Words};
-use dns_message::{CanonicalRecord, collapsed};
+use dns_message::CanonicalForm;
 use dns_text::{
     MESSAGE_TEXT_LIMIT, Notice, READ_CHUNK, octets_of, put_notice, put_text, read_text,
 };
 use dns_wire::{Failed, Sink, Source};
 use std::alloc::Global;
 
-/// The word for the records of two messages in order, and LF. Both lists are walked side by side.
-fn sameness(records: &[&CanonicalRecord<'_>], others: &[&CanonicalRecord<'_>]) -> &'static [u8]
-    ensures same { (map (λ r. sort_key r.now) records.now ≡ map (λ r. sort_key r.now) others.now) → result.now ≡ codes "same" ++ 10 ∷ [] }
-    ensures different { ¬ (map (λ r. sort_key r.now) records.now ≡ map (λ r. sort_key r.now) others.now) → result.now ≡ codes "different" ++ 10 ∷ [] }
+/// The word for the canonical forms of two messages in order, and LF. Both lists are walked side by side.
+fn sameness(forms: &[CanonicalForm<'_>], others: &[CanonicalForm<'_>]) -> &'static [u8]
+    ensures same { (forms.now ≡ others.now) → result.now ≡ codes "same" ++ 10 ∷ [] }
+    ensures different { ¬ (forms.now ≡ others.now) → result.now ≡ codes "different" ++ 10 ∷ [] }
 {
-    if records == others {
+    if forms == others {
         b"same\n"
     } else {
         b"different\n"
@@ -46,10 +45,10 @@ fn same_line(alloc: Global, text: &[u8]) -> Result<&'static [u8], Status>
     let (first, second) = parted(text);
     let first_message = octets_of(alloc, first)?;
     let second_message = octets_of(alloc, second)?;
-    let first_records = records_of(alloc, &first_message, 0)?;
-    let second_records = records_of(alloc, &second_message, 1)?;
-    let first_order = collapsed(alloc, &first_records)?;
-    let second_order = collapsed(alloc, &second_records)?;
+    let first_forms = forms_in(alloc, &first_message, 0)?;
+    let second_forms = forms_in(alloc, &second_message, 1)?;
+    let first_order = first_forms.collapsed(alloc)?;
+    let second_order = second_forms.collapsed(alloc)?;
     Ok(sameness(&first_order, &second_order))
 }
 
@@ -76,10 +75,10 @@ fn put_canon<K: Sink>(alloc: Global, text: &[u8], sink: &mut K) -> Result<(), St
     ensures flushed { OnOk result (BecomesFlag (K.is_flushed sink.old) (K.is_flushed sink.new) true) }
 {
     let message = octets_of(alloc, text)?;
-    let records = records_of(alloc, &message, 0)?;
-    let order = collapsed(alloc, &records)?;
+    let forms = forms_in(alloc, &message, 0)?;
+    let order = forms.collapsed(alloc)?;
     let mut lines = LineBuffer::new(alloc)?;
-    written(put_records(sink, &order, &mut lines))
+    written(put_forms(sink, &order, &mut lines))
 }
 
 /// Reads the text of the command, and writes what the command prints for it.

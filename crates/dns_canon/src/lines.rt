@@ -1,11 +1,11 @@
-//! The lines of canonical records, on their way to a sink.
+//! The lines of canonical forms, on their way to a sink.
 
 ghost use Rattle.std.specs.Prelude.{◌≡◌, ◌≤◌, ◌<◌, ◌+◌, ◌-◌, ◌*◌, [], ◌++◌, length, map, take, true, IfOk, OnOk};
 ghost use Rattle.dns_wire.specs.Hexadecimal.{line, lines};
 ghost use Rattle.dns_wire.specs.Outside.{HasCause, BecomesFlag, Puts};
-ghost use Rattle.dns_message.specs.Canonical.{canonical_wire};
+ghost use Rattle.dns_message.specs.Order.{octets_of_key};
 
-use dns_message::{CanonicalRecord, put_canonical};
+use dns_message::{CanonicalForm, CanonicalRecord};
 use dns_text::{put_all, put_digits, put_text};
 use dns_wire::{Failed, Sink};
 use std::alloc::{AllocError, Global};
@@ -30,8 +30,6 @@ fn write_line(text: &mut [u8], start: usize, octets: &[u8])
 /// Lines that are to be written, one after another. All its memory is taken when it is made.
 #[derive(Drop)]
 pub(crate) struct LineBuffer {
-    /// Room for the canonical octets of one record.
-    octets: Vec<u8>,
     /// Room for lines.
     text: Vec<u8>,
     /// How many octets of the text are held.
@@ -40,13 +38,13 @@ pub(crate) struct LineBuffer {
 
 impl Model for LineBuffer {
     ghost use Rattle.std.specs.Prelude.{◌≡◌, ◌≤◌, ℕ, List, length, take};
-    ghost use Rattle.dns_canon.specs.declared.lines.TheConstants.{MOST_LINE, MOST_OCTETS};
+    ghost use Rattle.dns_canon.specs.declared.lines.TheConstants.{MOST_LINE};
 
     ghost Value = { List ℕ };
 
     ghost view = { λ b. take b.filled b.text.items };
 
-    ghost invariant = { λ b. (length b.octets.items ≡ MOST_OCTETS) × (length b.text.items ≡ MOST_LINE) × (b.filled ≤ MOST_LINE) };
+    ghost invariant = { λ b. (length b.text.items ≡ MOST_LINE) × (b.filled ≤ MOST_LINE) };
 }
 
 impl LineBuffer {
@@ -54,13 +52,8 @@ impl LineBuffer {
     pub fn new(alloc: Global) -> Result<LineBuffer, AllocError>
         ensures { IfOk result (λ held. held ≡ []) }
     {
-        let octets = vec![in alloc; 0; MOST_OCTETS]?;
         let text = vec![in alloc; 0; MOST_LINE]?;
-        Ok(LineBuffer {
-            octets,
-            text,
-            filled: 0,
-        })
+        Ok(LineBuffer { text, filled: 0 })
     }
 
     /// How many octets there is still room for.
@@ -77,15 +70,13 @@ impl LineBuffer {
         &self.text[..self.filled]
     }
 
-    /// Holds the line of one more record.
-    fn hold(&mut self, found: &CanonicalRecord<'_>)
-        requires { length self.old + 2 * length (canonical_wire found.now) < MOST_LINE }
-        ensures { self.new ≡ self.old ++ line (canonical_wire found.now) }
+    /// Holds the line of some octets more.
+    fn hold(&mut self, octets: &[u8])
+        requires { length self.old + 2 * length octets.now < MOST_LINE }
+        ensures { self.new ≡ self.old ++ line octets.now }
     {
-        let size = found.size();
-        put_canonical(found, &mut self.octets);
-        write_line(&mut self.text, self.filled, &self.octets[..size]);
-        self.filled += 2 * size + 1;
+        write_line(&mut self.text, self.filled, octets);
+        self.filled += 2 * octets.len() + 1;
     }
 
     /// Holds no lines any more.
@@ -96,23 +87,24 @@ impl LineBuffer {
     }
 }
 
-/// Writes a line for each record, as many lines at once as the buffer holds, and sees to it that all of them arrive.
-pub(crate) fn put_records<K: Sink>(
+/// Writes a line for each form, as many lines at once as the buffer holds, and sees to it that all of them arrive.
+pub(crate) fn put_forms<K: Sink>(
     sink: &mut K,
-    records: &[&CanonicalRecord<'_>],
+    forms: &[CanonicalForm<'_>],
     buffer: &mut LineBuffer,
 ) -> Result<(), Failed>
     requires { buffer.old ≡ [] }
-    ensures puts { Puts (K.written sink.old) (K.written sink.new) (lines (map (λ r. canonical_wire r.now) records.now)) result }
+    ensures puts { Puts (K.written sink.old) (K.written sink.new) (lines (map octets_of_key forms.now)) result }
     ensures flushed { OnOk result (BecomesFlag (K.is_flushed sink.old) (K.is_flushed sink.new) true) }
     ensures cause { HasCause (K.faults sink.old) (K.faults sink.new) result }
 {
-    for found in records {
-        if buffer.room() <= 2 * found.size() {
+    for form in forms {
+        let octets = form.octets();
+        if buffer.room() <= 2 * octets.len() {
             put_all(sink, buffer.held())?;
             buffer.clear();
         }
-        buffer.hold(found);
+        buffer.hold(octets);
     }
     put_text(sink, buffer.held())
 }

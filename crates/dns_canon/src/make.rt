@@ -1,7 +1,7 @@
 //! The message of generated records.
 
 ghost use Rattle.std.specs.Prelude.{◌≡◌, ◌≤◌, ◌<◌, ◌+◌, ◌/◌, ◌%◌, ◌^◌, [], ◌∷◌, length, map, sum_by, IfOk, OnOk, IfErr};
-ghost use Rattle.dns_message.specs.Canonical.{canonical_wire};
+ghost use Rattle.dns_message.specs.Order.{octets_of_key};
 ghost use Rattle.dns_record.specs.CharStrs.{charstr_wire};
 ghost use Rattle.dns_rdata.specs.Data.{type_number};
 ghost use Rattle.dns_message.specs.Seen.{data_seen};
@@ -9,10 +9,10 @@ ghost use Rattle.dns_canon.specs.Generated.{generated_owner, generated_server, g
 ghost use Rattle.dns_canon.specs.Making.{HasMade};
 ghost use Rattle.dns_canon.specs.declared.words.TheConstants.{MOST_RECORDS};
 
-use crate::message::records_of;
+use crate::message::forms_in;
 use crate::status::Status;
 use dns_basic::{Mx, Ns};
-use dns_message::{CanonicalRecord, HeaderFlags, MAX_MESSAGE_SIZE, MessageBuilder, collapsed};
+use dns_message::{CanonicalForm, HeaderFlags, MAX_MESSAGE_SIZE, MessageBuilder};
 use dns_name::NameBuf;
 use dns_num::U16;
 use dns_plain::{A, Txt};
@@ -38,8 +38,8 @@ pub(crate) fn make_text(alloc: Global, count: u16) -> Result<Vec<u8>, Status>
     let mut builder = MessageBuilder::new(&mut buffer, &mut compressor, id, flags);
     push_records(alloc, &mut builder, count)?;
     let message = builder.message().as_bytes();
-    let records = records_of(alloc, message, 0)?;
-    let order = collapsed(alloc, &records)?;
+    let forms = forms_in(alloc, message, 0)?;
+    let order = forms.collapsed(alloc)?;
     let line = format!(in alloc;
         "records {} octets {} message {}\n",
         order.len(),
@@ -49,12 +49,12 @@ pub(crate) fn make_text(alloc: Global, count: u16) -> Result<Vec<u8>, Status>
     Ok(line.into_bytes())
 }
 
-/// The number of canonical octets of all the records.
-fn octets_in(records: &[&CanonicalRecord<'_>]) -> usize
-    requires { sum_by length (map (λ r. canonical_wire r.now) records.now) < 2 ^ 64 }
-    ensures { result ≡ sum_by length (map (λ r. canonical_wire r.now) records.now) }
+/// The number of octets of all the forms.
+fn octets_in(forms: &[CanonicalForm<'_>]) -> usize
+    requires { sum_by length (map octets_of_key forms.now) < 2 ^ 64 }
+    ensures { result ≡ sum_by length (map octets_of_key forms.now) }
 {
-    records.iter().map(|found| found.size()).sum()
+    forms.iter().map(|form| form.octets().len()).sum()
 }
 
 /// Adds the records of the numbers below `count` as answers.

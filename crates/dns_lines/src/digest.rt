@@ -4,8 +4,7 @@ ghost use Rattle.std.specs.Prelude.{◌≡◌, None, IfOk, IfErr};
 ghost use Rattle.dns_text.specs.Outcomes.{RefusesFor};
 ghost use Rattle.dns_lines.specs.Answers.{PrintsDigest, digest_refusal};
 
-use dns_message::CanonicalForms;
-use dns_normal::{Refusal, message_of, records_in};
+use dns_normal::{Refusal, forms_in, message_of};
 use dns_text::{PrintError, hex_line};
 use dns_zone::digest_of;
 use std::alloc::Global;
@@ -18,8 +17,7 @@ pub(crate) fn digest_line(alloc: Global, text: &[u8]) -> Result<Vec<u8>, PrintEr
     ensures refused { IfErr result (RefusesFor (digest_refusal text.now)) }
 {
     let message = message_of(alloc, text)?;
-    let records = records_in(alloc, &message)?;
-    let forms = CanonicalForms::new(alloc).with_all(&records)?;
+    let forms = forms_in(alloc, &message)?;
     let order = forms.collapsed(alloc)?;
     let printed = hex_line(alloc, &digest_of(&order))?;
     Ok(printed)

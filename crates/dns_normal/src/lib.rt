@@ -12,6 +12,6 @@ pub use laws::{
     equal_normal_forms, equal_statuses, normal_forms_are_read, normal_statuses_in_words,
     normalised_twice, words_of_normal,
 };
-pub use message::{message_of, normal_form, records_in};
+pub use message::{forms_in, message_of, normal_form};
 pub use refusal::Refusal;
 pub use status::NormalStatus;

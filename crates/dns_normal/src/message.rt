@@ -1,10 +1,12 @@
 //! The normal form of a message.
 
-ghost use Rattle.std.specs.Prelude.{◌≡◌, ◌≤◌, ◌+◌, ℕ, min, All, List, ◌++◌, ◌∷◌, [], Option, Some, None, IfOk, IfErr, filter, length, map};
+ghost use Rattle.std.specs.Prelude.{◌≡◌, ◌≤◌, ◌+◌, ℕ, min, List, ◌++◌, ◌∷◌, [], Option, Some, None, IfOk, IfErr, length, map};
 ghost use Rattle.dns_wire.specs.Hexadecimal.{spelled, trim};
 ghost use Rattle.dns_text.specs.Outcomes.{RefusesFor};
-ghost use Rattle.dns_message.specs.Canonical.{canonical_wire, lowercase_names, is_not_opt};
+ghost use Rattle.dns_message.specs.Canonical.{canonical_wire, lowercase_names};
+ghost use Rattle.dns_message.specs.FormsRead.{forms_of};
 ghost use Rattle.dns_message.specs.Messages.{RecordValue, Valid, message_reading};
+ghost use Rattle.dns_message.specs.Order.{octets_of_key};
 ghost use Rattle.dns_message.specs.WellFormed.{WellFormed};
 ghost use Rattle.dns_normal.specs.Answers.{AreRecordsOf, HasAnswers, HasAnswersIfFew, HaveRecords, IsRecordOf, octets_among};
 ghost use Rattle.dns_normal.specs.Normal.{answers_message, normal_form};
@@ -12,8 +14,8 @@ ghost use Rattle.dns_normal.specs.Texts.{form_refusal, message_refusal, reading_
 
 use crate::refusal::Refusal;
 use dns_message::{
-    CanonError, CanonicalRecord, HeaderFlags, MAX_MESSAGE_SIZE, MessageBuildError, MessageBuilder,
-    collapsed, put_canonical, read_records,
+    CanonError, CanonicalForm, CanonicalForms, HeaderFlags, MAX_MESSAGE_SIZE, MessageBuildError,
+    MessageBuilder, read_forms,
 };
 use dns_name::Name;
 use dns_num::U16;
@@ -23,60 +25,43 @@ use dns_text::{HexError, PrintError, octets_of, zeros};
 use dns_wire::{HEADER_SIZE, NameCompressor, SplitBytes};
 use std::alloc::Global;
 
-/// Adds a record as an answer, lowercased: it is read from its canonical octets, for which there is room.
+/// Adds a record as an answer, lowercased: it is read from its canonical form.
 fn push_record(
     builder: &mut MessageBuilder<'_>,
-    found: &CanonicalRecord<'_>,
-    octets: &mut [u8],
+    form: &CanonicalForm<'_>,
 ) -> Result<(), MessageBuildError>
-    requires record { IsRecordOf (canonical_wire found.now) }
-    requires room { length (canonical_wire found.now) ≤ length octets.old }
-    ensures { (most : ℕ) (rs : List RecordValue) (r : RecordValue) → HasAnswers most rs builder.old → WellFormed r → canonical_wire r ≡ canonical_wire found.now
+    requires { IsRecordOf (octets_of_key form.now) }
+    ensures { (most : ℕ) (rs : List RecordValue) (r : RecordValue) → HasAnswers most rs builder.old → WellFormed r → canonical_wire r ≡ octets_of_key form.now
         → HasAnswersIfFew most (rs ++ lowercase_names r ∷ []) builder.new result }
 {
-    let size = found.size();
-    put_canonical(found, octets);
     let (lowercased, _) = Record::<Name<'_>, RecordData<'_, Name<'_>>>::split_bytes(
-        &octets[..size],
+        form.octets(),
     ).unwrap();
     builder.push_answer(&lowercased)
 }
 
-/// Adds the records as answers, lowercased, to a message that has none. There is room for the canonical octets of each.
+/// Adds the records as answers, lowercased, to a message that has none.
 fn push_records(
     builder: &mut MessageBuilder<'_>,
-    records: &[&CanonicalRecord<'_>],
-    octets: &mut [u8],
+    forms: &[CanonicalForm<'_>],
 ) -> Result<(), MessageBuildError>
-    requires records { HaveRecords (map (λ r. canonical_wire r.now) records.now) }
-    requires room { All (λ r. length (canonical_wire r.now) ≤ length octets.old) records.now }
-    ensures { (most : ℕ) (rs : List RecordValue) → HasAnswers most [] builder.old → AreRecordsOf (map (λ r. canonical_wire r.now) records.now) rs
+    requires { HaveRecords (map octets_of_key forms.now) }
+    ensures { (most : ℕ) (rs : List RecordValue) → HasAnswers most [] builder.old → AreRecordsOf (map octets_of_key forms.now) rs
         → HasAnswersIfFew most (map lowercase_names rs) builder.new result }
 {
-    for found in records {
-        push_record(builder, found, octets)?;
+    for form in forms {
+        push_record(builder, form)?;
     }
     Ok(())
 }
 
-/// The most canonical octets that one of the records has.
-fn largest_size(records: &[&CanonicalRecord<'_>]) -> usize
-    ensures { All (λ r. length (canonical_wire r.now) ≤ result) records.now }
-{
-    let mut most: usize = 0;
-    for found in records {
-        most = most.max(found.size());
-    }
-    most
-}
-
 /// The octets of a header and the canonical octets of the records, which are enough for the message; but no more than a message may have.
-fn room_for(records: &[&CanonicalRecord<'_>]) -> usize
-    ensures { result ≡ min MAX_MESSAGE_SIZE (HEADER_SIZE + octets_among (map (λ r. canonical_wire r.now) records.now)) }
+fn room_for(forms: &[CanonicalForm<'_>]) -> usize
+    ensures { result ≡ min MAX_MESSAGE_SIZE (HEADER_SIZE + octets_among (map octets_of_key forms.now)) }
 {
     let mut room = HEADER_SIZE;
-    for found in records {
-        room = (room + found.size()).min(MAX_MESSAGE_SIZE);
+    for form in forms {
+        room = (room + form.octets().len()).min(MAX_MESSAGE_SIZE);
     }
     room
 }
@@ -84,22 +69,21 @@ fn room_for(records: &[&CanonicalRecord<'_>]) -> usize
 /// The message that has these records as answers, lowercased, with names that are written once.
 fn answers_message(
     alloc: Global,
-    records: &[&CanonicalRecord<'_>],
+    forms: &[CanonicalForm<'_>],
 ) -> Result<Vec<u8>, PrintError<Refusal>>
-    requires { HaveRecords (map (λ r. canonical_wire r.now) records.now) }
-    ensures built { (rs : List RecordValue) → AreRecordsOf (map (λ r. canonical_wire r.now) records.now) rs
+    requires { HaveRecords (map octets_of_key forms.now) }
+    ensures built { (rs : List RecordValue) → AreRecordsOf (map octets_of_key forms.now) rs
         → IfOk result (λ octets. octets.items ≡ answers_message (map lowercase_names rs)) }
-    ensures accepted { (rs : List RecordValue) → AreRecordsOf (map (λ r. canonical_wire r.now) records.now) rs
+    ensures accepted { (rs : List RecordValue) → AreRecordsOf (map octets_of_key forms.now) rs
         → IfOk result (λ _. length (answers_message (map lowercase_names rs)) ≤ MAX_MESSAGE_SIZE) }
-    ensures refused { (rs : List RecordValue) → AreRecordsOf (map (λ r. canonical_wire r.now) records.now) rs
+    ensures refused { (rs : List RecordValue) → AreRecordsOf (map octets_of_key forms.now) rs
         → IfErr result (RefusesFor (size_refusal (answers_message (map lowercase_names rs)))) }
 {
-    let mut octets = zeros(alloc, largest_size(records))?;
-    let mut buffer = zeros(alloc, room_for(records))?;
+    let mut buffer = zeros(alloc, room_for(forms))?;
     let mut compressor = NameCompressor::new();
     let (id, flags) = (U16::new(0), HeaderFlags::from_bits(0));
     let mut builder = MessageBuilder::new(&mut buffer, &mut compressor, id, flags);
-    if push_records(&mut builder, records, &mut octets).is_err() {
+    if push_records(&mut builder, forms).is_err() {
         return Err(PrintError::Refused(Refusal::TooLarge));
     }
     let built = Vec::from_slice(alloc, builder.message().as_bytes())?;
@@ -118,16 +102,13 @@ pub fn message_of(alloc: Global, text: &[u8]) -> Result<Vec<u8>, PrintError<Refu
     }
 }
 
-/// The records of a message other than OPT. `Refusal::Short` and `Refusal::Item` are those of a message that is not valid.
-pub fn records_in(
-    alloc: Global,
-    message: &[u8],
-) -> Result<Vec<CanonicalRecord<'_>>, PrintError<Refusal>>
-    ensures read { IfOk result (λ records. (rs : List RecordValue) × Valid message.now rs × (records.items ≡ filter is_not_opt rs)) }
+/// The canonical forms of a message's records other than OPT. `Refusal::Short` and `Refusal::Item` are those of a message that is not valid.
+pub fn forms_in(alloc: Global, message: &[u8]) -> Result<CanonicalForms, PrintError<Refusal>>
+    ensures read { IfOk result (λ forms. (rs : List RecordValue) × Valid message.now rs × (forms ≡ forms_of rs)) }
     ensures refused { (refusal : List RecordValue → Option Refusal) → IfErr result (RefusesFor (reading_refusal refusal (message_reading message.now))) }
 {
-    match read_records(alloc, message) {
-        Ok(records) => Ok(records),
+    match read_forms(alloc, message) {
+        Ok(forms) => Ok(forms),
         Err(CanonError::Short) => Err(PrintError::Refused(Refusal::Short)),
         Err(CanonError::Item { section, index }) => {
             Err(PrintError::Refused(Refusal::Item { section, index }))
@@ -144,7 +125,7 @@ pub fn normal_form(alloc: Global, message: &[u8]) -> Result<Vec<u8>, PrintError<
     ensures accepted { IfOk result (λ _. reading_refusal form_refusal (message_reading message.now) ≡ None) }
     ensures refused { IfErr result (RefusesFor (reading_refusal form_refusal (message_reading message.now))) }
 {
-    let records = records_in(alloc, message)?;
-    let order = collapsed(alloc, &records)?;
+    let forms = forms_in(alloc, message)?;
+    let order = forms.collapsed(alloc)?;
     answers_message(alloc, &order)
 }

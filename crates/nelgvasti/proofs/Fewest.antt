@@ -1,5 +1,5 @@
 -- A message has few records.
-use Rattle.std.proofs.Common.{Bor, ◌≡◌, ◌+◌, ◌*◌, ◌≤◌, ℕ, zero, suc, Bool, true, false, cond, List, [], ◌∷◌, ◌++◌, length, map, filter, drop, refl, ap, arith}
+use Rattle.std.proofs.Common.{◌≡◌, ◌+◌, ◌*◌, ◌≤◌, ℕ, zero, suc, Bool, true, false, cond, List, [], ◌∷◌, ◌++◌, length, map, filter, drop, refl, ap, arith}
 use Rattle.std.specs.Prelude.{slice_index}
 use Rattle.std.specs.List.{dedup, dedup_from}
 use Rattle.std.proofs.lemmas.List.{length-append, length-map}
@@ -7,7 +7,7 @@ use Rattle.dns_wire.specs.Reading.{AreOctets}
 use Rattle.dns_message.specs.Canonical.{canonical_wire, is_not_opt}
 use Rattle.dns_message.specs.Messages.{Item, RecordValue, Valid, counts_of, records_among, slots, slots_from}
 use Rattle.dns_message.specs.Messages.Item.{QuestionItem, RecordItem}
-use Rattle.dns_message.specs.Order.{are_alike, canonical_list, collapsed, in_order, inserted, precedes}
+use Rattle.dns_message.specs.Order.{SortKey, are_alike, canonical_list, collapsed, in_order, inserted, octets_of_key, precedes}
 use Rattle.dns_message.specs.Worded.{ItemsAt}
 use Rattle.dns_message.proofs.Phrased.{read_whole}
 
@@ -97,13 +97,13 @@ filter_short {X = X} p (x ∷ xs) = by (p x) (filter_short p xs) where
   by false more = omega (arith, more)
 
 -- so has its canonical list
-pub few_listed : (m : List ℕ) (rs : List RecordValue) (held : List (Bor RecordValue)) → AreOctets m → Valid m rs → map (λ r. canonical_wire r.now) held ≡ canonical_list rs → length held ≤ 262140
+pub few_listed : (m : List ℕ) (rs : List RecordValue) (held : List SortKey) → AreOctets m → Valid m rs → map octets_of_key held ≡ canonical_list rs → length held ≤ 262140
 few_listed m rs held are valid list-is =
     let not_opt = filter is_not_opt rs in
     omega (
       arith,
       ap length list-is,
-      length-map held (λ (r : Bor RecordValue). canonical_wire r.now),
+      length-map held octets_of_key,
       length-map (collapsed not_opt) canonical_wire,
       dedup_short are_alike (in_order not_opt),
       in_order_long not_opt,

@@ -12,9 +12,9 @@ ghost use Rattle.nelgvasti.specs.Refused.{message_place};
 ghost use Rattle.nelgvasti.specs.Calls.{AnswersOrMemory, SaysWhether, list_octets, reading_answer};
 
 use crate::answers::{DONE, ITEM, MEMORY, SHORT, TOO_SMALL};
-use crate::ordered::{are_alike, octets_in, put_records};
+use crate::ordered::{are_alike, octets_in, put_forms};
 use crate::place::Place;
-use dns_message::{collapsed, read_records};
+use dns_message::read_forms;
 use std::alloc::Global;
 
 /// How many octets and how many records the canonical list of a message has (RFC 4034 section 6).
@@ -37,11 +37,11 @@ pub extern "C" fn nelgvasti_canonical_size(
     ensures place { result ≢ SHORT → result ≢ ITEM → place.new ≡ place.old }
     ensures expected { AnswersOrMemory (reading_answer (λ rs. DONE) (message_reading message.now)) result }
 {
-    let read = match read_records(alloc, message) {
-        Ok(read) => read,
+    let forms = match read_forms(alloc, message) {
+        Ok(forms) => forms,
         Err(error) => return place.refuse(0, error),
     };
-    let Ok(order) = collapsed(alloc, &read) else {
+    let Ok(order) = forms.collapsed(alloc) else {
         return MEMORY;
     };
     *octets = octets_in(&order);
@@ -73,11 +73,11 @@ pub extern "C" fn nelgvasti_canonical(
     ensures place { result ≢ SHORT → result ≢ ITEM → place.new ≡ place.old }
     ensures expected { AnswersOrMemory (reading_answer (λ rs. room_answer (list_octets rs) (length out.old)) (message_reading message.now)) result }
 {
-    let read = match read_records(alloc, message) {
-        Ok(read) => read,
+    let forms = match read_forms(alloc, message) {
+        Ok(forms) => forms,
         Err(error) => return place.refuse(0, error),
     };
-    let Ok(order) = collapsed(alloc, &read) else {
+    let Ok(order) = forms.collapsed(alloc) else {
         return MEMORY;
     };
     let length = octets_in(&order);
@@ -85,7 +85,7 @@ pub extern "C" fn nelgvasti_canonical(
     if out.len() < length {
         return TOO_SMALL;
     }
-    put_records(&order, out);
+    put_forms(&order, out);
     DONE
 }
 
@@ -109,18 +109,18 @@ pub extern "C" fn nelgvasti_same(
     ensures place { result ≢ SHORT → result ≢ ITEM → place.new ≡ place.old }
     ensures expected { AnswersOrMemory (reading_answer (λ rs. reading_answer (λ ss. DONE) (message_reading second.now)) (message_reading first.now)) result }
 {
-    let first_read = match read_records(alloc, first) {
-        Ok(read) => read,
+    let first_forms = match read_forms(alloc, first) {
+        Ok(forms) => forms,
         Err(error) => return place.refuse(0, error),
     };
-    let second_read = match read_records(alloc, second) {
-        Ok(read) => read,
+    let second_forms = match read_forms(alloc, second) {
+        Ok(forms) => forms,
         Err(error) => return place.refuse(1, error),
     };
-    let Ok(first_order) = collapsed(alloc, &first_read) else {
+    let Ok(first_order) = first_forms.collapsed(alloc) else {
         return MEMORY;
     };
-    let Ok(second_order) = collapsed(alloc, &second_read) else {
+    let Ok(second_order) = second_forms.collapsed(alloc) else {
         return MEMORY;
     };
     *same = u32::from(are_alike(&first_order, &second_order));

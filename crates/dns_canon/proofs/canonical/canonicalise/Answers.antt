@@ -1,24 +1,24 @@
 use Rattle.std.proofs.Common.{◌∙◌, ap, inl, inr, Err}
 use Rattle.std.proofs.lemmas.Result.{err_from_is_err_and}
 use Rattle.dns_message.proofs.Exclusive.{memory_alone, that_or_memory, refused_not_valid}
-use Rattle.dns_canon.proofs.SortedReferences.{octets_lent}
+use Rattle.dns_canon.proofs.SortedForms.{octets_listed}
 use Rattle.dns_canon.proofs.canonical.canonicalise.Goals as goal
 
-pub returns-in_err-records-clause-valid : goal.returns-in_err-records-clause-valid
-returns-in_err-records-clause-valid c =
+pub returns-in_err-forms-clause-valid : goal.returns-in_err-forms-clause-valid
+returns-in_err-forms-clause-valid c =
     let p = err_from_is_err_and c.from_residual.result c.from_residual.ensures.1 in
-    rw (p.1, p.2) (λ rs valid. ap Err (memory_alone c.args.message.now rs _ valid c.in_err-records.ensures.refused))
+    rw (p.1, p.2) (λ rs valid. ap Err (memory_alone c.args.message.now rs _ valid c.in_err-forms.ensures.refused))
 
-pub returns-in_err-records-clause-exactly : goal.returns-in_err-records-clause-exactly
-returns-in_err-records-clause-exactly c =
+pub returns-in_err-forms-clause-exactly : goal.returns-in_err-forms-clause-exactly
+returns-in_err-forms-clause-exactly c =
     let p = err_from_is_err_and c.from_residual.result c.from_residual.ensures.1 in
-    rw (p.1, p.2) (λ error refused. elim (that_or_memory c.args.message.now _ error c.in_err-records.ensures.refused refused) [ inl same ↦ inl (ap Err same) | inr memory ↦ inr (ap Err memory) ])
+    rw (p.1, p.2) (λ error refused. elim (that_or_memory c.args.message.now _ error c.in_err-forms.ensures.refused refused) [ inl same ↦ inl (ap Err same) | inr memory ↦ inr (ap Err memory) ])
 
 pub returns-clause-ok : goal.returns-clause-ok
 returns-clause-ok c =
-    let read = c.in_ok-records.ensures.read in
-    let octets = octets_lent read.0 _ c.deref.result.now _ c.deref-2.result.now read.2 c.deref.ensures.value c.in_ok-order.ensures.octets c.deref-2.ensures.value in
+    let read = c.in_ok-forms.ensures.read in
+    let octets = octets_listed read.0 _ _ c.deref.result.now read.2 c.in_ok-order.ensures.octets c.deref.ensures.value in
     (read.0, read.1, c.in_ok-lists.ensures ∙ octets)
 
 pub returns-clause-exactly : goal.returns-clause-exactly
-returns-clause-exactly c = λ error refused. absurd (refused_not_valid c.args.message.now _ error c.in_ok-records.ensures.read.1 refused)
+returns-clause-exactly c = λ error refused. absurd (refused_not_valid c.args.message.now _ error c.in_ok-forms.ensures.read.1 refused)

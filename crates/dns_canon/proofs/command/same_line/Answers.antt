@@ -1,5 +1,5 @@
-use Rattle.std.proofs.Common.{refl, sym, map, ◌∙◌}
-use Rattle.dns_canon.proofs.SortedReferences.{keys_lent, keys_seen}
+use Rattle.std.proofs.Common.{refl}
+use Rattle.dns_canon.proofs.SortedForms.{keys_listed}
 use Rattle.std.proofs.lemmas.Result.{err_from_is_err_and}
 use Rattle.dns_canon.specs.Parts.{first_text, second_text}
 use Rattle.dns_canon.specs.declared.status.Status.TheVariants.{Done}
@@ -7,19 +7,19 @@ use Rattle.dns_canon.proofs.Pairs.{both_spelled, called, first_refused, second_r
 use Rattle.dns_canon.proofs.ReportedSameness.{reported}
 use Rattle.dns_canon.proofs.command.same_line.Goals as goal
 
-pub returns-in_err-first_records-clause-err : goal.returns-in_err-first_records-clause-err
-returns-in_err-first_records-clause-err c =
-    let p = err_from_is_err_and c.from_residual-in_err-first_records.result c.from_residual-in_err-first_records.ensures.1 in
-    let refused = c.in_err-first_records.ensures.err in
+pub returns-in_err-first_forms-clause-err : goal.returns-in_err-first_forms-clause-err
+returns-in_err-first_forms-clause-err c =
+    let p = err_from_is_err_and c.from_residual-in_err-first_forms.result c.from_residual-in_err-first_forms.ensures.1 in
+    let refused = c.in_err-first_forms.ensures.err in
     let both = both_spelled c.args.text.now _ _ c.deref.result.now c.in_ok-second_message.second_message.items _ _ c.requires.within c.parted.ensures.first c.parted.ensures.second
     c.deref.ensures.value refl c.in_ok-first_message.ensures.ok c.in_ok-second_message.ensures.ok in
     rw (p.1, p.2) (first_refused c.args.text.now _ _ refused.0 _ both refused.1 refused.2)
 
-pub returns-in_err-second_records-clause-err : goal.returns-in_err-second_records-clause-err
-returns-in_err-second_records-clause-err c =
-    let p = err_from_is_err_and c.from_residual-in_err-second_records.result c.from_residual-in_err-second_records.ensures.1 in
-    let refused = c.in_err-second_records.ensures.err in
-    let valid = c.in_ok-first_records.ensures.ok in
+pub returns-in_err-second_forms-clause-err : goal.returns-in_err-second_forms-clause-err
+returns-in_err-second_forms-clause-err c =
+    let p = err_from_is_err_and c.from_residual-in_err-second_forms.result c.from_residual-in_err-second_forms.ensures.1 in
+    let refused = c.in_err-second_forms.ensures.err in
+    let valid = c.in_ok-first_forms.ensures.ok in
     let both = both_spelled c.args.text.now _ _ c.deref.result.now c.deref-2.result.now _ _ c.requires.within c.parted.ensures.first c.parted.ensures.second
     c.deref.ensures.value c.deref-2.ensures.value c.in_ok-first_message.ensures.ok c.in_ok-second_message.ensures.ok in
     rw (p.1, p.2) (second_refused c.args.text.now _ _ valid.0 refused.0 _ both valid.1 refused.1 refused.2)
@@ -31,12 +31,12 @@ returns-clause-ok c =
     let n = c.deref-2.result.now in
     let both = both_spelled t _ _ m n _ _ c.requires.within c.parted.ensures.first c.parted.ensures.second
     c.deref.ensures.value c.deref-2.ensures.value c.in_ok-first_message.ensures.ok c.in_ok-second_message.ensures.ok in
-    let valid = c.in_ok-first_records.ensures.ok in
-    let also = c.in_ok-second_records.ensures.ok in
-    let first = c.deref-5.result.now in
-    let second = c.deref-6.result.now in
-    let sorted = keys_lent valid.0 _ c.deref-3.result.now _ first valid.2 c.deref-3.ensures.value c.in_ok-first_order.ensures.keys c.deref-5.ensures.value in
-    let sorted-too = keys_lent also.0 _ c.deref-4.result.now _ second also.2 c.deref-4.ensures.value c.in_ok-second_order.ensures.keys c.deref-6.ensures.value in
-    let word = reported (first_text t) (second_text t) m n valid.0 also.0 (map (λ r. r.now) first) (map (λ r. r.now) second) c.sameness.result.now both.1 both.2 valid.1 also.1 sorted sorted-too
-    (λ e. c.sameness.ensures.same (sym (keys_seen first) ∙ e ∙ keys_seen second)) (λ other. c.sameness.ensures.different (λ e. other (keys_seen first ∙ e ∙ sym (keys_seen second)))) in
+    let valid = c.in_ok-first_forms.ensures.ok in
+    let also = c.in_ok-second_forms.ensures.ok in
+    let first = c.deref-3.result.now in
+    let second = c.deref-4.result.now in
+    let sorted = keys_listed valid.0 _ _ first valid.2 c.in_ok-first_order.ensures.keys c.deref-3.ensures.value in
+    let sorted-too = keys_listed also.0 _ _ second also.2 c.in_ok-second_order.ensures.keys c.deref-4.ensures.value in
+    let word = reported (first_text t) (second_text t) m n valid.0 also.0 first second c.sameness.result.now both.1 both.2 valid.1 also.1 sorted sorted-too
+    c.sameness.ensures.same c.sameness.ensures.different in
     (called t Done (m, n, valid.0, also.0, both, valid.1, also.1), (m, n, valid.0, also.0, both.1, both.2, valid.1, also.1, word))

@@ -1,19 +1,16 @@
-use Rattle.std.proofs.Common.{ap, arith, map, subst, sym, ◌∙◌, ◌≡◌, ◌≤◌, length}
-use Rattle.std.specs.List.{All}
-use Rattle.dns_message.specs.Canonical.{canonical_wire, lowercase_names}
+use Rattle.std.proofs.Common.{ap, arith, map, sym, ◌∙◌}
+use Rattle.dns_message.specs.Canonical.{lowercase_names}
+use Rattle.dns_message.specs.Order.{octets_of_key}
 use Rattle.dns_message.specs.Headers.{header_bits}
 use Rattle.dns_normal.specs.Normal.{answers_message}
 use Rattle.dns_normal.proofs.AnswersLemmas.{if_accepted, if_refused, message_is, message_short, no_answers, room_enough, room_least, room_limit}
 use Rattle.dns_normal.proofs.NormalOutcomes.{refused_size}
 use Rattle.dns_normal.proofs.message.answers_message.Goals as goal
 
-pub push_records-requires-clause-room : goal.push_records-requires-clause-room
-push_records-requires-clause-room c = λ k d within. omega (arith, c.largest_size.ensures k d within, c.deref_mut-2.ensures.len, c.in_ok-octets.ensures.size)
-
 pub returns-then-is_err-clause-refused : goal.returns-then-is_err-clause-refused
 returns-then-is_err-clause-refused c = λ rs are.
     let most = c.room_for.result in
-    let lists = map (λ r. canonical_wire r.now) c.args.records.now in
+    let lists = map octets_of_key c.args.forms.now in
     let lowercased = map lowercase_names rs in
     let none = no_answers most c.new-builder.result c.new-id.result.value (header_bits c.from_bits-flags.result) (room_least most lists c.room_for.ensures) (room_limit most lists c.room_for.ensures) c.new-id.ensures c.from_bits-flags.ensures
     (ap (λ d. d.header) c.new-builder.ensures) (ap (λ d. d.contents) c.new-builder.ensures) (ap (λ d. d.size) c.new-builder.ensures ∙ c.deref_mut.ensures.len ∙ c.in_ok-buffer.ensures.size) (ap (λ d. d.places) c.new-builder.ensures) in
@@ -23,7 +20,7 @@ returns-then-is_err-clause-refused c = λ rs are.
 pub returns-clause-built : goal.returns-clause-built
 returns-clause-built c = λ rs are.
     let most = c.room_for.result in
-    let lists = map (λ r. canonical_wire r.now) c.args.records.now in
+    let lists = map octets_of_key c.args.forms.now in
     let lowercased = map lowercase_names rs in
     let none = no_answers most c.new-builder.result c.new-id.result.value (header_bits c.from_bits-flags.result) (room_least most lists c.room_for.ensures) (room_limit most lists c.room_for.ensures) c.new-id.ensures c.from_bits-flags.ensures
     (ap (λ d. d.header) c.new-builder.ensures) (ap (λ d. d.contents) c.new-builder.ensures) (ap (λ d. d.size) c.new-builder.ensures ∙ c.deref_mut.ensures.len ∙ c.in_ok-buffer.ensures.size) (ap (λ d. d.places) c.new-builder.ensures) in
@@ -33,7 +30,7 @@ returns-clause-built c = λ rs are.
 pub returns-clause-accepted : goal.returns-clause-accepted
 returns-clause-accepted c = λ rs are.
     let most = c.room_for.result in
-    let lists = map (λ r. canonical_wire r.now) c.args.records.now in
+    let lists = map octets_of_key c.args.forms.now in
     let lowercased = map lowercase_names rs in
     let none = no_answers most c.new-builder.result c.new-id.result.value (header_bits c.from_bits-flags.result) (room_least most lists c.room_for.ensures) (room_limit most lists c.room_for.ensures) c.new-id.ensures c.from_bits-flags.ensures
     (ap (λ d. d.header) c.new-builder.ensures) (ap (λ d. d.contents) c.new-builder.ensures) (ap (λ d. d.size) c.new-builder.ensures ∙ c.deref_mut.ensures.len ∙ c.in_ok-buffer.ensures.size) (ap (λ d. d.places) c.new-builder.ensures) in

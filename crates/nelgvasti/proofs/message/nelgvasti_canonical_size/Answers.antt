@@ -1,5 +1,5 @@
 use Rattle.std.proofs.Common.{arith}
-use Rattle.dns_canon.proofs.SortedReferences.{octets_lent}
+use Rattle.dns_canon.proofs.SortedForms.{octets_listed}
 use Rattle.nelgvasti.specs.declared.answers.TheConstants.{DONE}
 use Rattle.nelgvasti.proofs.Fewest.{few_listed}
 use Rattle.nelgvasti.proofs.Readings.{refused_answer}
@@ -11,5 +11,5 @@ returns-in-Err-clause-expected c = rw c.refuse.ensures.answer (refused_answer (�
 pub octets_in-requires : goal.octets_in-requires
 octets_in-requires c =
     let read = c.in-Ok.ensures.read in
-    few_listed c.args.message.now read.0 c.deref-2.result.now (λ i. (let fits = c.type_inv.message i in omega (arith, fits))) read.1
-    (octets_lent read.0 c.in-Ok.read.items c.deref.result.now c.in-Ok-collapsed.order.items c.deref-2.result.now read.2 c.deref.ensures.value c.in-Ok-collapsed.ensures.octets c.deref-2.ensures.value)
+    few_listed c.args.message.now read.0 c.deref.result.now (λ i. (let fits = c.type_inv.message i in omega (arith, fits))) read.1
+    (octets_listed read.0 _ _ c.deref.result.now read.2 c.in-Ok-collapsed.ensures.octets c.deref.ensures.value)

@@ -1,5 +1,5 @@
 use Rattle.std.proofs.Common.{[], ◌∷◌, arith, sym, subst}
-use Rattle.dns_canon.proofs.SortedReferences.{keys_lent}
+use Rattle.dns_canon.proofs.SortedForms.{keys_listed}
 use Rattle.dns_message.specs.Messages.{message_reading}
 use Rattle.nelgvasti.specs.Calls.{AnswersOrMemory, reading_answer}
 use Rattle.nelgvasti.specs.declared.answers.TheConstants.{DONE}
@@ -16,33 +16,33 @@ returns-in-Err-clause-item c = item_refusal [] [] c.args.first.now (c.args.secon
 pub returns-in-Err-clause-expected : goal.returns-in-Err-clause-expected
 returns-in-Err-clause-expected c = rw c.refuse.ensures.answer (refused_answer (λ rs. reading_answer (λ ss. DONE) (message_reading c.args.second.now)) c.args.first.now c.in-Err.error c.in-Err.ensures.refused)
 
-pub returns-in-Err-read_records-clause-short : goal.returns-in-Err-read_records-clause-short
-returns-in-Err-read_records-clause-short c =
+pub returns-in-Err-read_forms-clause-short : goal.returns-in-Err-read_forms-clause-short
+returns-in-Err-read_forms-clause-short c =
     let read = c.in-Ok.ensures.read in
-    short_refusal (c.args.first.now ∷ []) (read.0 ∷ []) c.args.second.now [] (read.1, tt) c.in-Err-read_records.error c.refuse-in-Err-read_records.result c.args.place.now c.refuse-in-Err-read_records.new.self c.in-Err-read_records.ensures.refused c.refuse-in-Err-read_records.ensures.answer
-    c.refuse-in-Err-read_records.ensures.place
+    short_refusal (c.args.first.now ∷ []) (read.0 ∷ []) c.args.second.now [] (read.1, tt) c.in-Err-read_forms.error c.refuse-in-Err-read_forms.result c.args.place.now c.refuse-in-Err-read_forms.new.self c.in-Err-read_forms.ensures.refused c.refuse-in-Err-read_forms.ensures.answer
+    c.refuse-in-Err-read_forms.ensures.place
 
-pub returns-in-Err-read_records-clause-item : goal.returns-in-Err-read_records-clause-item
-returns-in-Err-read_records-clause-item c =
+pub returns-in-Err-read_forms-clause-item : goal.returns-in-Err-read_forms-clause-item
+returns-in-Err-read_forms-clause-item c =
     let read = c.in-Ok.ensures.read in
-    item_refusal (c.args.first.now ∷ []) (read.0 ∷ []) c.args.second.now [] (read.1, tt) c.in-Err-read_records.error c.refuse-in-Err-read_records.result c.args.place.now c.refuse-in-Err-read_records.new.self c.in-Err-read_records.ensures.refused c.refuse-in-Err-read_records.ensures.answer
-    c.refuse-in-Err-read_records.ensures.place
+    item_refusal (c.args.first.now ∷ []) (read.0 ∷ []) c.args.second.now [] (read.1, tt) c.in-Err-read_forms.error c.refuse-in-Err-read_forms.result c.args.place.now c.refuse-in-Err-read_forms.new.self c.in-Err-read_forms.ensures.refused c.refuse-in-Err-read_forms.ensures.answer
+    c.refuse-in-Err-read_forms.ensures.place
 
-pub returns-in-Err-read_records-clause-expected : goal.returns-in-Err-read_records-clause-expected
-returns-in-Err-read_records-clause-expected c =
+pub returns-in-Err-read_forms-clause-expected : goal.returns-in-Err-read_forms-clause-expected
+returns-in-Err-read_forms-clause-expected c =
     let read = c.in-Ok.ensures.read in
-    subst (λ expected. AnswersOrMemory expected c.refuse-in-Err-read_records.result)
+    subst (λ expected. AnswersOrMemory expected c.refuse-in-Err-read_forms.result)
     (sym (valid_answer (λ rs. reading_answer (λ ss. DONE) (message_reading c.args.second.now)) c.args.first.now read.0 read.1))
-    (rw c.refuse-in-Err-read_records.ensures.answer (refused_answer (λ ss. DONE) c.args.second.now c.in-Err-read_records.error c.in-Err-read_records.ensures.refused))
+    (rw c.refuse-in-Err-read_forms.ensures.answer (refused_answer (λ ss. DONE) c.args.second.now c.in-Err-read_forms.error c.in-Err-read_forms.ensures.refused))
 
 pub returns-clause-done : goal.returns-clause-done
 returns-clause-done c = λ _.
     let read = c.in-Ok.ensures.read in
-    let also = c.in-Ok-read_records.ensures.read in
-    let keys = keys_lent read.0 c.in-Ok.read.items c.deref.result.now c.in-Ok-collapsed.first_order.items c.deref-3.result.now read.2 c.deref.ensures.value c.in-Ok-collapsed.ensures.keys c.deref-3.ensures.value in
+    let also = c.in-Ok-read_forms.ensures.read in
+    let keys = keys_listed read.0 _ _ c.deref.result.now read.2 c.in-Ok-collapsed.ensures.keys c.deref.ensures.value in
     let other_keys =
-    keys_lent also.0 c.in-Ok-read_records.read.items c.deref-2.result.now c.in-Ok-collapsed-2.second_order.items c.deref-4.result.now also.2 c.deref-2.ensures.value c.in-Ok-collapsed-2.ensures.keys c.deref-4.ensures.value in
+    keys_listed also.0 _ _ c.deref-2.result.now also.2 c.in-Ok-collapsed-2.ensures.keys c.deref-2.ensures.value in
     let says =
-    says_same c.args.first.now c.args.second.now read.0 also.0 c.deref-3.result.now c.deref-4.result.now c.are_alike.result c.from.result (λ i. (let fits = c.type_inv.first i in omega (arith, fits)))
+    says_same c.args.first.now c.args.second.now read.0 also.0 c.deref.result.now c.deref-2.result.now c.are_alike.result c.from.result (λ i. (let fits = c.type_inv.first i in omega (arith, fits)))
     (λ i. (let fits = c.type_inv.second i in omega (arith, fits))) read.1 also.1 keys other_keys c.are_alike.ensures c.from.ensures in
     (read.0, also.0, read.1, also.1, says)

@@ -1,11 +1,11 @@
 use Rattle.std.proofs.Common.{◌≡◌, ◌≤◌, ◌*◌, length, map, take}
 use Rattle.std.specs.List.{concat}
-use Rattle.dns_message.specs.Canonical.{canonical_wire}
+use Rattle.dns_message.specs.Order.{octets_of_key}
 use Rattle.nelgvasti.proofs.ordered.octets_in.Given as goal
 
 -- the octets of the records so far, of which none has more than 65,800
-abbrev pub invariant-loop-found : goal.invariant-loop-found
-invariant-loop-found l = record {
-  counted : l.total ≡ length (concat (map (λ r. canonical_wire r.now) (take l.found-index l.records)));
-  few : l.total ≤ 65800 * l.found-index;
+abbrev pub invariant-loop-form : goal.invariant-loop-form
+invariant-loop-form l = record {
+  counted : l.total ≡ length (concat (map octets_of_key (take l.form-index l.forms)));
+  few : l.total ≤ 65800 * l.form-index;
 }
