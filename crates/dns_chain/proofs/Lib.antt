@@ -2,3 +2,4 @@
 pub mod Chaining
 pub mod FewSteps
 pub mod WholeData
+pub mod WrittenNames

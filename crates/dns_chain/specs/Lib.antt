@@ -1,2 +1,3 @@
 -- What the contracts on chains of pointers cite.
+pub mod CanonicalNames
 pub mod Chains

@@ -2,6 +2,7 @@
 //! once for the whole message.
 #![tactic(auto)]
 
+mod canonical_name;
 mod data;
 mod final_targets;
 mod laws;
@@ -9,6 +10,7 @@ mod question;
 mod record;
 mod unchained;
 
+pub use canonical_name::{NameSpan, read_unchained_name};
 pub use final_targets::FinalTargets;
 pub use laws::unchained_names_take_few_steps;
 pub use unchained::{has_chained_name, unchained_end};

@@ -1,19 +1,16 @@
 -- Canonical forms of records, one after another.
-use Rattle.std.proofs.Common.{◌≡◌, ℕ, zero, suc, ◌+◌, ◌<◌, ◌≤◌, List, [], ◌∷◌, ◌++◌, Option, length, map, take, drop, take_all, flat_map, get_or, append-nil, refl, sym, ap, ap₂, subst, ◌∙◌, inl, inr, arith}
+use Rattle.std.proofs.Common.{◌≡◌, ℕ, zero, suc, ◌+◌, ◌<◌, ◌≤◌, List, [], ◌∷◌, ◌++◌, Option, length, map, take, drop, take_all, flat_map, get_or, append-nil, refl, sym, ap, ap₂, subst, ◌∙◌, arith}
 use Rattle.std.specs.Prelude.{reverse, unwrap_or}
 use Rattle.std.specs.Cmp.Lexicographic.{slice_cmp}
 use Rattle.std.specs.Int.{w16, w32, to_be_bytes}
 use Rattle.std.specs.List.Sorted.{IsPermutation, IsSorted}
 use Rattle.std.specs.Ordering.{is_lt, nat_cmp}
-use Rattle.std.specs.Char.{to_ascii_lowercase}
 use Rattle.std.specs.Str.{str_to_ascii_lowercase}
-use Rattle.std.proofs.lemmas.Bool.{cases_lt}
 use Rattle.std.proofs.lemmas.Grind.{flat_map-append}
 use Rattle.std.proofs.lemmas.List.{get_or_default, get_or-map, length-append, length-drop, length-map, take_more, take-append-le, drop-append-le, drop-drop, map-append, map-id, reverse-reverse}
 use Rattle.std.proofs.lemmas.List.Concat.{flat_map-cons}
 use Rattle.std.proofs.lemmas.List.Elements.{All-push}
 use Rattle.std.proofs.lemmas.List.Sorted.{ranks_by, sorted_far}
-use Rattle.std.proofs.lemmas.Str.Ascii.{lowercase_is, lowercase-lowercase}
 use Rattle.dns_wire.specs.Names.{lowered, wire, IsName}
 use Rattle.dns_wire.proofs.Backward.{lowered-reverse}
 use Rattle.dns_wire.proofs.Lowered.{name_lowered}
@@ -27,17 +24,11 @@ use Rattle.dns_message.specs.OwnerKeys.{key_octet, labels_key, owner_key}
 use Rattle.dns_message.specs.Sorted.{Ascends, times}
 use Rattle.dns_message.specs.declared.form_span.FormSpan.{FormSpan}
 use Rattle.dns_message.proofs.Ordering.{key_canonical_wire}
-use Rattle.dns_message.proofs.OwnerKeyLemmas.{first_key, low, high, past_capitals, keys_ordered, owner_size}
+use Rattle.dns_message.proofs.OwnerKeyLemmas.{first_key, keys_ordered, octet_lowered, owner_size}
 use Rattle.dns_message.proofs.SortedRecords.{SameSums, ascends_from_far, ascends_in_order, in_order_sums, sort_key_cmp_same, sort_key_cmp_total, sorted_unique, sums_permuted}
 use Rattle.dns_message.proofs.Whole.{lowered_twice}
 
 -- ---- the key of an owner is that of the owner in lowercase
-
-octet_lowered : (x : ℕ) → key_octet (to_ascii_lowercase x) ≡ key_octet x
-octet_lowered x = elim (cases_lt x 65) [
-  | inl few ↦ ap key_octet ((lowercase_is x).1 few)
-  | inr many ↦ high (to_ascii_lowercase x) (omega (arith, past_capitals x many)) ∙ lowercase-lowercase x ∙ sym (high x many)
-]
 
 label_lowered : (label : List ℕ) → map key_octet (str_to_ascii_lowercase label) ≡ map key_octet label
 label_lowered [] = refl
@@ -46,6 +37,9 @@ label_lowered (x ∷ label) = ap₂ (λ (o : ℕ) (l : List ℕ). o ∷ l) (octe
 labels_lowered : (labels : List (List ℕ)) → labels_key (lowered labels) ≡ labels_key labels
 labels_lowered [] = refl
 labels_lowered (label ∷ labels) = ap₂ (λ (x y : List ℕ). (0 ∷ x) ++ y) (label_lowered label) (labels_lowered labels)
+
+pub key_of_lowered : (labels : List (List ℕ)) → owner_key (lowered labels) ≡ owner_key labels
+key_of_lowered labels = ap (λ (l : List ℕ). 0 ∷ l) (ap labels_key (sym (lowered-reverse labels)) ∙ labels_lowered (reverse labels))
 
 pub owner_key_lowered : (r : RecordValue) → owner_key r.owner ≡ form_owner_key (sort_key r)
 owner_key_lowered r = sym (ap (λ (l : List ℕ). 0 ∷ l) (ap labels_key (sym (lowered-reverse r.owner)) ∙ labels_lowered (reverse r.owner)))

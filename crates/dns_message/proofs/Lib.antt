@@ -6,6 +6,7 @@ pub mod CanonBuilt
 pub mod CanonicalOctets
 pub mod Chained
 pub mod Collapsing
+pub mod CompressibleFields
 pub mod Counting
 pub mod Drafts
 pub mod EdnsBuilt
@@ -17,8 +18,11 @@ pub mod Lengths
 pub mod Octets
 pub mod OneReading
 pub mod Ordering
+pub mod LastOwners
+pub mod OwnerFirst
 pub mod OwnerKeyLemmas
 pub mod Parsed
+pub mod PartsAdded
 pub mod Phrased
 pub mod NextItem
 pub mod Pushed

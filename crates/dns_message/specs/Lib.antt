@@ -2,6 +2,7 @@
 pub mod Building
 pub mod Built
 pub mod Canonical
+pub mod CompressibleData
 pub mod Counted
 pub mod Forms
 pub mod FormsRead
@@ -10,6 +11,7 @@ pub mod MessageOctets
 pub mod Messages
 pub mod Order
 pub mod OwnerKeys
+pub mod Owners
 pub mod Parsing
 pub mod LayoutRead
 pub mod Pushes

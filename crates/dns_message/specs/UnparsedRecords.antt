@@ -8,6 +8,7 @@ use Rattle.dns_record.specs.Unparsed.{few_in}
 use Rattle.dns_record.specs.declared.record.Record.{Record}
 use Rattle.dns_record.specs.declared.unparsed.UnparsedRecordData.{UnparsedRecordData}
 use Rattle.dns_message.specs.Messages.{RecordValue}
+use Rattle.dns_message.specs.declared.unparsed_parts.UnparsedParts.{UnparsedParts}
 
 -- a record, with its owner's labels and its data's octets
 abbrev pub UnparsedValue : Type 0
@@ -19,6 +20,14 @@ unparsed_in rtype contents at = few_in contents at
 
 abbrev pub unparsed_value : Record Labels UnparsedRecordData → UnparsedValue
 unparsed_value = record_seen (λ labels. labels) (λ v. v.octets.now)
+
+-- an owner that was read before
+abbrev pub owner_before : Labels → Octets → ℕ → Option (Labels × ℕ)
+owner_before labels contents at = Some (labels, at)
+
+-- a record of this owner that has these parts after it
+abbrev pub parts_value : Labels → UnparsedParts → UnparsedValue
+parts_value labels p = record { owner = labels; rtype = p.rtype.code.value; class = p.rclass.code.value; ttl = p.ttl.value.value; content = p.rdata.octets.now }
 
 -- the record with these fields as its data
 abbrev pub with_content : UnparsedValue → List Field → RecordValue

@@ -1,7 +1,9 @@
 //! Records as their canonical octets, one after another.
 
 ghost use Rattle.std.specs.Prelude.{◌≡◌, ◌≤◌, ◌<◌, ◌^◌, ◌↔◌, [], ◌∷◌, ◌++◌, List, IfOk, IsTrue, length, map};
+ghost use Rattle.std.specs.Int.{w16, w32, to_be_bytes};
 ghost use Rattle.dns_wire.specs.Names.{wire, lowered};
+ghost use Rattle.dns_name.specs.Order.{key};
 ghost use Rattle.dns_record.specs.Fields.{fields_octets, named_by};
 ghost use Rattle.dns_record.specs.Records.{octets_of_parts};
 ghost use Rattle.dns_record.specs.Seen.{record_seen};
@@ -12,13 +14,14 @@ ghost use Rattle.dns_message.specs.Messages.{RecordValue};
 ghost use Rattle.dns_message.specs.Order.{sort_key, octets_of_key, collapsed};
 
 use crate::canonical_form::CanonicalForm;
+use crate::canonical_owner::CanonicalOwner;
 use crate::canonical_parts::{build_canonical_record, canonical_size};
 use crate::canonical_record::CanonicalRecord;
 use crate::form_span::FormSpan;
 use crate::owner_key::push_owner_key;
 use dns_name::{CanonicalName, RevNameBuf};
 use dns_rdata::RecordData;
-use dns_record::{CanonicalRecordData, Record};
+use dns_record::{CanonicalRecordData, RClass, RType, Record, TTL};
 use std::alloc::{AllocError, Global};
 use std::marker::Model;
 
@@ -61,6 +64,20 @@ fn push_canonical<D: CanonicalRecordData>(
     octets.resize(start + size, 0)?;
     build_canonical_record(found, octets, start).unwrap();
     Ok(size)
+}
+
+/// The octets between the owner and the data: type, class, TTL, and the number of the data's octets.
+fn numbers(span: &FormSpan, size: u16) -> [u8; 10]
+    ensures { result ≡ to_be_bytes w16 span.now.rtype ++ (to_be_bytes w16 span.now.class ++ (to_be_bytes w32 span.now.ttl ++ to_be_bytes w16 size)) }
+{
+    let [type_high, type_low] = span.rtype.to_be_bytes();
+    let [class_high, class_low] = span.class.to_be_bytes();
+    let [first, second, third, fourth] = span.ttl.to_be_bytes();
+    let [size_high, size_low] = size.to_be_bytes();
+    [
+        type_high, type_low, class_high, class_low, first, second, third, fourth, size_high,
+        size_low,
+    ]
 }
 
 /// The forms of these spans, whose owners' keys and canonical octets are one after another. `AllocError` is out of memory.
@@ -117,6 +134,43 @@ impl CanonicalForms {
             owner_keys: Vec::with_capacity(alloc, owners)?,
             octets: Vec::with_capacity(alloc, owners.saturating_add(octets))?,
             spans: Vec::with_capacity(alloc, records)?,
+        })
+    }
+
+    /// These forms, and after them that of a record with this owner, type, class, TTL and canonical data. `AllocError` is out of memory; the
+    /// forms are then given up.
+    pub(crate) fn with_canonical(
+        self,
+        owner: CanonicalOwner<'_>,
+        rtype: RType,
+        rclass: RClass,
+        ttl: TTL,
+        data: &[u8],
+    ) -> Result<CanonicalForms, AllocError>
+        requires { length data.now < 2 ^ 16 }
+        ensures { IfOk result (λ forms. forms ≡ self ++ record { owner = key owner.entry; class = rclass.code.value; rtype = rtype.code.value; octets = data.now; ttl = ttl.value.value } ∷ []) }
+    {
+        let CanonicalForms {
+            mut owner_keys,
+            mut octets,
+            mut spans,
+        } = self;
+        owner_keys.extend_from_slice(owner.key())?;
+        let span = FormSpan {
+            owner_size: owner.octets().len(),
+            size: owner.octets().len() + 10 + data.len(),
+            class: rclass.code.get(),
+            rtype: rtype.code.get(),
+            ttl: ttl.as_secs(),
+        };
+        octets.extend_from_slice(owner.octets())?;
+        octets.extend_from_slice(&numbers(&span, data.len() as u16))?;
+        octets.extend_from_slice(data)?;
+        spans.push(span)?;
+        Ok(CanonicalForms {
+            owner_keys,
+            octets,
+            spans,
         })
     }
 

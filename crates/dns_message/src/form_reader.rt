@@ -1,62 +1,112 @@
 //! Reading the records of a message as their canonical forms.
 
-ghost use Rattle.std.specs.Prelude.{◌≡◌, ◌≤◌, true, List, IfOk, IfErr, length, take};
+ghost use Rattle.std.specs.Prelude.{◌≡◌, ◌≤◌, true, List, IfOk, IfErr, IfSome, length, map, take};
 ghost use Rattle.dns_wire.specs.Names.{plain_name};
+ghost use Rattle.dns_wire.specs.Octets.{Labels};
 ghost use Rattle.dns_wire.specs.Pointers.{name_at};
 ghost use Rattle.dns_record.specs.Data.{data_as, data_in};
+ghost use Rattle.dns_wire.specs.Reading.{AreOctets};
+ghost use Rattle.dns_record.specs.Formats.{rdata_format};
 ghost use Rattle.dns_record.specs.Records.{record_in};
+ghost use Rattle.dns_record.specs.Types.{is_lowercased};
 ghost use Rattle.dns_rdata.specs.Compressible.{is_compressible_type};
 ghost use Rattle.dns_rdata.specs.Plain.{is_uncompressed_type};
+ghost use Rattle.dns_message.specs.CompressibleData.{kind_of};
 ghost use Rattle.dns_message.specs.FormsRead.{AddsData, AddsForm, AddsRecord, forms_of};
 ghost use Rattle.dns_message.specs.Messages.{RecordValue, Valid, item_at};
+ghost use Rattle.dns_message.specs.Owners.{HasOwner, WasRead};
 ghost use Rattle.dns_message.specs.Refusals.{RefusedOrMemory};
-ghost use Rattle.dns_message.specs.UnparsedRecords.{data_start, unparsed_value};
+ghost use Rattle.dns_message.specs.UnparsedRecords.{data_start, parts_value};
 
 use crate::canon_error::CanonError;
 use crate::canonical_forms::CanonicalForms;
-use crate::item_reader::{ItemReader, UnparsedRecord};
+use crate::canonical_parts::put_canonical_data;
+use crate::compressible_data::{CompressibleField, compressible_fields, push_fields};
+use crate::item_reader::ItemReader;
+use crate::last_owner::LastOwner;
 use crate::parser::MessageParser;
+use crate::unparsed_parts::{UnparsedParts, split_unparsed_parts};
 use dns_name::Name;
 use dns_rdata::RecordData;
-use dns_record::{ParseRecordDataBytes, RType, Record};
+use dns_record::{ParseRecordDataBytes, RType};
 use dns_wire::ParseError;
 use std::alloc::{AllocError, Global};
 
-/// Whether data of the type have names that pointers may lead through (RFC 3597 section 4).
-fn is_compressible(rtype: RType) -> bool
-    ensures { result ≡ is_compressible_type rtype.code.value }
+/// What the records of a message are read with: its items, the owner that was read last, and room for a name and for data in canonical form.
+#[derive(Drop)]
+struct FormReader<'a> {
+    items: ItemReader<'a>,
+    owner: LastOwner,
+    name: [u8; Name::MAX_SIZE],
+    data: Vec<u8>,
+}
+
+impl<'a> FormReader<'a> {
+    /// Reads the records of a message with these contents.
+    fn new(alloc: Global, contents: &'a [u8]) -> FormReader<'a>
+        ensures items { result.items ≡ contents.entry.now }
+        ensures owner { result.owner.end ≡ 0 }
+    {
+        FormReader {
+            items: ItemReader::new(contents),
+            owner: LastOwner::none(),
+            name: [0; Name::MAX_SIZE],
+            data: Vec::new(alloc),
+        }
+    }
+}
+
+/// Whether names count without regard to ASCII case in data of the type (RFC 4034 section 6.2, RFC 6840 section 5.1).
+fn is_lowercased(rtype: RType) -> bool
+    ensures { result ≡ is_lowercased rtype.code.value }
 {
     matches!(
         rtype,
-        RType::NS | RType::CNAME | RType::SOA | RType::PTR | RType::MX | RType::RP
+        RType::NS
+            | RType::CNAME
+            | RType::SOA
+            | RType::PTR
+            | RType::MX
+            | RType::RP
+            | RType::SRV
+            | RType::DNAME
+            | RType::RRSIG
     )
 }
 
-/// Puts the form of a record whose data end at a place of the message after the forms, if the data can be read there. `AllocError`
-/// is out of memory.
+/// Puts the form of a record whose data end at a place of the message after the forms, if its fields can be read there. `AllocError` is out
+/// of memory.
 fn with_compressible(
+    alloc: Global,
     forms: CanonicalForms,
-    reader: &ItemReader<'_>,
-    unparsed: &UnparsedRecord<'_>,
+    reader: &mut FormReader<'_>,
+    fields: &[CompressibleField],
+    parts: &UnparsedParts<'_>,
     end: usize,
 ) -> Result<Option<CanonicalForms>, AllocError>
-    requires compressible { is_compressible_type unparsed.now.rtype.code.value ≡ true }
-    requires within { end ≤ length reader.now }
-    requires long { length unparsed.now.rdata.octets.now ≤ end }
-    ensures { IfOk result (AddsData forms (unparsed_value unparsed.now) (data_in name_at unparsed.now.rtype.code.value (take end reader.now) (data_start end unparsed.now.rdata.octets.now))) }
+    requires compressible { is_compressible_type parts.now.rtype.code.value ≡ true }
+    requires fields { map kind_of fields.now ≡ rdata_format parts.now.rtype.code.value }
+    requires within { end ≤ length reader.old.items }
+    requires long { length parts.now.rdata.octets.now ≤ end }
+    requires owner { (labels : Labels) × HasOwner reader.old.owner labels }
+    ensures adds { IfOk result (λ found. (labels : Labels) → HasOwner reader.old.owner labels
+        → AddsData forms (parts_value labels parts.now) (data_in name_at parts.now.rtype.code.value (take end reader.old.items) (data_start end parts.now.rdata.octets.now)) found) }
+    ensures items { reader.new.items ≡ reader.old.items }
+    ensures owner { reader.new.owner ≡ reader.old.owner }
 {
-    let start = end - unparsed.rdata.octets().len();
-    let Ok(rdata) = reader.parse_record_data(start, end, unparsed.rtype) else {
+    let start = end - parts.rdata.octets().len();
+    let FormReader {
+        items,
+        owner,
+        name,
+        data,
+    } = reader;
+    data.clear();
+    if !push_fields(alloc, items, name, data, fields, start, end)? {
         return Ok(None);
-    };
-    let found = Record {
-        rname: &unparsed.rname,
-        rtype: unparsed.rtype,
-        rclass: unparsed.rclass,
-        ttl: unparsed.ttl,
-        rdata: &rdata,
-    };
-    let more = forms.with_parts(&found)?;
+    }
+    let (rtype, rclass, ttl) = (parts.rtype, parts.rclass, parts.ttl);
+    let more = forms.with_canonical(owner.owner(), rtype, rclass, ttl, data)?;
     Ok(Some(more))
 }
 
@@ -64,48 +114,58 @@ fn with_compressible(
 /// of type OPT. `AllocError` is out of memory.
 fn with_uncompressed(
     forms: CanonicalForms,
-    unparsed: &UnparsedRecord<'_>,
+    owner: &LastOwner,
+    data: &mut Vec<u8>,
+    parts: &UnparsedParts<'_>,
 ) -> Result<Option<CanonicalForms>, AllocError>
-    requires { is_uncompressed_type unparsed.now.rtype.code.value ≡ true }
-    ensures { IfOk result (AddsData forms (unparsed_value unparsed.now) (data_as plain_name unparsed.now.rtype.code.value unparsed.now.rdata.octets.now)) }
+    requires plain { is_uncompressed_type parts.now.rtype.code.value ≡ true }
+    requires octets { AreOctets parts.now.rdata.octets.now }
+    requires owner { (labels : Labels) × HasOwner owner.now labels }
+    ensures { IfOk result (λ found. (labels : Labels) → HasOwner owner.now labels
+        → AddsData forms (parts_value labels parts.now) (data_as plain_name parts.now.rtype.code.value parts.now.rdata.octets.now) found) }
 {
+    let octets = parts.rdata.octets();
+    let (rtype, rclass, ttl) = (parts.rtype, parts.rclass, parts.ttl);
     let read: Result<RecordData<'_, Name<'_>>, ParseError> = RecordData::parse_record_data_bytes(
-        unparsed.rdata.octets(),
-        unparsed.rtype,
+        octets, rtype,
     );
     let Ok(rdata) = read else {
         return Ok(None);
     };
-    if unparsed.rtype == RType::OPT {
+    if rtype == RType::OPT {
         return Ok(Some(forms));
     }
-    let found = Record {
-        rname: &unparsed.rname,
-        rtype: unparsed.rtype,
-        rclass: unparsed.rclass,
-        ttl: unparsed.ttl,
-        rdata: &rdata,
-    };
-    let more = forms.with_parts(&found)?;
+    if !is_lowercased(rtype) {
+        let more = forms.with_canonical(owner.owner(), rtype, rclass, ttl, octets)?;
+        return Ok(Some(more));
+    }
+    put_canonical_data(&rdata, data)?;
+    let more = forms.with_canonical(owner.owner(), rtype, rclass, ttl, data)?;
     Ok(Some(more))
 }
 
 /// Reads the record at a place, and puts its form after the forms, unless it is of type OPT. It gives them and the place where the record
 /// ends; `None` exactly if no record is there. `AllocError` is out of memory.
 fn with_record(
+    alloc: Global,
     forms: CanonicalForms,
-    reader: &ItemReader<'_>,
+    reader: &mut FormReader<'_>,
     start: usize,
 ) -> Result<Option<(CanonicalForms, usize)>, AllocError>
-    ensures { IfOk result (AddsRecord forms (record_in name_at (data_in name_at) reader.now start)) }
+    requires { WasRead reader.old.items reader.old.owner }
+    ensures adds { IfOk result (AddsRecord forms (record_in name_at (data_in name_at) reader.old.items start)) }
+    ensures owner { IfOk result (λ found. IfSome found (λ _. WasRead reader.old.items reader.new.owner)) }
+    ensures items { reader.new.items ≡ reader.old.items }
 {
-    let Ok((unparsed, end)) = reader.split_unparsed_record(start) else {
+    let Some(at) = reader.owner.read(alloc, &mut reader.items, start)? else {
         return Ok(None);
     };
-    let added = if is_compressible(unparsed.rtype) {
-        with_compressible(forms, reader, &unparsed, end)?
-    } else {
-        with_uncompressed(forms, &unparsed)?
+    let Ok((parts, end)) = split_unparsed_parts(reader.items.contents(), at) else {
+        return Ok(None);
+    };
+    let added = match compressible_fields(parts.rtype) {
+        Some(fields) => with_compressible(alloc, forms, reader, fields, &parts, end)?,
+        None => with_uncompressed(forms, &reader.owner, &mut reader.data, &parts)?,
     };
     match added {
         Some(more) => Ok(Some((more, end))),
@@ -118,18 +178,20 @@ fn with_record(
 fn with_item(
     alloc: Global,
     forms: CanonicalForms,
-    reader: &mut ItemReader<'_>,
+    reader: &mut FormReader<'_>,
     section: u8,
     start: usize,
 ) -> Result<Option<(CanonicalForms, usize)>, AllocError>
-    ensures adds { IfOk result (AddsForm forms (item_at section reader.old start)) }
-    ensures unchanged { reader.new ≡ reader.old }
+    requires { WasRead reader.old.items reader.old.owner }
+    ensures adds { IfOk result (AddsForm forms (item_at section reader.old.items start)) }
+    ensures owner { IfOk result (λ found. IfSome found (λ _. WasRead reader.old.items reader.new.owner)) }
+    ensures items { reader.new.items ≡ reader.old.items }
 {
-    reader.look(alloc, section, start)?;
     if section != 0 {
-        return with_record(forms, reader, start);
+        return with_record(alloc, forms, reader, start);
     }
-    match reader.end_of_question(start) {
+    reader.items.look(alloc, section, start)?;
+    match reader.items.end_of_question(start) {
         Some(end) => Ok(Some((forms, end))),
         None => Ok(None),
     }
@@ -148,7 +210,7 @@ pub fn read_forms(alloc: Global, message: &[u8]) -> Result<CanonicalForms, Canon
     let contents = parser.message().contents();
     let records = parser.message().most_records();
     let mut forms = CanonicalForms::with_capacity(alloc, records, contents.len())?;
-    let mut reader = ItemReader::new(contents);
+    let mut reader = FormReader::new(alloc, contents);
     while let Some(position) = parser.coming() {
         let start = parser.offset();
         let Some(found) = with_item(alloc, forms, &mut reader, position.section, start)? else {

@@ -3,16 +3,17 @@
 ghost use Rattle.std.specs.Prelude.{◌≡◌, ◌≤◌, length, take, IfOk, OnErr, MatchOption, Some, None};
 ghost use Rattle.dns_wire.specs.Octets.{Labels, Octets};
 ghost use Rattle.dns_wire.specs.Pointers.{name_at};
-ghost use Rattle.dns_wire.specs.Reading.{Gives};
+ghost use Rattle.dns_wire.specs.Reading.{AreOctets, Gives};
 ghost use Rattle.dns_record.specs.Data.{data_in};
 ghost use Rattle.dns_record.specs.Questions.{QuestionOf, question_in};
 ghost use Rattle.dns_record.specs.Records.{record_in};
+ghost use Rattle.dns_chain.specs.CanonicalNames.{IsReadOrNone};
 ghost use Rattle.dns_rdata.specs.Data.{IsDataOf};
 ghost use Rattle.dns_message.specs.Seen.{AreSound, data_seen, record_value};
 ghost use Rattle.dns_message.specs.UnparsedRecords.{DataAreAt, data_start, unparsed_in, unparsed_value, with_data};
 
 use crate::item::{ParsedRecord, end_of_question};
-use dns_chain::{FinalTargets, has_chained_name, unchained_end};
+use dns_chain::{FinalTargets, NameSpan, has_chained_name, read_unchained_name, unchained_end};
 use dns_name::{NameBuf, RevNameBuf};
 use dns_rdata::RecordData;
 use dns_record::{ParseRecordData, RType, Record, UnparsedRecordData};
@@ -75,6 +76,42 @@ impl<'a> ItemReader<'a> {
             self.targets = Some(FinalTargets::new(alloc, self.contents)?);
         }
         Ok(())
+    }
+
+    /// The contents.
+    pub(crate) fn contents(&self) -> &'a [u8]
+        ensures value { result.now ≡ self.now }
+        ensures octets { AreOctets result.now }
+    {
+        self.contents
+    }
+
+    /// Reads the name at a place, of contents of which only those up to `end` are read, and writes its octets in lowercase to the beginning
+    /// of a buffer of 255 octets. `None` comes exactly if no name is there. `AllocError` is out of memory.
+    pub(crate) fn read_canonical_name(
+        &mut self,
+        alloc: Global,
+        start: usize,
+        end: usize,
+        buffer: &mut [u8],
+    ) -> Result<Option<NameSpan>, AllocError>
+        requires within { end ≤ length self.old }
+        requires room { length buffer.old ≡ 255 }
+        ensures read { IfOk result (λ span. IsReadOrNone (take end self.old) start buffer.new span) }
+        ensures unchanged { self.new ≡ self.old }
+        ensures room { length buffer.new ≡ 255 }
+    {
+        if let Some(targets) = &self.targets {
+            return Ok(targets.read_canonical_name(start, end, buffer));
+        }
+        let span = read_unchained_name(&self.contents[..end], start, buffer);
+        if span.is_some() {
+            return Ok(span);
+        }
+        let targets = FinalTargets::new(alloc, self.contents)?;
+        let span = targets.read_canonical_name(start, end, buffer);
+        self.targets = Some(targets);
+        Ok(span)
     }
 
     /// Reads the record at a place, its data as they are, and gives the place where it ends.

@@ -8,14 +8,17 @@ mod canon_error;
 mod canonical_form;
 mod canonical_forms;
 mod canonical_list;
+mod canonical_owner;
 mod canonical_parts;
 mod canonical_record;
+mod compressible_data;
 mod form_reader;
 mod form_span;
 mod header;
 mod item;
 mod item_reader;
 mod keyed_record;
+mod last_owner;
 mod laws;
 mod message;
 mod owner_key;
@@ -24,6 +27,7 @@ mod push_laws;
 mod read_again;
 mod records;
 mod several_laws;
+mod unparsed_parts;
 
 pub use build_error::MessageBuildError;
 pub use build_laws::{

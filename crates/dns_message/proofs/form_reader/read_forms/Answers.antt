@@ -1,7 +1,8 @@
-use Rattle.std.proofs.Common.{◌∙◌, ap, ap₂, sym, drop, map, refl, ℕ, [], Some}
+use Rattle.std.proofs.Common.{◌∙◌, ap, ap₂, arith, sym, drop, map, refl, subst, ℕ, [], Some}
 use Rattle.dns_wire.specs.Octets.{Octets}
 use Rattle.dns_message.specs.Messages.{item_at}
 use Rattle.dns_message.specs.Order.{sort_key}
+use Rattle.dns_message.specs.Owners.{WasRead}
 use Rattle.dns_message.specs.Parsing.{parsed_message, next_start}
 use Rattle.dns_message.proofs.Adding.{placed}
 use Rattle.dns_message.proofs.Chained.{read_none, read_more, read_fails, read_all}
@@ -11,13 +12,14 @@ use Rattle.dns_message.proofs.form_reader.read_forms.Goals as goal
 pub loop-position-init : goal.loop-position-init
 loop-position-init c = record {
   read = ([], read_none c.args.message.now c.in-Ok.parser [] c.in-Ok.ensures.message c.in-Ok.ensures.start refl, c.in_ok-forms.ensures);
-  reader = c.new-reader.ensures ∙ c.contents-contents.ensures ∙ ap (λ (l : Octets). drop 12 l) (c.message.ensures ∙ c.in-Ok.ensures.message.1);
+  items = c.new-reader.ensures.items ∙ c.contents-contents.ensures ∙ ap (λ (l : Octets). drop 12 l) (c.message.ensures ∙ c.in-Ok.ensures.message.1);
+  owner = λ some. absurd (omega (arith, some, c.new-reader.ensures.owner));
 }
 
 pub returns-in_default-2-clause-refused : goal.returns-in_default-2-clause-refused
 returns-in_default-2-clause-refused c =
     let so = c.loop-position.invariant in
-    let there = so.reader ∙ ap (λ (l : Octets). drop 12 l) (sym so.read.1.of_message) in
+    let there = so.items ∙ ap (λ (l : Octets). drop 12 l) (sym so.read.1.of_message) in
     read_fails c.args.message.now c.loop-position.parser c.in-Some.position.section c.in-Some.position.index so.read.0 so.read.1 c.in-Some.ensures.none
     (ap₂ (λ (l : Octets) (n : ℕ). item_at c.in-Some.position.section l n) (sym there) (sym c.offset-start.ensures) ∙ (rw c.in_default-2.is at c.in_ok-found.ensures.adds))
 
@@ -26,16 +28,17 @@ loop-position-preserved c =
     let so = c.loop-position.invariant in
     let section = c.in-Some.position.section in
     let found = c.in-Some-2.found in
-    let more = form_adds section c.loop-position.reader c.offset-start.result so.read.0 c.loop-position.forms found.0 found.1 so.read.2 (rw c.in-Some-2.is at c.in_ok-found.ensures.adds) in
+    let more = form_adds section c.loop-position.reader.items c.offset-start.result so.read.0 c.loop-position.forms found.0 found.1 so.read.2 (rw c.in-Some-2.is at c.in_ok-found.ensures.adds) in
     record {
       read = (
         more.0,
         read_more c.args.message.now c.loop-position.parser c.pass.new.self section c.in-Some.position.index found.1 so.read.0 more.0 so.read.1 c.pass.ensures
-            (placed section c.loop-position.reader (parsed_message c.loop-position.parser) c.offset-start.result (next_start c.loop-position.parser) so.read.0 more.0 (Some found.1)
-            (so.reader ∙ ap (λ (l : Octets). drop 12 l) (sym so.read.1.of_message)) c.offset-start.ensures more.1),
+            (placed section c.loop-position.reader.items (parsed_message c.loop-position.parser) c.offset-start.result (next_start c.loop-position.parser) so.read.0 more.0 (Some found.1)
+            (so.items ∙ ap (λ (l : Octets). drop 12 l) (sym so.read.1.of_message)) c.offset-start.ensures more.1),
         more.2,
       );
-      reader = c.with_item.ensures.unchanged ∙ so.reader;
+      items = c.with_item.ensures.items ∙ so.items;
+      owner = subst (λ (l : Octets). WasRead l c.with_item.new.reader.owner) (sym c.with_item.ensures.items) (rw c.in-Some-2.is at c.in_ok-found.ensures.owner);
     }
 
 pub returns-clause-read : goal.returns-clause-read

@@ -1,0 +1,107 @@
+-- The forms of records whose canonical parts are known.
+use Rattle.std.proofs.Common.{◌≡◌, ℕ, ◌+◌, ◌<◌, ◌^◌, Bool, true, false, cond, List, [], ◌∷◌, ◌++◌, length, map, Some, None, append-nil, append_assoc, refl, sym, ap, ◌∙◌, arith}
+use Rattle.std.specs.Prelude.{not, ◌==◌}
+use Rattle.std.specs.Int.{w16, w32, to_be_bytes}
+use Rattle.dns_wire.specs.Names.{IsName, lowered, plain_name, wire}
+use Rattle.dns_wire.specs.Pointers.{name_at}
+use Rattle.dns_wire.specs.Reading.{AreOctets, all_at}
+use Rattle.dns_record.specs.Data.{data_as, data_in}
+use Rattle.dns_record.specs.Fields.{Field, canonical_fields, fields_octets, lowercased_field}
+use Rattle.dns_record.specs.Fields.FieldOf.{Raw}
+use Rattle.dns_record.specs.Formats.{rdata_format}
+use Rattle.dns_record.specs.Kinds.{fields_in}
+use Rattle.dns_record.specs.Records.{octets_of_parts}
+use Rattle.dns_record.specs.Types.{is_lowercased, opt_number}
+use Rattle.dns_record.proofs.Sizes.{data_short, lowercased_long}
+use Rattle.dns_rdata.specs.Compressible.{is_compressible_type}
+use Rattle.dns_rdata.specs.FormatLemmas.{data_spelled}
+use Rattle.dns_rdata.proofs.UncompressedData.{compressible_placed}
+use Rattle.dns_name.specs.Order.{key}
+use Rattle.dns_message.specs.Canonical.{canonical_wire, is_not_opt}
+use Rattle.dns_message.specs.Forms.{AreForms, forms_in}
+use Rattle.dns_message.specs.OwnerKeys.{owner_key}
+use Rattle.dns_message.specs.declared.form_span.FormSpan.{FormSpan}
+use Rattle.dns_message.proofs.CanonBuilt.{parts_long}
+use Rattle.dns_message.proofs.FormLemmas.{record_put}
+use Rattle.dns_message.specs.CompressibleData.{PutsFields, kind_of}
+use Rattle.dns_message.specs.declared.compressible_data.CompressibleField.{CompressibleField}
+use Rattle.dns_message.specs.FormsRead.{AddsData, forms_of}
+use Rattle.dns_message.specs.Messages.{RecordValue}
+use Rattle.dns_message.specs.Order.{SortKey, sort_key}
+use Rattle.dns_message.specs.UnparsedRecords.{UnparsedValue, with_content}
+use Rattle.dns_message.proofs.CompressibleFields.{compressible_lowercased, compressible_not_opt}
+
+-- what a record with this data's canonical octets is compared by
+abbrev pub part_key : UnparsedValue → List ℕ → SortKey
+part_key r octets = record { owner = key r.owner; class = r.class; rtype = r.rtype; octets = octets; ttl = r.ttl }
+
+key_added : (r : RecordValue) (old new : List SortKey) → is_not_opt r ≡ true → new ≡ old ++ sort_key r ∷ [] → new ≡ old ++ forms_of (r ∷ [])
+key_added r old new is-not added = rw is-not added
+
+-- octets as data of whatever type
+pub raw_octets : (rtype : ℕ) (octets : List ℕ) → fields_octets (canonical_fields rtype (Raw octets ∷ [])) ≡ octets
+raw_octets rtype octets = by (is_lowercased rtype) where
+  by : (b : Bool) → fields_octets (cond b (map lowercased_field (Raw octets ∷ [])) (Raw octets ∷ [])) ≡ octets
+  by true = append-nil octets
+  by false = append-nil octets
+
+pub compressible_added : (r : UnparsedValue) (kinds : List CompressibleField) (contents : List ℕ) (start : ℕ) (body : List ℕ) (old new : List SortKey)
+    → is_compressible_type r.rtype ≡ true → map kind_of kinds ≡ rdata_format r.rtype → PutsFields (all_at contents (fields_in name_at (map kind_of kinds) contents start)) [] true body
+    → new ≡ old ++ part_key r body ∷ [] → AddsData old r (data_in name_at r.rtype contents start) (Some new)
+compressible_added r kinds contents start body old new is kinds-are put added =
+    let read = compressible_placed name_at r.rtype contents start ∙ (rw kinds-are at put.1) in
+    let lowered : canonical_fields r.rtype put.0 ≡ map lowercased_field put.0 = rw (compressible_lowercased r.rtype is) refl in
+    let octets : body ≡ fields_octets (canonical_fields r.rtype put.0) = put.2 ∙ ap fields_octets (sym lowered) in
+    let other : not (r.rtype == opt_number) ≡ true = ap not (compressible_not_opt r.rtype is) in
+    (put.0, read, key_added (with_content r put.0) old new other (added ∙ ap (λ (l : List ℕ). old ++ part_key r l ∷ []) octets))
+
+pub compressible_refused : (r : UnparsedValue) (kinds : List CompressibleField) (contents : List ℕ) (start : ℕ) (before body : List ℕ) (old : List SortKey)
+    → map kind_of kinds ≡ rdata_format r.rtype → PutsFields (all_at contents (fields_in name_at (map kind_of kinds) contents start)) before false body → AddsData old r (data_in name_at r.rtype contents start) None
+compressible_refused r kinds contents start before body old kinds-are none = compressible_placed name_at r.rtype contents start ∙ (rw kinds-are at none)
+
+-- no more octets than a size can say
+pub compressible_short : (rtype : ℕ) (kinds : List CompressibleField) (contents : List ℕ) (start : ℕ) (body : List ℕ) → length contents < start + 2 ^ 16
+    → map kind_of kinds ≡ rdata_format rtype → PutsFields (all_at contents (fields_in name_at (map kind_of kinds) contents start)) [] true body → length body < 2 ^ 16
+compressible_short rtype kinds contents start body few kinds-are put =
+    omega (arith, ap length put.2, lowercased_long put.0, data_short rtype contents start put.0 few (compressible_placed name_at rtype contents start ∙ (rw kinds-are at put.1)))
+
+-- data without such names, whose canonical octets are these
+pub plain_added : (r : UnparsedValue) (content : List Field) (body : List ℕ) (old new : List SortKey) → data_as plain_name r.rtype r.content ≡ Some content → (r.rtype == opt_number) ≡ false
+    → body ≡ fields_octets (canonical_fields r.rtype content) → new ≡ old ++ part_key r body ∷ [] → AddsData old r (data_as plain_name r.rtype r.content) (Some new)
+plain_added r content body old new read other octets added =
+    (content, read, key_added (with_content r content) old new (ap not other) (added ∙ ap (λ (l : List ℕ). old ++ part_key r l ∷ []) octets))
+
+-- the data's own octets, if the case of letters counts
+pub cased_octets : (rtype : ℕ) (octets : List ℕ) (content : List Field) → AreOctets octets → data_as plain_name rtype octets ≡ Some content → is_lowercased rtype ≡ false → octets ≡ fields_octets (canonical_fields rtype content)
+cased_octets rtype octets content are read cased = sym (data_spelled rtype octets content are read) ∙ sym (rw cased refl)
+
+-- nothing for a record of type OPT
+pub opt_added : (r : UnparsedValue) (content : List Field) (old : List SortKey) → data_as plain_name r.rtype r.content ≡ Some content → (r.rtype == opt_number) ≡ true → AddsData old r (data_as plain_name r.rtype r.content) (Some old)
+opt_added r content old read is = (content, read, sym (rw is (append-nil old)))
+
+-- ---- canonical parts one after another
+
+assoc : (before owner a b c d body : List ℕ) → ((before ++ owner) ++ (a ++ (b ++ (c ++ d)))) ++ body ≡ before ++ (owner ++ (a ++ (b ++ (c ++ (d ++ body)))))
+assoc before owner a b c d body =
+    append_assoc (before ++ owner) (a ++ (b ++ (c ++ d))) body
+    ∙ append_assoc before owner ((a ++ (b ++ (c ++ d))) ++ body)
+    ∙ ap (λ (l : List ℕ). before ++ (owner ++ l)) (
+    append_assoc a (b ++ (c ++ d)) body
+    ∙ ap (λ (l : List ℕ). a ++ l) (append_assoc b (c ++ d) body ∙ ap (λ (l : List ℕ). b ++ l) (append_assoc c d body))
+    )
+
+-- what was put after others for the parts of a record
+pub parts_put : (owner : List (List ℕ)) (rtype class ttl : ℕ) (body keys octets : List ℕ) (spans : List FormSpan) (more_keys more_octets : List ℕ) (more_spans : List FormSpan) (s : FormSpan)
+    → AreForms (forms_in spans octets) keys octets spans → IsName owner → lowered owner ≡ owner → length body < 2 ^ 16
+    → more_keys ≡ keys ++ owner_key owner → more_octets ≡ ((octets ++ wire owner) ++ (to_be_bytes w16 rtype ++ (to_be_bytes w16 class ++ (to_be_bytes w32 ttl ++ to_be_bytes w16 (length body))))) ++ body
+    → more_spans ≡ spans ++ s ∷ [] → s.owner_size ≡ length (wire owner) → s.size ≡ length (wire owner) + 10 + length body → s.class ≡ class → s.rtype ≡ rtype → s.ttl ≡ ttl
+    → (forms_in more_spans more_octets ≡ forms_in spans octets ++ record { owner = key owner; class = class; rtype = rtype; octets = body; ttl = ttl } ∷ []) × AreForms (forms_in more_spans more_octets) more_keys more_octets more_spans
+parts_put owner rtype class ttl body keys octets spans more_keys more_octets more_spans s so name low short keys-are octets-are spans-are owner_size-is size-is class-is rtype-is ttl-is =
+    let r : RecordValue = record { owner = owner; rtype = rtype; class = class; ttl = ttl; content = Raw body ∷ [] } in
+    let raw = raw_octets rtype body in
+    let whole : octets_of_parts (wire owner) rtype class ttl body ≡ canonical_wire r = λ i. octets_of_parts (wire (sym low i)) rtype class ttl (sym raw i) in
+    let long : length (canonical_wire r) ≡ length (wire owner) + (10 + length body) = ap length (sym whole) ∙ ap (λ (l : List (List ℕ)). length (octets_of_parts (wire l) rtype class ttl body)) (sym low) ∙ parts_long owner rtype class ttl body in
+    let put = record_put r keys octets spans more_keys more_octets more_spans s so name (omega (arith, long, short, name.size)) keys-are
+    (octets-are ∙ assoc octets (wire owner) (to_be_bytes w16 rtype) (to_be_bytes w16 class) (to_be_bytes w32 ttl) (to_be_bytes w16 (length body)) body ∙ ap (λ (l : List ℕ). octets ++ l) whole)
+    spans-are owner_size-is (omega (arith, size-is, long)) class-is rtype-is ttl-is in
+    (put.0 ∙ ap (λ (l : List ℕ). forms_in spans octets ++ record { owner = key owner; class = class; rtype = rtype; octets = l; ttl = ttl } ∷ []) raw, put.1)

@@ -1,0 +1,88 @@
+//! The owner that was read last.
+
+ghost use Rattle.std.specs.Prelude.{◌≡◌, ◌≤◌, ◌<◌, ◌+◌, ◌-◌, drop, length, take, IfOk, IsTrue};
+ghost use Rattle.dns_wire.specs.Names.{name_labels};
+ghost use Rattle.dns_wire.specs.Octets.{Labels};
+ghost use Rattle.dns_message.specs.Owners.{HasOwner, ReadsOwner, WasRead};
+
+use crate::canonical_owner::CanonicalOwner;
+use crate::item_reader::ItemReader;
+use crate::owner_key::put_owner_key;
+use dns_name::Name;
+use std::alloc::{AllocError, Global};
+
+/// The canonical octets and the key of the owner that was read last, and the place where it was read. Owners often repeat that of the record
+/// before, octet by octet, and are then not read again.
+#[derive(Drop)]
+pub(crate) struct LastOwner {
+    start: usize,
+    end: usize,
+    size: usize,
+    octets: [u8; Name::MAX_SIZE],
+    key: [u8; Name::MAX_SIZE],
+}
+
+impl LastOwner {
+    /// No owner was read.
+    pub(crate) fn none() -> LastOwner
+        ensures { result.end ≡ 0 }
+    {
+        LastOwner {
+            start: 0,
+            end: 0,
+            size: 0,
+            octets: [0; Name::MAX_SIZE],
+            key: [0; Name::MAX_SIZE],
+        }
+    }
+
+    /// The owner in canonical form.
+    pub(crate) fn owner(&self) -> CanonicalOwner<'_>
+        requires { (labels : Labels) × HasOwner self.now labels }
+        ensures { result ≡ name_labels (take self.now.size self.now.octets) }
+    {
+        CanonicalOwner::new(&self.octets[..self.size], &self.key[..self.size])
+    }
+
+    /// Whether the octets that the owner was read from are at a place too that is not before them.
+    fn is_repeated(&self, contents: &[u8], start: usize) -> bool
+        requires { self.now.start < self.now.end → self.now.end ≤ length contents.now }
+        ensures some { IsTrue result → self.now.start < self.now.end }
+        ensures after { IsTrue result → self.now.start ≤ start }
+        ensures same { IsTrue result → take (self.now.end - self.now.start) (drop start contents.now) ≡ take (self.now.end - self.now.start) (drop self.now.start contents.now) }
+        ensures within { IsTrue result → start + (self.now.end - self.now.start) ≤ length contents.now }
+    {
+        if self.end <= self.start || start < self.start || contents.len() < start {
+            return false;
+        }
+        contents[start..].starts_with(&contents[self.start..self.end])
+    }
+
+    /// Reads the owner at a place, and gives the place where it ends; `None` exactly if no name is there. `AllocError` is out of memory.
+    pub(crate) fn read(
+        &mut self,
+        alloc: Global,
+        items: &mut ItemReader<'_>,
+        start: usize,
+    ) -> Result<Option<usize>, AllocError>
+        requires { WasRead items.old self.old }
+        ensures read { IfOk result (λ found. ReadsOwner items.old start found self.new) }
+        ensures unchanged { items.new ≡ items.old }
+    {
+        let contents = items.contents();
+        if self.is_repeated(contents, start) {
+            self.end = start + (self.end - self.start);
+            self.start = start;
+            return Ok(Some(self.end));
+        }
+        let room = &mut self.octets;
+        let Some(span) = items.read_canonical_name(alloc, start, contents.len(), room)? else {
+            return Ok(None);
+        };
+        put_owner_key(&self.octets[..span.size], &mut self.key);
+        self.start = start;
+        self.end = span.end;
+        self.size = span.size;
+        Ok(Some(span.end))
+    }
+}
