@@ -1,7 +1,7 @@
 -- Fields that are read one after another, and put in canonical form.
 use Rattle.std.proofs.Common.{◌≡◌, ℕ, suc, ◌+◌, ◌<◌, ◌≤◌, Bool, true, false, List, [], ◌∷◌, ◌++◌, length, map, drop, get_or, Option, Some, None, append-nil, append_assoc, refl, sym, ap, ◌∙◌, arith}
 use Rattle.std.specs.Prelude.{◌==◌, ◌||◌}
-use Rattle.std.proofs.lemmas.Bool.{eqb-true}
+use Rattle.std.proofs.lemmas.Bool.{eqb-true, or_left}
 use Rattle.std.proofs.lemmas.List.{drop_all}
 use Rattle.std.proofs.Math.Seq.{drop-cons}
 use Rattle.dns_wire.specs.Pointers.{name_at}
@@ -85,13 +85,9 @@ read_all contents start kinds old count at new end b so all-read long is = by b 
 
 -- ---- types
 
-first : (a b : Bool) → a ≡ true → (a || b) ≡ true
-first true b is = refl
-first false b is = absurd cc
-
 -- names count without regard to ASCII case in data of such types
 pub compressible_lowercased : (n : ℕ) → is_compressible_type n ≡ true → is_lowercased n ≡ true
-compressible_lowercased n is = first ((is_compressible_type n || n == 33) || n == 39) (n == 46) (first (is_compressible_type n || n == 33) (n == 39) (first (is_compressible_type n) (n == 33) is))
+compressible_lowercased n is = or_left ((is_compressible_type n || n == 33) || n == 39) (n == 46) (or_left (is_compressible_type n || n == 33) (n == 39) (or_left (is_compressible_type n) (n == 33) is))
 
 -- none of them is OPT
 pub compressible_not_opt : (n : ℕ) → is_compressible_type n ≡ true → (n == opt_number) ≡ false

@@ -1,5 +1,5 @@
 -- Owners in canonical form (RFC 4034 section 6.2), and the one that was read last.
-use Rattle.std.specs.Prelude.{◌≡◌, ◌<◌, ℕ, length, take, Option, Some, None}
+use Rattle.std.specs.Prelude.{◌≡◌, ◌<◌, ◌≤◌, ◌+◌, ◌-◌, ℕ, drop, length, take, Option, Some, None}
 use Rattle.dns_wire.specs.Octets.{Octets, Labels}
 use Rattle.dns_wire.specs.Names.{IsName, lowered, wire}
 use Rattle.dns_wire.specs.Pointers.{name_at}
@@ -21,6 +21,11 @@ IsOwnerAt contents start end o = (labels : Labels) × (name_at contents start �
 -- if an owner was read, it is the name at its place
 abbrev pub WasRead : Octets → LastOwner → Type 0
 WasRead contents o = o.start < o.end → IsOwnerAt contents o.start o.end o
+
+-- an owner was read, at the place or before it, and its octets are at the place too
+abbrev pub IsRepeated : Octets → ℕ → LastOwner → Type 0
+IsRepeated contents start o =
+    (o.start < o.end) × (o.start ≤ start) × (start + (o.end - o.start) ≤ length contents) × (take (o.end - o.start) (drop start contents) ≡ take (o.end - o.start) (drop o.start contents))
 
 -- what is read as an owner, up to its end
 abbrev pub ReadsOwner : Octets → ℕ → Option ℕ → LastOwner → Type 0

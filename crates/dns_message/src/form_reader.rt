@@ -8,7 +8,6 @@ ghost use Rattle.dns_record.specs.Data.{data_as, data_in};
 ghost use Rattle.dns_wire.specs.Reading.{AreOctets};
 ghost use Rattle.dns_record.specs.Formats.{rdata_format};
 ghost use Rattle.dns_record.specs.Records.{record_in};
-ghost use Rattle.dns_record.specs.Types.{is_lowercased};
 ghost use Rattle.dns_rdata.specs.Compressible.{is_compressible_type};
 ghost use Rattle.dns_rdata.specs.Plain.{is_uncompressed_type};
 ghost use Rattle.dns_message.specs.CompressibleData.{kind_of};
@@ -54,24 +53,6 @@ impl<'a> FormReader<'a> {
             data: Vec::new(alloc),
         }
     }
-}
-
-/// Whether names count without regard to ASCII case in data of the type (RFC 4034 section 6.2, RFC 6840 section 5.1).
-fn is_lowercased(rtype: RType) -> bool
-    ensures { result ≡ is_lowercased rtype.code.value }
-{
-    matches!(
-        rtype,
-        RType::NS
-            | RType::CNAME
-            | RType::SOA
-            | RType::PTR
-            | RType::MX
-            | RType::RP
-            | RType::SRV
-            | RType::DNAME
-            | RType::RRSIG
-    )
 }
 
 /// Puts the form of a record whose data end at a place of the message after the forms, if its fields can be read there. `AllocError` is out
@@ -135,7 +116,7 @@ fn with_uncompressed(
     if rtype == RType::OPT {
         return Ok(Some(forms));
     }
-    if !is_lowercased(rtype) {
+    if !rtype.uses_lowercase_canonical_form() {
         let more = forms.with_canonical(owner.owner(), rtype, rclass, ttl, octets)?;
         return Ok(Some(more));
     }

@@ -1,9 +1,9 @@
 //! The owner that was read last.
 
-ghost use Rattle.std.specs.Prelude.{◌≡◌, ◌≤◌, ◌<◌, ◌+◌, ◌-◌, drop, length, take, IfOk, IsTrue};
+ghost use Rattle.std.specs.Prelude.{◌≡◌, ◌≤◌, ◌<◌, length, take, IfOk, IsTrue};
 ghost use Rattle.dns_wire.specs.Names.{name_labels};
 ghost use Rattle.dns_wire.specs.Octets.{Labels};
-ghost use Rattle.dns_message.specs.Owners.{HasOwner, ReadsOwner, WasRead};
+ghost use Rattle.dns_message.specs.Owners.{HasOwner, IsRepeated, ReadsOwner, WasRead};
 
 use crate::canonical_owner::CanonicalOwner;
 use crate::item_reader::ItemReader;
@@ -44,13 +44,11 @@ impl LastOwner {
         CanonicalOwner::new(&self.octets[..self.size], &self.key[..self.size])
     }
 
-    /// Whether the octets that the owner was read from are at a place too that is not before them.
+    /// Whether an owner was read, at this place or before it, and the octets that it was read from are at this place too.
     fn is_repeated(&self, contents: &[u8], start: usize) -> bool
         requires { self.now.start < self.now.end → self.now.end ≤ length contents.now }
-        ensures some { IsTrue result → self.now.start < self.now.end }
-        ensures after { IsTrue result → self.now.start ≤ start }
-        ensures same { IsTrue result → take (self.now.end - self.now.start) (drop start contents.now) ≡ take (self.now.end - self.now.start) (drop self.now.start contents.now) }
-        ensures within { IsTrue result → start + (self.now.end - self.now.start) ≤ length contents.now }
+        ensures repeated { IsTrue result → IsRepeated contents.now start self.now }
+        ensures other { IsRepeated contents.now start self.now → IsTrue result }
     {
         if self.end <= self.start || start < self.start || contents.len() < start {
             return false;

@@ -13,11 +13,11 @@ use Rattle.dns_message.proofs.LastOwners.{lowered_key, owner_labels}
 use Rattle.dns_message.proofs.PartsAdded.{cased_octets, plain_added}
 use Rattle.dns_message.proofs.form_reader.with_uncompressed.Goals as goal
 
-pub returns-then-not-is_lowercased : goal.returns-then-not-is_lowercased
-returns-then-not-is_lowercased c = λ labels has.
+pub returns-then-not-uses_lowercase_canonical_form : goal.returns-then-not-uses_lowercase_canonical_form
+returns-then-not-uses_lowercase_canonical_form c = λ labels has.
     let parts = c.args.parts.now in
     let read = rw c.octets-octets.ensures.octets at c.in-Ok.ensures.exact in
-    let cased = sym c.is_lowercased.ensures ∙ c.if-not-is_lowercased.true in
+    let cased = sym c.uses_lowercase_canonical_form.ensures ∙ c.if-not-uses_lowercase_canonical_form.true in
     let owner = ap key (c.owner.ensures ∙ owner_labels c.args.owner.now labels has) ∙ lowered_key labels in
     plain_added (parts_value labels parts) _ parts.rdata.octets.now c.args.forms c.in_ok-more.more read (sym c.eq.ensures ∙ c.if-eq.false) (cased_octets parts.rtype.code.value parts.rdata.octets.now _ c.requires.octets read cased)
     (c.in_ok-more.ensures

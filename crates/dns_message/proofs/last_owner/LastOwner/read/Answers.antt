@@ -13,10 +13,9 @@ pub returns-then-is_repeated-clause-read : goal.returns-then-is_repeated-clause-
 returns-then-is_repeated-clause-read c =
     let o = c.args.self.now in
     let items = c.args.items.now in
-    let repeated = c.if-is_repeated.true in
-    let was = c.requires (c.is_repeated.ensures.some repeated) in
-    let there = name_later items o.start c.args.start was.0 o.end was.1 (c.is_repeated.ensures.after repeated)
-    (rw c.contents-contents.ensures.value at (c.is_repeated.ensures.within repeated)) (rw c.contents-contents.ensures.value at (c.is_repeated.ensures.same repeated)) in
+    let repeated = rw c.contents-contents.ensures.value at (c.is_repeated.ensures.repeated c.if-is_repeated.true) in
+    let was = c.requires repeated.0 in
+    let there = name_later items o.start c.args.start was.0 o.end was.1 repeated.1 repeated.2 repeated.3 in
     (λ _. (was.0, there, was.2), (was.0, there, was.2))
 
 pub put_owner_key-requires-clause-name : goal.put_owner_key-requires-clause-name
