@@ -91,6 +91,11 @@ move_work() {
     done
 }
 
+# Libraries are some hundred megabytes each, and rt replaces their files but never writes into them: links do, where the system has them.
+link_all() {
+    cp -Rl "$1" "$2" 2>/dev/null || { rm -rf "${2:?}/${1##*/}" && cp -R "$1" "$2"; }
+}
+
 # rt works on a crate, and on those below it, for one caller at a time. So each crate is proved in a room of its own: a copy
 # of the sources and of the libraries below, and the crate's own earlier work.
 furnish() {
@@ -103,7 +108,7 @@ furnish() {
             [ ! -d "$crate/$part" ] || cp -R "$crate/$part" "$room" || return 1
         done
         has "$name" "$(below "$1")" || continue
-        mkdir "$room/out" && cp -R "$crate/out/rlib" "$room/out" || return 1
+        mkdir "$room/out" && link_all "$crate/out/rlib" "$room/out" || return 1
     done
     mkdir "$rooms/$1/crates/$1/out" && move_work "$crates/$1/out" "$rooms/$1/crates/$1/out"
 }

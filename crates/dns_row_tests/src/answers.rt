@@ -1,7 +1,7 @@
 //! What a run answers.
 
 use crate::fields::words_of;
-use crate::libraries::{Devices, Library, ending_of};
+use crate::libraries::{Library, ending_of};
 use dns_wire::{TextSink, TextSource};
 use std::alloc::{AllocError, Global};
 use std::io;
@@ -54,12 +54,7 @@ pub(crate) fn answer_over(
     let mut source = TextSource::new(text, faults.piece.max(1), &reads);
     let mut sink = TextSink::new(&mut room, 40, &writes);
     let mut notes = TextSink::new(&mut line, 7, &notes_calls);
-    let devices = Devices {
-        source: &mut source,
-        sink: &mut sink,
-        notes: &mut notes,
-    };
-    let status = ending_of(alloc, library, words, devices)?;
+    let status = ending_of(alloc, library, words, &mut source, &mut sink, &mut notes)?;
     Ok(Answer {
         status,
         is_flushed: sink.flushed(),

@@ -33,33 +33,54 @@ impl Library {
     }
 }
 
-/// The devices in memory of a run.
-#[derive(Drop)]
-pub(crate) struct Devices<'a, 'b> {
-    pub(crate) source: &'a mut TextSource<'b>,
-    pub(crate) sink: &'a mut TextSink<'b>,
-    pub(crate) notes: &'a mut TextSink<'b>,
+fn canon_status(
+    alloc: Global,
+    words: &Words,
+    source: &mut TextSource<'_>,
+    sink: &mut TextSink<'_>,
+    notes: &mut TextSink<'_>,
+) -> Status {
+    run(alloc, words, source, sink, notes)
 }
 
-fn canon_status(alloc: Global, words: Vec<String>, devices: Devices<'_, '_>) -> Status {
-    let words = Words::new(words);
-    run(alloc, &words, devices.source, devices.sink, devices.notes)
+fn zone_status(
+    alloc: Global,
+    args: &Args,
+    source: &mut TextSource<'_>,
+    sink: &mut TextSink<'_>,
+    notes: &mut TextSink<'_>,
+) -> ZoneStatus {
+    run_zone(alloc, args, source, sink, notes)
 }
 
-fn zone_status(alloc: Global, args: &Args, devices: Devices<'_, '_>) -> ZoneStatus {
-    run_zone(alloc, args, devices.source, devices.sink, devices.notes)
+fn normal_status(
+    alloc: Global,
+    args: &Args,
+    source: &mut TextSource<'_>,
+    sink: &mut TextSink<'_>,
+    notes: &mut TextSink<'_>,
+) -> NormalStatus {
+    run_normal(alloc, args, source, sink, notes)
 }
 
-fn normal_status(alloc: Global, args: &Args, devices: Devices<'_, '_>) -> NormalStatus {
-    run_normal(alloc, args, devices.source, devices.sink, devices.notes)
+fn denial_status(
+    alloc: Global,
+    args: &Args,
+    source: &mut TextSource<'_>,
+    sink: &mut TextSink<'_>,
+    notes: &mut TextSink<'_>,
+) -> DenialStatus {
+    run_denial(alloc, args, source, sink, notes)
 }
 
-fn denial_status(alloc: Global, args: &Args, devices: Devices<'_, '_>) -> DenialStatus {
-    run_denial(alloc, args, devices.source, devices.sink, devices.notes)
-}
-
-fn lines_status(alloc: Global, args: &Args, devices: Devices<'_, '_>) -> LinesStatus {
-    run_lines(alloc, args, devices.source, devices.sink, devices.notes)
+fn lines_status(
+    alloc: Global,
+    args: &Args,
+    source: &mut TextSource<'_>,
+    sink: &mut TextSink<'_>,
+    notes: &mut TextSink<'_>,
+) -> LinesStatus {
+    run_lines(alloc, args, source, sink, notes)
 }
 
 /// A status as text, and its code.
@@ -67,32 +88,34 @@ fn shown(alloc: Global, status: &impl Debug, code: u8) -> Result<String, AllocEr
     format!(in alloc; "{status:?}, {code}")
 }
 
-/// How a run of a library ends for words, as text.
+/// How a run of a library over devices in memory ends for words, as text.
 pub(crate) fn ending_of(
     alloc: Global,
     library: Library,
     words: Vec<String>,
-    devices: Devices<'_, '_>,
+    source: &mut TextSource<'_>,
+    sink: &mut TextSink<'_>,
+    notes: &mut TextSink<'_>,
 ) -> Result<String, AllocError> {
     match library {
         Library::Canon => {
-            let status = canon_status(alloc, words, devices);
+            let status = canon_status(alloc, &Words::new(words), source, sink, notes);
             shown(alloc, &status, status.code())
         }
         Library::Zone => {
-            let status = zone_status(alloc, &Args::new(words), devices);
+            let status = zone_status(alloc, &Args::new(words), source, sink, notes);
             shown(alloc, &status, status.code())
         }
         Library::Normal => {
-            let status = normal_status(alloc, &Args::new(words), devices);
+            let status = normal_status(alloc, &Args::new(words), source, sink, notes);
             shown(alloc, &status, status.code())
         }
         Library::Denial => {
-            let status = denial_status(alloc, &Args::new(words), devices);
+            let status = denial_status(alloc, &Args::new(words), source, sink, notes);
             shown(alloc, &status, status.code())
         }
         Library::Lines => {
-            let status = lines_status(alloc, &Args::new(words), devices);
+            let status = lines_status(alloc, &Args::new(words), source, sink, notes);
             shown(alloc, &status, status.code())
         }
     }

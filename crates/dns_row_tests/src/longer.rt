@@ -46,11 +46,7 @@ fn with_shortest(
 }
 
 /// The answer to the words for a text with that many of the shortest records after it.
-fn shortest_answer(
-    alloc: Global,
-    row: Row<'_>,
-    records: Shortest,
-) -> Result<Answer, AllocError> {
+fn shortest_answer(alloc: Global, row: Row<'_>, records: Shortest) -> Result<Answer, AllocError> {
     let count = (number_of(row.third) % 65_536) as u16;
     let text = with_shortest(alloc, row.second, records, count)?;
     answer_to(alloc, Library::named(row.library), row.first, &text)
