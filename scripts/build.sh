@@ -97,7 +97,7 @@ link_all() {
 }
 
 # rt works on a crate, and on those below it, for one caller at a time. So each crate is proved in a room of its own: a copy
-# of the sources and of the libraries below, and the crate's own earlier work.
+# of the sources, links to the libraries below, and the crate's own earlier work.
 furnish() {
     mkdir "$rooms/$1" "$rooms/$1/crates" && cp "$list" "$crates/../HANDLES" "$rooms/$1" || return 1
     for crate in "$crates"/*; do
