@@ -73,6 +73,26 @@ def canon_of_each(folder, count):
     return total / count - instructions([str(CANON), "canon"], path)
 
 
+def parts_of(path, count):
+    """The lines of the file in that many files of about the same size."""
+    subprocess.run(["split", "-n", f"l/{count}", path, f"{path}.of{count}."], check=True)
+    return sorted(map(str, path.parent.glob(f"{path.name}.of{count}.??")))
+
+
+def over_parts(command, parts):
+    """The command over each part, with its output in a file beside the part: as many processes as parts, under parallel if there are several."""
+    each = f"{' '.join(command)} < {{}} > {{}}.out"
+    if len(parts) == 1:
+        return ["sh", "-c", each.format(parts[0], parts[0])]
+    return ["parallel", "--jobs", str(len(parts)), each, ":::", *parts]
+
+
+def are_joined(parts, whole):
+    """Whether the outputs of the parts are one after another that of the whole."""
+    outputs = " ".join(f"{part}.out" for part in parts)
+    return subprocess.run(f"cat {outputs} | cmp - {whole}.out", shell=True).returncode == 0
+
+
 def output(command, path):
     with open(path, "rb") as text:
         return subprocess.run(command, stdin=text, stdout=subprocess.PIPE, check=True).stdout
@@ -80,7 +100,7 @@ def output(command, path):
 
 def main():
     options = argparse.ArgumentParser()
-    options.add_argument("--lines", type=int, default=100_000)
+    options.add_argument("--lines", type=int, default=1_000_000)
     options.add_argument("--runs", type=int, default=5)
     chosen = options.parse_args()
     with tempfile.TemporaryDirectory() as text_folder:
@@ -88,7 +108,7 @@ def main():
         ldns = folder / "lines_with_ldns"
         subprocess.run(["gcc", "-O2", "-o", ldns, HERE / "lines_with_ldns.c", "-lldns"], check=True)
         python = ["/usr/bin/python3", str(HERE / "lines_with_dnspython.py")]
-        few, many, thousand, million = (folder / part for part in ("few", "many", "thousand", "million"))
+        few, many, thousand, hundred_thousand, million = (folder / part for part in ("few", "many", "thousand", "hundred_thousand", "million"))
         replies(1, few)
         replies(chosen.lines, many)
         replies(1_000, thousand)
@@ -106,18 +126,20 @@ def main():
             each = for_each_line([str(LINES), word], few, thousand, 1_000)
             print(f", {word} {each:.0f} ({each / canon:.2f} of canon)", end="")
         print()
-        print("| program | processes | seconds | messages a second | MiB |\n|---|---|---|---|---|")
+        print("| program | processes | seconds | messages a second | to one process |\n|---|---|---|---|---|")
+        divided = [[str(many)], parts_of(many, 2), parts_of(many, 4)]
         for word in ("normal", "digest"):
-            for jobs in (1, 2, 4):
-                one = [str(LINES), word]
-                parts = ["parallel", "--pipepart", "--keep-order", "--block", "-1", "--jobs", str(jobs), "-a", str(many), *one]
-                command = one if jobs == 1 else parts
-                seconds, held = min(run(command, many) for _ in range(chosen.runs))
-                memory = f"{held:.0f}" if jobs == 1 else "-"
-                print(f"| `dnslines {word}` | {jobs} | {seconds:.2f} | {chosen.lines / seconds:,.0f} | {memory} |")
-        for said, command, path, lines in (("ldns", [str(ldns)], many, chosen.lines), ("dnspython", python, thousand, 1_001)):
+            for parts in divided:
+                command = over_parts([str(LINES), word], parts)
+                seconds = min(run(command, os.devnull)[0] for _ in range(chosen.runs))
+                if not are_joined(parts, many):
+                    raise SystemExit(f"{len(parts)} processes wrote something else than one")
+                alone = seconds if len(parts) == 1 else alone
+                print(f"| `dnslines {word}` | {len(parts)} | {seconds:.2f} | {chosen.lines / seconds:,.0f} | {alone / seconds:.2f} |")
+        replies(100_000, hundred_thousand)
+        for said, command, path, lines in (("ldns", [str(ldns)], hundred_thousand, 100_000), ("dnspython", python, thousand, 1_001)):
             seconds, held = min(run(command, path) for _ in range(chosen.runs))
-            print(f"| {said} | 1 | {seconds:.2f} | {lines / seconds:,.0f} | {held:.0f} |")
+            print(f"| {said} | 1 | {seconds:.2f} | {lines / seconds:,.0f} | {held:.0f} MiB |")
         replies(1_000_000, million)
         for word in ("normal", "digest"):
             print(f"memory of {word}: {run([str(LINES), word], thousand)[1]:.1f} MiB for a thousand lines, "

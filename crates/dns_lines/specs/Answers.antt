@@ -57,6 +57,14 @@ IsAnswerAs command text (Some note) answer = answer ≡ marked note
 abbrev pub IsAnswer : LineCommand → Octets → Octets → Type 0
 IsAnswer command text answer = IsAnswerAs command text (refusal_line command text) answer
 
+-- what is printed has been added to answers
+abbrev pub AddsPrinted : LineCommand → Octets → Octets → Octets → Type 0
+AddsPrinted command text old new = (printed : Octets) × PrintsFor command text printed × (new ≡ old ++ printed)
+
+-- the answer to a line has been added to others
+abbrev pub AddsAnswer : LineCommand → Octets → Octets → Octets → Type 0
+AddsAnswer command text old new = (answer : Octets) × IsAnswer command text answer × (new ≡ old ++ answer)
+
 -- an answer for each line, in their order
 abbrev pub AreAnswers : LineCommand → List Octets → List Octets → Type 0
 AreAnswers command [] [] = ⊤

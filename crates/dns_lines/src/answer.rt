@@ -4,30 +4,49 @@ ghost use Rattle.std.specs.Prelude.{◌≡◌, ◌≤◌, ◌++◌, None, IfOk, 
 ghost use Rattle.dns_wire.specs.Octets.{Octets};
 ghost use Rattle.dns_text.specs.Outcomes.{RefusesFor};
 ghost use Rattle.dns_normal.specs.Texts.{normal_note};
-ghost use Rattle.dns_lines.specs.Answers.{IsAnswer, PrintsFor, marked, refusal_for};
+ghost use Rattle.dns_lines.specs.Answers.{AddsAnswer, AddsPrinted, marked, refusal_for};
 
 use crate::command::LineCommand;
-use crate::digest::digest_line;
+use crate::digest::add_digest;
 use crate::line::LINE_LIMIT;
 use crate::note::NoteSink;
-use dns_normal::{Normal, Refusal};
-use dns_text::{PrintError, TextCommand};
+use dns_normal::{Normal, Refusal, TextReader};
+use dns_text::{PrintError, TextCommand, push_hex_line};
 use std::alloc::{AllocError, Global};
 
-/// What the command prints for the message in a line.
-fn print_for(
+/// Adds the normal form of the message in a line, in hexadecimal digits, and LF to answers.
+fn add_normal_form(
+    alloc: Global,
+    reader: &mut TextReader,
+    line: &[u8],
+    answers: &mut Vec<u8>,
+) -> Result<(), PrintError<Refusal>>
+    ensures added { OnOk result (AddsPrinted LineCommand.Normal line.now answers.old.items answers.new.items) }
+    ensures accepted { OnOk result (refusal_for LineCommand.Normal line.now ≡ None) }
+    ensures refused { IfErr result (RefusesFor (refusal_for LineCommand.Normal line.now)) }
+    ensures unchanged { OnErr result (answers.new.items ≡ answers.old.items) }
+{
+    let form = reader.read_normal_form(alloc, line)?;
+    push_hex_line(&form, answers)?;
+    Ok(())
+}
+
+/// Adds what the command prints for the message in a line to answers.
+fn add_printed(
     alloc: Global,
     command: LineCommand,
+    reader: &mut TextReader,
     line: &[u8],
-) -> Result<Vec<u8>, PrintError<Refusal>>
-    requires { length line.now ≤ LINE_LIMIT }
-    ensures printed { IfOk result (λ printed. PrintsFor command line.now printed.items) }
-    ensures accepted { IfOk result (λ _. refusal_for command line.now ≡ None) }
+    answers: &mut Vec<u8>,
+) -> Result<(), PrintError<Refusal>>
+    ensures added { OnOk result (AddsPrinted command line.now answers.old.items answers.new.items) }
+    ensures accepted { OnOk result (refusal_for command line.now ≡ None) }
     ensures refused { IfErr result (RefusesFor (refusal_for command line.now)) }
+    ensures unchanged { OnErr result (answers.new.items ≡ answers.old.items) }
 {
     match command {
-        LineCommand::Normal => Normal.print(alloc, line),
-        LineCommand::Digest => digest_line(alloc, line),
+        LineCommand::Normal => add_normal_form(alloc, reader, line, answers),
+        LineCommand::Digest => add_digest(alloc, reader, line, answers),
     }
 }
 
@@ -42,34 +61,25 @@ fn refusal_line(alloc: Global, refused: Refusal) -> Result<Vec<u8>, AllocError>
     }
 }
 
-/// The answer to a line. `AllocError` is out of memory.
-pub(crate) fn answer_to(
-    alloc: Global,
-    command: LineCommand,
-    line: &[u8],
-) -> Result<Vec<u8>, AllocError>
-    ensures { IfOk result (λ answer. IsAnswer command line.now answer.items) }
-{
-    if line.len() > LINE_LIMIT {
-        return Vec::from_slice(alloc, b"! too long\n");
-    }
-    match print_for(alloc, command, line) {
-        Ok(printed) => Ok(printed),
-        Err(PrintError::Refused(refused)) => refusal_line(alloc, refused),
-        Err(PrintError::Memory) => Err(AllocError),
-    }
-}
-
 /// Adds the answer to a line to others. `AllocError` is out of memory, and adds nothing.
 pub(crate) fn add_answer(
     alloc: Global,
     command: LineCommand,
+    reader: &mut TextReader,
     line: &[u8],
     answers: &mut Vec<u8>,
 ) -> Result<(), AllocError>
-    ensures added { OnOk result ((answer : Octets) × IsAnswer command line.now answer × (answers.new.items ≡ answers.old.items ++ answer)) }
+    ensures added { OnOk result (AddsAnswer command line.now answers.old.items answers.new.items) }
     ensures unchanged { OnErr result (answers.new.items ≡ answers.old.items) }
 {
-    let answer = answer_to(alloc, command, line)?;
-    answers.extend_from_slice(&answer)
+    if line.len() > LINE_LIMIT {
+        return answers.extend_from_slice(b"! too long\n");
+    }
+    match add_printed(alloc, command, reader, line, answers) {
+        Ok(()) => Ok(()),
+        Err(PrintError::Refused(refused)) => {
+            answers.extend_from_slice(&refusal_line(alloc, refused)?)
+        }
+        Err(PrintError::Memory) => Err(AllocError),
+    }
 }

@@ -1,24 +1,30 @@
 //! The digest of a message's records.
 
-ghost use Rattle.std.specs.Prelude.{◌≡◌, None, IfOk, IfErr};
+ghost use Rattle.std.specs.Prelude.{◌≡◌, None, IfErr, OnOk, OnErr};
 ghost use Rattle.dns_text.specs.Outcomes.{RefusesFor};
-ghost use Rattle.dns_lines.specs.Answers.{PrintsDigest, digest_refusal};
+ghost use Rattle.dns_lines.specs.Answers.{AddsPrinted, digest_refusal};
 
-use dns_normal::{Refusal, forms_in, message_of};
-use dns_text::{PrintError, hex_line};
+use crate::command::LineCommand;
+use dns_normal::{Refusal, TextReader};
+use dns_text::{PrintError, push_hex_line};
 use dns_zone::digest_of;
 use std::alloc::Global;
 
-/// The SHA-384 digest of the canonical octets of a message's records other than OPT, in canonical order and alike ones once (RFC 4034
-/// section 6), in hexadecimal digits, and LF.
-pub(crate) fn digest_line(alloc: Global, text: &[u8]) -> Result<Vec<u8>, PrintError<Refusal>>
-    ensures printed { IfOk result (λ printed. PrintsDigest text.now printed.items) }
-    ensures accepted { IfOk result (λ _. digest_refusal text.now ≡ None) }
-    ensures refused { IfErr result (RefusesFor (digest_refusal text.now)) }
+/// Adds the SHA-384 digest of the canonical octets of a message's records other than OPT, in canonical order and alike ones once (RFC 4034
+/// section 6), in hexadecimal digits, and LF to answers.
+pub(crate) fn add_digest(
+    alloc: Global,
+    reader: &mut TextReader,
+    line: &[u8],
+    answers: &mut Vec<u8>,
+) -> Result<(), PrintError<Refusal>>
+    ensures added { OnOk result (AddsPrinted LineCommand.Digest line.now answers.old.items answers.new.items) }
+    ensures accepted { OnOk result (digest_refusal line.now ≡ None) }
+    ensures refused { IfErr result (RefusesFor (digest_refusal line.now)) }
+    ensures unchanged { OnErr result (answers.new.items ≡ answers.old.items) }
 {
-    let message = message_of(alloc, text)?;
-    let forms = forms_in(alloc, &message)?;
+    let forms = reader.read_forms(alloc, line)?;
     let order = forms.collapsed(alloc)?;
-    let printed = hex_line(alloc, &digest_of(&order))?;
-    Ok(printed)
+    push_hex_line(&digest_of(&order), answers)?;
+    Ok(())
 }

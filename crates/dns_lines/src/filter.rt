@@ -7,19 +7,24 @@ ghost use Rattle.dns_lines.specs.Lines.{IsLine};
 ghost use Rattle.dns_lines.specs.Pieces.{AnswersFront, AnswersPiece, EndsWith, IsLastAnswer};
 ghost use Rattle.dns_lines.specs.Runs.{Ended};
 
-use crate::answer::{add_answer, answer_to};
+use crate::answer::add_answer;
 use crate::command::LineCommand;
 use crate::line::{KEPT_OCTETS, extend_line, split_line};
 use crate::status::LinesStatus;
-use dns_text::{READ_CHUNK, put_text};
+use dns_normal::TextReader;
+use dns_text::put_text;
 use dns_wire::{Sink, Source};
 use std::alloc::{AllocError, Global};
+
+/// The most octets of one read.
+const READ_SIZE: usize = 65_536;
 
 /// Adds the answers to the lines that an LF in the piece ends, of which the first may have begun before it, and keeps what comes after
 /// the last LF. `AllocError` is out of memory; the answers to some of the lines are then added.
 fn answer_piece(
     alloc: Global,
     command: LineCommand,
+    reader: &mut TextReader,
     piece: &[u8],
     line: &mut Vec<u8>,
     answers: &mut Vec<u8>,
@@ -34,7 +39,7 @@ fn answer_piece(
     let mut rest = piece;
     while let Some((end, more)) = split_line(rest) {
         extend_line(line, end)?;
-        add_answer(alloc, command, line, answers)?;
+        add_answer(alloc, command, reader, line, answers)?;
         line.clear();
         rest = more;
     }
@@ -42,19 +47,27 @@ fn answer_piece(
 }
 
 /// The answer to what comes after the last LF, if that is a line. `AllocError` is out of memory.
-fn last_answer(alloc: Global, command: LineCommand, line: &[u8]) -> Result<Vec<u8>, AllocError>
+fn last_answer(
+    alloc: Global,
+    command: LineCommand,
+    reader: &mut TextReader,
+    line: &[u8],
+) -> Result<Vec<u8>, AllocError>
     ensures { (rest : Octets) → line.now ≡ take KEPT_OCTETS rest → IfOk result (λ answer. IsLastAnswer command rest answer.items) }
 {
+    let mut answer = Vec::new(alloc);
     if line.is_empty() {
-        return Ok(Vec::new(alloc));
+        return Ok(answer);
     }
-    answer_to(alloc, command, line)
+    add_answer(alloc, command, reader, line, &mut answer)?;
+    Ok(answer)
 }
 
 /// Writes the answer to what comes after the last LF, if that is a line.
 fn end_answers<K: Sink>(
     alloc: Global,
     command: LineCommand,
+    reader: &mut TextReader,
     line: &[u8],
     sink: &mut K,
 ) -> LinesStatus
@@ -63,7 +76,7 @@ fn end_answers<K: Sink>(
     ensures write_steady { (result ≢ LinesStatus.WriteFault) → K.faults sink.new ≡ K.faults sink.old }
     ensures flushed { result ≡ LinesStatus.Done → BecomesFlag (K.is_flushed sink.old) (K.is_flushed sink.new) true }
 {
-    let Ok(answer) = last_answer(alloc, command, line) else {
+    let Ok(answer) = last_answer(alloc, command, reader, line) else {
         return LinesStatus::Memory;
     };
     match put_text(sink, &answer) {
@@ -81,7 +94,8 @@ pub(crate) fn answer_lines<S: Source, K: Sink>(
 ) -> LinesStatus
     ensures { Ended S.Source K.Sink command source.old source.new sink.old sink.new result }
 {
-    let mut piece = [0u8; READ_CHUNK];
+    let mut piece = [0u8; READ_SIZE];
+    let mut reader = TextReader::new(alloc);
     let Ok(mut line) = Vec::with_capacity(alloc, KEPT_OCTETS) else {
         return LinesStatus::Memory;
     };
@@ -91,9 +105,16 @@ pub(crate) fn answer_lines<S: Source, K: Sink>(
             return LinesStatus::ReadFault;
         };
         if count == 0 {
-            return end_answers(alloc, command, &line, sink);
+            return end_answers(alloc, command, &mut reader, &line, sink);
         }
-        let answered = answer_piece(alloc, command, &piece[..count], &mut line, &mut answers);
+        let answered = answer_piece(
+            alloc,
+            command,
+            &mut reader,
+            &piece[..count],
+            &mut line,
+            &mut answers,
+        );
         if put_text(sink, &answers).is_err() {
             return LinesStatus::WriteFault;
         }

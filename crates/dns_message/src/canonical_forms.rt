@@ -121,19 +121,27 @@ impl CanonicalForms {
         }
     }
 
-    /// No forms, with memory for those of that many records whose data have that many octets. `AllocError` is out of memory.
-    pub(crate) fn with_capacity(
-        alloc: Global,
-        records: usize,
-        octets: usize,
-    ) -> Result<CanonicalForms, AllocError>
+    /// No forms, in the memory of these, and with memory for those of that many records whose data have that many octets. `AllocError` is out
+    /// of memory.
+    pub(crate) fn cleared(self, records: usize, size: usize) -> Result<CanonicalForms, AllocError>
         ensures { IfOk result (λ forms. forms ≡ []) }
     {
+        let CanonicalForms {
+            mut owner_keys,
+            mut octets,
+            mut spans,
+        } = self;
         let owners = records.saturating_mul(OWNER_ROOM);
+        owner_keys.clear();
+        owner_keys.reserve(owners)?;
+        octets.clear();
+        octets.reserve(owners.saturating_add(size))?;
+        spans.clear();
+        spans.reserve(records)?;
         Ok(CanonicalForms {
-            owner_keys: Vec::with_capacity(alloc, owners)?,
-            octets: Vec::with_capacity(alloc, owners.saturating_add(octets))?,
-            spans: Vec::with_capacity(alloc, records)?,
+            owner_keys,
+            octets,
+            spans,
         })
     }
 

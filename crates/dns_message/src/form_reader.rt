@@ -30,24 +30,20 @@ use dns_rdata::RecordData;
 use dns_record::{ParseRecordDataBytes, RType};
 use dns_wire::ParseError;
 use std::alloc::{AllocError, Global};
+use std::mem;
 
-/// What the records of a message are read with: its items, the owner that was read last, and room for a name and for data in canonical form.
+/// Room for the record that is read: the owner that was read last, a name, and data in canonical form. It is kept from message to message.
 #[derive(Drop)]
-struct FormReader<'a> {
-    items: ItemReader<'a>,
+struct RecordRoom {
     owner: LastOwner,
     name: [u8; Name::MAX_SIZE],
     data: Vec<u8>,
 }
 
-impl<'a> FormReader<'a> {
-    /// Reads the records of a message with these contents.
-    fn new(alloc: Global, contents: &'a [u8]) -> FormReader<'a>
-        ensures items { result.items ≡ contents.entry.now }
-        ensures owner { result.owner.end ≡ 0 }
-    {
-        FormReader {
-            items: ItemReader::new(contents),
+impl RecordRoom {
+    /// Room in which no owner was read.
+    fn new(alloc: Global) -> RecordRoom {
+        RecordRoom {
             owner: LastOwner::none(),
             name: [0; Name::MAX_SIZE],
             data: Vec::new(alloc),
@@ -60,28 +56,24 @@ impl<'a> FormReader<'a> {
 fn with_compressible(
     alloc: Global,
     forms: CanonicalForms,
-    reader: &mut FormReader<'_>,
+    items: &mut ItemReader<'_>,
+    room: &mut RecordRoom,
     fields: &[CompressibleField],
     parts: &UnparsedParts<'_>,
     end: usize,
 ) -> Result<Option<CanonicalForms>, AllocError>
     requires compressible { is_compressible_type parts.now.rtype.code.value ≡ true }
     requires fields { map kind_of fields.now ≡ rdata_format parts.now.rtype.code.value }
-    requires within { end ≤ length reader.old.items }
+    requires within { end ≤ length items.old }
     requires long { length parts.now.rdata.octets.now ≤ end }
-    requires owner { (labels : Labels) × HasOwner reader.old.owner labels }
-    ensures adds { IfOk result (λ found. (labels : Labels) → HasOwner reader.old.owner labels
-        → AddsData forms (parts_value labels parts.now) (data_in name_at parts.now.rtype.code.value (take end reader.old.items) (data_start end parts.now.rdata.octets.now)) found) }
-    ensures items { reader.new.items ≡ reader.old.items }
-    ensures owner { reader.new.owner ≡ reader.old.owner }
+    requires owner { (labels : Labels) × HasOwner room.old.owner labels }
+    ensures adds { IfOk result (λ found. (labels : Labels) → HasOwner room.old.owner labels
+        → AddsData forms (parts_value labels parts.now) (data_in name_at parts.now.rtype.code.value (take end items.old) (data_start end parts.now.rdata.octets.now)) found) }
+    ensures items { items.new ≡ items.old }
+    ensures owner { room.new.owner ≡ room.old.owner }
 {
     let start = end - parts.rdata.octets().len();
-    let FormReader {
-        items,
-        owner,
-        name,
-        data,
-    } = reader;
+    let RecordRoom { owner, name, data } = room;
     data.clear();
     if !push_fields(alloc, items, name, data, fields, start, end)? {
         return Ok(None);
@@ -130,23 +122,24 @@ fn with_uncompressed(
 fn with_record(
     alloc: Global,
     forms: CanonicalForms,
-    reader: &mut FormReader<'_>,
+    items: &mut ItemReader<'_>,
+    room: &mut RecordRoom,
     start: usize,
 ) -> Result<Option<(CanonicalForms, usize)>, AllocError>
-    requires { WasRead reader.old.items reader.old.owner }
-    ensures adds { IfOk result (AddsRecord forms (record_in name_at (data_in name_at) reader.old.items start)) }
-    ensures owner { IfOk result (λ found. IfSome found (λ _. WasRead reader.old.items reader.new.owner)) }
-    ensures items { reader.new.items ≡ reader.old.items }
+    requires { WasRead items.old room.old.owner }
+    ensures adds { IfOk result (AddsRecord forms (record_in name_at (data_in name_at) items.old start)) }
+    ensures owner { IfOk result (λ found. IfSome found (λ _. WasRead items.old room.new.owner)) }
+    ensures items { items.new ≡ items.old }
 {
-    let Some(at) = reader.owner.read(alloc, &mut reader.items, start)? else {
+    let Some(at) = room.owner.read(alloc, items, start)? else {
         return Ok(None);
     };
-    let Ok((parts, end)) = split_unparsed_parts(reader.items.contents(), at) else {
+    let Ok((parts, end)) = split_unparsed_parts(items.contents(), at) else {
         return Ok(None);
     };
     let added = match compressible_fields(parts.rtype) {
-        Some(fields) => with_compressible(alloc, forms, reader, fields, &parts, end)?,
-        None => with_uncompressed(forms, &reader.owner, &mut reader.data, &parts)?,
+        Some(fields) => with_compressible(alloc, forms, items, room, fields, &parts, end)?,
+        None => with_uncompressed(forms, &room.owner, &mut room.data, &parts)?,
     };
     match added {
         Some(more) => Ok(Some((more, end))),
@@ -159,23 +152,57 @@ fn with_record(
 fn with_item(
     alloc: Global,
     forms: CanonicalForms,
-    reader: &mut FormReader<'_>,
+    items: &mut ItemReader<'_>,
+    room: &mut RecordRoom,
     section: u8,
     start: usize,
 ) -> Result<Option<(CanonicalForms, usize)>, AllocError>
-    requires { WasRead reader.old.items reader.old.owner }
-    ensures adds { IfOk result (AddsForm forms (item_at section reader.old.items start)) }
-    ensures owner { IfOk result (λ found. IfSome found (λ _. WasRead reader.old.items reader.new.owner)) }
-    ensures items { reader.new.items ≡ reader.old.items }
+    requires { WasRead items.old room.old.owner }
+    ensures adds { IfOk result (AddsForm forms (item_at section items.old start)) }
+    ensures owner { IfOk result (λ found. IfSome found (λ _. WasRead items.old room.new.owner)) }
+    ensures items { items.new ≡ items.old }
 {
     if section != 0 {
-        return with_record(alloc, forms, reader, start);
+        return with_record(alloc, forms, items, room, start);
     }
-    reader.items.look(alloc, section, start)?;
-    match reader.items.end_of_question(start) {
+    items.look(alloc, section, start)?;
+    match items.end_of_question(start) {
         Some(end) => Ok(Some((forms, end))),
         None => Ok(None),
     }
+}
+
+/// Reads a whole message, and gives the canonical forms of its records except those of type OPT, in the memory of earlier forms.
+fn read_into(
+    alloc: Global,
+    message: &[u8],
+    earlier: CanonicalForms,
+    room: &mut RecordRoom,
+) -> Result<CanonicalForms, CanonError>
+    ensures read { IfOk result (λ forms. (rs : List RecordValue) × Valid message.now rs × (forms ≡ forms_of rs)) }
+    ensures refused { IfErr result (RefusedOrMemory message.now) }
+{
+    let Ok(mut parser) = MessageParser::new(message) else {
+        return Err(CanonError::Short);
+    };
+    let contents = parser.message().contents();
+    let mut forms = earlier.cleared(parser.message().most_records(), contents.len())?;
+    let mut items = ItemReader::new(contents);
+    room.owner.forget();
+    while let Some(position) = parser.coming() {
+        let start = parser.offset();
+        let section = position.section;
+        let Some(found) = with_item(alloc, forms, &mut items, room, section, start)? else {
+            return Err(CanonError::Item {
+                section,
+                index: position.index,
+            });
+        };
+        let (more, end) = found;
+        forms = more;
+        parser.pass(position, end);
+    }
+    Ok(forms)
 }
 
 /// Reads a whole message, and gives the canonical forms of its records except those of type OPT, in the message's order. Memory for them
@@ -185,24 +212,37 @@ pub fn read_forms(alloc: Global, message: &[u8]) -> Result<CanonicalForms, Canon
     ensures read { IfOk result (λ forms. (rs : List RecordValue) × Valid message.now rs × (forms ≡ forms_of rs)) }
     ensures refused { IfErr result (RefusedOrMemory message.now) }
 {
-    let Ok(mut parser) = MessageParser::new(message) else {
-        return Err(CanonError::Short);
-    };
-    let contents = parser.message().contents();
-    let records = parser.message().most_records();
-    let mut forms = CanonicalForms::with_capacity(alloc, records, contents.len())?;
-    let mut reader = FormReader::new(alloc, contents);
-    while let Some(position) = parser.coming() {
-        let start = parser.offset();
-        let Some(found) = with_item(alloc, forms, &mut reader, position.section, start)? else {
-            return Err(CanonError::Item {
-                section: position.section,
-                index: position.index,
-            });
-        };
-        let (more, end) = found;
-        forms = more;
-        parser.pass(position, end);
+    read_into(
+        alloc,
+        message,
+        CanonicalForms::new(alloc),
+        &mut RecordRoom::new(alloc),
+    )
+}
+
+/// Reads messages one after another in the same memory.
+#[derive(Drop)]
+pub struct FormsReader {
+    forms: CanonicalForms,
+    room: RecordRoom,
+}
+
+impl FormsReader {
+    /// A reader that has read no message. No memory is taken.
+    pub fn new(alloc: Global) -> FormsReader {
+        FormsReader {
+            forms: CanonicalForms::new(alloc),
+            room: RecordRoom::new(alloc),
+        }
     }
-    Ok(forms)
+
+    /// Reads a whole message as `read_forms`, in the memory that the message before took; after a refusal that is given up.
+    pub fn read(&mut self, alloc: Global, message: &[u8]) -> Result<&CanonicalForms, CanonError>
+        ensures read { IfOk result (λ forms. (rs : List RecordValue) × Valid message.now rs × (forms.now ≡ forms_of rs)) }
+        ensures refused { IfErr result (RefusedOrMemory message.now) }
+    {
+        let earlier = mem::replace(&mut self.forms, CanonicalForms::new(alloc));
+        self.forms = read_into(alloc, message, earlier, &mut self.room)?;
+        Ok(&self.forms)
+    }
 }

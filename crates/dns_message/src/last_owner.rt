@@ -36,6 +36,14 @@ impl LastOwner {
         }
     }
 
+    /// Makes it so that no owner was read.
+    pub(crate) fn forget(&mut self)
+        ensures { self.new.end ≡ 0 }
+    {
+        self.start = 0;
+        self.end = 0;
+    }
+
     /// The owner in canonical form.
     pub(crate) fn owner(&self) -> CanonicalOwner<'_>
         requires { (labels : Labels) × HasOwner self.now labels }

@@ -40,7 +40,7 @@ pub use canonical_form::CanonicalForm;
 pub use canonical_forms::CanonicalForms;
 pub use canonical_list::{collapse, collapsed};
 pub use canonical_record::CanonicalRecord;
-pub use form_reader::read_forms;
+pub use form_reader::{FormsReader, read_forms};
 pub use header::{Header, HeaderFlags, SectionCounts};
 pub use item::{MessageItem, ParsedMessageItem};
 pub use laws::{

@@ -5,7 +5,7 @@ ghost use Rattle.dns_text.specs.Endings.{Ran};
 ghost use Rattle.dns_text.specs.Outcomes.{note_of};
 ghost use Rattle.dns_normal.specs.Texts.{PrintsNormal, command_of, normal_limit, normal_note, normal_refusal, normal_rules, outcome_of};
 
-use crate::message::{message_of, normal_form};
+use crate::reader::TextReader;
 use crate::refusal::Refusal;
 use crate::status::NormalStatus;
 use dns_text::{
@@ -50,8 +50,7 @@ impl TextCommand for Normal {
     }
 
     fn print(&self, alloc: Global, text: &[u8]) -> Result<Vec<u8>, PrintError<Refusal>> {
-        let message = message_of(alloc, text)?;
-        let form = normal_form(alloc, &message)?;
+        let form = TextReader::new(alloc).read_normal_form(alloc, text)?;
         let printed = hex_line(alloc, &form)?;
         Ok(printed)
     }

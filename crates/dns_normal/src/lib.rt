@@ -4,6 +4,7 @@
 mod command;
 mod laws;
 mod message;
+mod reader;
 mod refusal;
 mod status;
 
@@ -12,6 +13,7 @@ pub use laws::{
     equal_normal_forms, equal_statuses, normal_forms_are_read, normal_statuses_in_words,
     normalised_twice, words_of_normal,
 };
-pub use message::{forms_in, message_of, normal_form};
+pub use message::normal_form;
+pub use reader::TextReader;
 pub use refusal::Refusal;
 pub use status::NormalStatus;

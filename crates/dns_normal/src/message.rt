@@ -1,7 +1,6 @@
 //! The normal form of a message.
 
 ghost use Rattle.std.specs.Prelude.{◌≡◌, ◌≤◌, ◌+◌, ℕ, min, List, ◌++◌, ◌∷◌, [], Option, Some, None, IfOk, IfErr, length, map};
-ghost use Rattle.dns_wire.specs.Hexadecimal.{spelled, trim};
 ghost use Rattle.dns_text.specs.Outcomes.{RefusesFor};
 ghost use Rattle.dns_message.specs.Canonical.{canonical_wire, lowercase_names};
 ghost use Rattle.dns_message.specs.FormsRead.{forms_of};
@@ -10,18 +9,18 @@ ghost use Rattle.dns_message.specs.Order.{octets_of_key};
 ghost use Rattle.dns_message.specs.WellFormed.{WellFormed};
 ghost use Rattle.dns_normal.specs.Answers.{AreRecordsOf, HasAnswers, HasAnswersIfFew, HaveRecords, IsRecordOf, octets_among};
 ghost use Rattle.dns_normal.specs.Normal.{answers_message, normal_form};
-ghost use Rattle.dns_normal.specs.Texts.{form_refusal, message_refusal, reading_refusal, size_refusal};
+ghost use Rattle.dns_normal.specs.Texts.{form_refusal, reading_refusal, size_refusal};
 
 use crate::refusal::Refusal;
 use dns_message::{
-    CanonError, CanonicalForm, CanonicalForms, HeaderFlags, MAX_MESSAGE_SIZE, MessageBuildError,
-    MessageBuilder, read_forms,
+    CanonError, CanonicalForm, CanonicalForms, FormsReader, HeaderFlags, MAX_MESSAGE_SIZE,
+    MessageBuildError, MessageBuilder,
 };
 use dns_name::Name;
 use dns_num::U16;
 use dns_rdata::RecordData;
 use dns_record::Record;
-use dns_text::{HexError, PrintError, octets_of, zeros};
+use dns_text::{PrintError, zeros};
 use dns_wire::{HEADER_SIZE, NameCompressor, SplitBytes};
 use std::alloc::Global;
 
@@ -90,24 +89,16 @@ fn answers_message(
     Ok(built)
 }
 
-/// The octets of the message that a text of hexadecimal digits spells, or `Refusal::BadHex`.
-pub fn message_of(alloc: Global, text: &[u8]) -> Result<Vec<u8>, PrintError<Refusal>>
-    ensures spelled { IfOk result (λ message. spelled (trim text.now) ≡ Some message.items) }
-    ensures refused { (refusal : List RecordValue → Option Refusal) → IfErr result (RefusesFor (message_refusal refusal text.now)) }
-{
-    match octets_of(alloc, text) {
-        Ok(message) => Ok(message),
-        Err(HexError::BadHex) => Err(PrintError::Refused(Refusal::BadHex)),
-        Err(HexError::Memory) => Err(PrintError::Memory),
-    }
-}
-
 /// The canonical forms of a message's records other than OPT. `Refusal::Short` and `Refusal::Item` are those of a message that is not valid.
-pub fn forms_in(alloc: Global, message: &[u8]) -> Result<CanonicalForms, PrintError<Refusal>>
-    ensures read { IfOk result (λ forms. (rs : List RecordValue) × Valid message.now rs × (forms ≡ forms_of rs)) }
+pub(crate) fn forms_in<'r>(
+    alloc: Global,
+    reader: &'r mut FormsReader,
+    message: &[u8],
+) -> Result<&'r CanonicalForms, PrintError<Refusal>>
+    ensures read { IfOk result (λ forms. (rs : List RecordValue) × Valid message.now rs × (forms.now ≡ forms_of rs)) }
     ensures refused { (refusal : List RecordValue → Option Refusal) → IfErr result (RefusesFor (reading_refusal refusal (message_reading message.now))) }
 {
-    match read_forms(alloc, message) {
+    match reader.read(alloc, message) {
         Ok(forms) => Ok(forms),
         Err(CanonError::Short) => Err(PrintError::Refused(Refusal::Short)),
         Err(CanonError::Item { section, index }) => {
@@ -115,6 +106,21 @@ pub fn forms_in(alloc: Global, message: &[u8]) -> Result<CanonicalForms, PrintEr
         }
         Err(CanonError::Memory) => Err(PrintError::Memory),
     }
+}
+
+/// The normal form of a message, as `normal_form` has it.
+pub(crate) fn read_normal_form(
+    alloc: Global,
+    reader: &mut FormsReader,
+    message: &[u8],
+) -> Result<Vec<u8>, PrintError<Refusal>>
+    ensures formed { IfOk result (λ form. (rs : List RecordValue) × Valid message.now rs × (form.items ≡ normal_form rs)) }
+    ensures accepted { IfOk result (λ _. reading_refusal form_refusal (message_reading message.now) ≡ None) }
+    ensures refused { IfErr result (RefusesFor (reading_refusal form_refusal (message_reading message.now))) }
+{
+    let forms = forms_in(alloc, reader, message)?;
+    let order = forms.collapsed(alloc)?;
+    answers_message(alloc, &order)
 }
 
 /// The normal form of a message: a message with its records other than OPT in canonical order, alike ones once, as answers whose names are
@@ -125,7 +131,5 @@ pub fn normal_form(alloc: Global, message: &[u8]) -> Result<Vec<u8>, PrintError<
     ensures accepted { IfOk result (λ _. reading_refusal form_refusal (message_reading message.now) ≡ None) }
     ensures refused { IfErr result (RefusesFor (reading_refusal form_refusal (message_reading message.now))) }
 {
-    let forms = forms_in(alloc, message)?;
-    let order = forms.collapsed(alloc)?;
-    answers_message(alloc, &order)
+    read_normal_form(alloc, &mut FormsReader::new(alloc), message)
 }

@@ -1,6 +1,6 @@
 //! Octets as hexadecimal text (RFC 4648 section 8).
 
-ghost use Rattle.std.specs.Prelude.{◌≡◌, ◌+◌, ◌*◌, length, IfOk, IsErrOf};
+ghost use Rattle.std.specs.Prelude.{◌≡◌, ◌+◌, ◌*◌, ◌++◌, length, IfOk, OnOk, OnErr, IsErrOf};
 ghost use Rattle.dns_wire.specs.Hexadecimal.{Spells, SpellsNothing, line, trim, is_whitespace};
 
 use crate::buffer::zeros;
@@ -27,21 +27,32 @@ pub fn trimmed(text: &[u8]) -> &[u8]
     &text[..end]
 }
 
-/// The octets that the text spells, except for whitespace at its end.
-pub fn octets_of(alloc: Global, text: &[u8]) -> Result<Vec<u8>, HexError>
-    ensures ok { IfOk result (λ octets. Spells text.now octets.items) }
+/// Reads the octets that the text spells, except for whitespace at its end, in place of those in the buffer. After a refusal the octets
+/// in the buffer are unspecified.
+pub fn read_octets(text: &[u8], octets: &mut Vec<u8>) -> Result<(), HexError>
+    ensures ok { OnOk result (Spells text.now octets.new.items) }
     ensures bad_hex { IsErrOf result HexError.BadHex → SpellsNothing text.now }
 {
     let digits = trimmed(text);
     if digits.len() % 2 == 1 {
         return Err(HexError::BadHex);
     }
-    let mut octets = zeros(alloc, digits.len() / 2)?;
-    if put_octets(digits, &mut octets) {
-        Ok(octets)
+    octets.resize(digits.len() / 2, 0)?;
+    if put_octets(digits, octets) {
+        Ok(())
     } else {
         Err(HexError::BadHex)
     }
+}
+
+/// The octets that the text spells, except for whitespace at its end.
+pub fn octets_of(alloc: Global, text: &[u8]) -> Result<Vec<u8>, HexError>
+    ensures ok { IfOk result (λ octets. Spells text.now octets.items) }
+    ensures bad_hex { IsErrOf result HexError.BadHex → SpellsNothing text.now }
+{
+    let mut octets = zeros(alloc, text.len() / 2)?;
+    read_octets(text, &mut octets)?;
+    Ok(octets)
 }
 
 /// Puts the digits of octets in lowercase, and LF, into the text.
@@ -52,6 +63,17 @@ fn put_hex_line(octets: &[u8], text: &mut [u8])
     let end = 2 * octets.len();
     put_digits(octets, &mut text[..end]);
     text[end] = b'\n';
+}
+
+/// Adds the digits of octets in lowercase, and LF, to a text. `AllocError` is out of memory, and adds nothing.
+pub fn push_hex_line(octets: &[u8], text: &mut Vec<u8>) -> Result<(), AllocError>
+    ensures added { OnOk result (text.new.items ≡ text.old.items ++ line octets.now) }
+    ensures unchanged { OnErr result (text.new.items ≡ text.old.items) }
+{
+    let start = text.len();
+    text.resize(start.saturating_add(2 * octets.len() + 1), 0)?;
+    put_hex_line(octets, &mut text[start..]);
+    Ok(())
 }
 
 /// The digits of octets in lowercase, and LF.

@@ -19,7 +19,7 @@ pub use args::Args;
 pub use buffer::zeros;
 pub use command::{TextCommand, run_command};
 pub use error::{HexError, TextError};
-pub use hexadecimal::{hex_line, octets_of, trimmed};
+pub use hexadecimal::{hex_line, octets_of, push_hex_line, read_octets, trimmed};
 pub use laws::{equal_errors, equal_outcomes, limits};
 pub use notice::{Notice, put_notice};
 pub use outcome::{Outcome, PrintError};

@@ -8,7 +8,7 @@ invariant-loop-read g l = record {
   progress : (so-far : Progress l.command (g.S.Source.left l.initial.source) (g.S.Source.left l.source) (g.K.Sink.written l.initial.sink) (g.K.Sink.written l.sink) l.line.items) × (l._read ≤ length so-far.text);
   none : l.answers.items ≡ [];
   kept : vec_len l.line ≤ 131073;
-  room : length l.piece ≡ 4096;
+  room : length l.piece ≡ 65536;
   read_steady : g.S.Source.faults l.source ≡ g.S.Source.faults l.initial.source;
   write_steady : g.K.Sink.faults l.sink ≡ g.K.Sink.faults l.initial.sink;
   flag : IfSome (g.K.Sink.is_flushed l.initial.sink) (λ _. IsSome (g.K.Sink.is_flushed l.sink));

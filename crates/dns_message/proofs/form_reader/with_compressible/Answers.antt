@@ -16,14 +16,14 @@ with_canonical-requires c =
     omega (
       arith,
       ap length c.deref.ensures.value,
-      compressible_short c.args.parts.now.rtype.code.value _ _ _ c.push_fields.new.data.items (omega (arith, length-take c.args.end c.args.reader.now.items, c.octets.ensures.short, ap length c.octets.ensures.octets, c.requires.long)) c.requires.fields put,
+      compressible_short c.args.parts.now.rtype.code.value _ _ _ c.push_fields.new.data.items (omega (arith, length-take c.args.end c.args.items.now, c.octets.ensures.short, ap length c.octets.ensures.octets, c.requires.long)) c.requires.fields put,
     )
 
 pub returns-clause-adds : goal.returns-clause-adds
 returns-clause-adds c = λ labels has.
     let parts = c.args.parts.now in
     let put = rw (c.if-not-branch.false, c.clear.ensures.items, c.octets.ensures.octets) at c.in_ok-push_fields.ensures.put in
-    let owner = ap key (c.owner.ensures ∙ owner_labels c.args.reader.now.owner labels has) ∙ lowered_key labels in
+    let owner = ap key (c.owner.ensures ∙ owner_labels c.args.room.now.owner labels has) ∙ lowered_key labels in
     compressible_added (parts_value labels parts) _ _ _ c.push_fields.new.data.items c.args.forms c.in_ok-more.more c.requires.compressible c.requires.fields put
     (c.in_ok-more.ensures
     ∙ (λ i. c.args.forms ++ record { owner = owner i; class = parts.rclass.code.value; rtype = parts.rtype.code.value; octets = c.deref.ensures.value i; ttl = parts.ttl.value.value } ∷ []))

@@ -3,7 +3,7 @@ use Rattle.dns_wire.specs.Reading.{AreOctets}
 use Rattle.dns_rdata.proofs.UncompressedData.{uncompressed_unless_compressible}
 use Rattle.dns_message.specs.Owners.{WasRead}
 use Rattle.dns_message.specs.UnparsedRecords.{parts_value, with_data}
-use Rattle.dns_message.specs.declared.form_reader.FormReader.{FormReader}
+use Rattle.dns_message.specs.declared.form_reader.RecordRoom.{RecordRoom}
 use Rattle.dns_message.specs.declared.last_owner.LastOwner.{LastOwner}
 use Rattle.dns_message.proofs.FormsAdded.{data_adds, data_adds_none}
 use Rattle.dns_message.proofs.OwnerFirst.{data_octets, no_owner_no_record, no_parts_no_record, parts_there}
@@ -12,13 +12,13 @@ use Rattle.dns_message.proofs.form_reader.with_record.Goals as goal
 use Rattle.dns_message.proofs.form_reader.with_record.Goals.{in-Some-compressible_fields+in_ok-added-in-Some-compressible_fields, in-None+in_ok-added-in-None}
 
 pub returns-in_default-clause-adds : goal.returns-in_default-clause-adds
-returns-in_default-clause-adds c = no_owner_no_record c.args.reader.now.items c.args.start (rw c.in_default.is at c.in_ok-at.ensures.read)
+returns-in_default-clause-adds c = no_owner_no_record c.args.items.now c.args.start (rw c.in_default.is at c.in_ok-at.ensures.read)
 
 pub returns-in_default-split_unparsed_parts-clause-adds : goal.returns-in_default-split_unparsed_parts-clause-adds
 returns-in_default-split_unparsed_parts-clause-adds c =
     let owner = (rw c.in-Some.is at c.in_ok-at.ensures.read).1 in
     let there = c.contents.ensures.value ∙ c.in_ok-at.ensures.unchanged in
-    no_parts_no_record c.args.reader.now.items c.args.start c.in-Some.at owner.0 owner.1 (subst AreOctets there c.contents.ensures.octets) (rw there at c.in_default-split_unparsed_parts.ensures.exact)
+    no_parts_no_record c.args.items.now c.args.start c.in-Some.at owner.0 owner.1 (subst AreOctets there c.contents.ensures.octets) (rw there at c.in_default-split_unparsed_parts.ensures.exact)
 
 pub with_uncompressed-requires-clause-plain : goal.with_uncompressed-requires-clause-plain
 with_uncompressed-requires-clause-plain c = uncompressed_unless_compressible c.in-Ok.parts.rtype.code.value c.in-None.ensures
@@ -29,7 +29,7 @@ with_uncompressed-requires-clause-octets c =
 
 pub returns-in-Some-added-clause-adds : goal.returns-in-Some-added-clause-adds
 returns-in-Some-added-clause-adds c =
-    let items = c.args.reader.now.items in
+    let items = c.args.items.now in
     let parts = c.in-Ok.parts in
     let owner = (rw c.in-Some.is at c.in_ok-at.ensures.read).1 in
     let there = c.contents.ensures.value ∙ c.in_ok-at.ensures.unchanged in
@@ -49,7 +49,7 @@ returns-in-Some-added-clause-adds c =
 
 pub returns-in-None-added-clause-adds : goal.returns-in-None-added-clause-adds
 returns-in-None-added-clause-adds c =
-    let items = c.args.reader.now.items in
+    let items = c.args.items.now in
     let parts = c.in-Ok.parts in
     let owner = (rw c.in-Some.is at c.in_ok-at.ensures.read).1 in
     let there = c.contents.ensures.value ∙ c.in_ok-at.ensures.unchanged in
@@ -72,6 +72,6 @@ returns-in-Some-added-clause-owner c =
     let known = (rw c.in-Some.is at c.in_ok-at.ensures.read).0 in
     elim c.match-compressible_fields.branch [
       | in-Some-compressible_fields+in_ok-added-in-Some-compressible_fields w ↦
-          subst (λ (o : LastOwner). WasRead c.args.reader.now.items o) (sym (ap (λ (r : FormReader). r.owner) w.reader-is ∙ w.with_compressible.ensures.owner)) known
-      | in-None+in_ok-added-in-None w ↦ subst (λ (o : LastOwner). WasRead c.args.reader.now.items o) (sym (ap (λ (r : FormReader). r.owner) w.reader-is)) known
+          subst (λ (o : LastOwner). WasRead c.args.items.now o) (sym (ap (λ (r : RecordRoom). r.owner) w.room-is ∙ w.with_compressible.ensures.owner)) known
+      | in-None+in_ok-added-in-None w ↦ subst (λ (o : LastOwner). WasRead c.args.items.now o) (sym (ap (λ (r : RecordRoom). r.owner) w.room-is)) known
     ]

@@ -7,13 +7,13 @@ use Rattle.dns_message.specs.Parsing.{parsed_message, next_start}
 use Rattle.dns_message.proofs.Adding.{placed}
 use Rattle.dns_message.proofs.Chained.{read_none, read_more, read_fails, read_all}
 use Rattle.dns_message.proofs.FormsAdded.{form_adds}
-use Rattle.dns_message.proofs.form_reader.read_forms.Goals as goal
+use Rattle.dns_message.proofs.form_reader.read_into.Goals as goal
 
 pub loop-position-init : goal.loop-position-init
 loop-position-init c = record {
   read = ([], read_none c.args.message.now c.in-Ok.parser [] c.in-Ok.ensures.message c.in-Ok.ensures.start refl, c.in_ok-forms.ensures);
-  items = c.new-reader.ensures.items ∙ c.contents-contents.ensures ∙ ap (λ (l : Octets). drop 12 l) (c.message.ensures ∙ c.in-Ok.ensures.message.1);
-  owner = λ some. absurd (omega (arith, some, c.new-reader.ensures.owner));
+  items = c.new-items.ensures ∙ c.contents-contents.ensures ∙ ap (λ (l : Octets). drop 12 l) (c.message.ensures ∙ c.in-Ok.ensures.message.1);
+  owner = λ some. absurd (omega (arith, some, c.forget.ensures));
 }
 
 pub returns-in_default-2-clause-refused : goal.returns-in_default-2-clause-refused
@@ -28,17 +28,17 @@ loop-position-preserved c =
     let so = c.loop-position.invariant in
     let section = c.in-Some.position.section in
     let found = c.in-Some-2.found in
-    let more = form_adds section c.loop-position.reader.items c.offset-start.result so.read.0 c.loop-position.forms found.0 found.1 so.read.2 (rw c.in-Some-2.is at c.in_ok-found.ensures.adds) in
+    let more = form_adds section c.loop-position.items c.offset-start.result so.read.0 c.loop-position.forms found.0 found.1 so.read.2 (rw c.in-Some-2.is at c.in_ok-found.ensures.adds) in
     record {
       read = (
         more.0,
         read_more c.args.message.now c.loop-position.parser c.pass.new.self section c.in-Some.position.index found.1 so.read.0 more.0 so.read.1 c.pass.ensures
-            (placed section c.loop-position.reader.items (parsed_message c.loop-position.parser) c.offset-start.result (next_start c.loop-position.parser) so.read.0 more.0 (Some found.1)
+            (placed section c.loop-position.items (parsed_message c.loop-position.parser) c.offset-start.result (next_start c.loop-position.parser) so.read.0 more.0 (Some found.1)
             (so.items ∙ ap (λ (l : Octets). drop 12 l) (sym so.read.1.of_message)) c.offset-start.ensures more.1),
         more.2,
       );
       items = c.with_item.ensures.items ∙ so.items;
-      owner = subst (λ (l : Octets). WasRead l c.with_item.new.reader.owner) (sym c.with_item.ensures.items) (rw c.in-Some-2.is at c.in_ok-found.ensures.owner);
+      owner = subst (λ (l : Octets). WasRead l c.with_item.new.room.owner) (sym c.with_item.ensures.items) (rw c.in-Some-2.is at c.in_ok-found.ensures.owner);
     }
 
 pub returns-clause-read : goal.returns-clause-read

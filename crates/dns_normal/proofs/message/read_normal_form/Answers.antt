@@ -11,7 +11,7 @@ use Rattle.dns_normal.specs.Normal.{normal_form}
 use Rattle.dns_normal.specs.Texts.{form_refusal}
 use Rattle.dns_normal.proofs.NormalForms.{left_well}
 use Rattle.dns_normal.proofs.NormalOutcomes.{accepted_size, valid_refusal}
-use Rattle.dns_normal.proofs.message.normal_form.Goals as goal
+use Rattle.dns_normal.proofs.message.read_normal_form.Goals as goal
 
 pub answers_message-requires : goal.answers_message-requires
 answers_message-requires c =
