@@ -1,5 +1,4 @@
 -- The crate's own lemmas.
 pub mod Chaining
 pub mod FewSteps
-pub mod WholeData
 pub mod WrittenNames

@@ -3,7 +3,6 @@
 #![tactic(auto)]
 
 mod canonical_name;
-mod data;
 mod final_targets;
 mod laws;
 mod question;

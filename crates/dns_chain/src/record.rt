@@ -9,9 +9,8 @@ ghost use Rattle.dns_record.specs.Unparsed.{few_in};
 
 use crate::final_targets::FinalTargets;
 use dns_name::RevNameBuf;
-use dns_num::U16;
-use dns_record::{ParseRecordData, RClass, RType, Record, TTL, UnparsedRecordData};
-use dns_wire::{ParseError, SplitMessageBytes};
+use dns_record::{Record, UnparsedRecordData, split_after_owner_at};
+use dns_wire::ParseError;
 
 impl<'a> FinalTargets<'a> {
     /// Reads the record at a place of the contents as `Record::split_message_bytes` does, its data as they are, and gives the place
@@ -27,23 +26,6 @@ impl<'a> FinalTargets<'a> {
     {
         let contents = self.contents();
         let (owner, at) = self.split_name(start, contents.len())?;
-        let (rtype, at) = RType::split_message_bytes(contents, at)?;
-        let (rclass, at) = RClass::split_message_bytes(contents, at)?;
-        let (ttl, at) = TTL::split_message_bytes(contents, at)?;
-        let (size, at) = U16::split_message_bytes(contents, at)?;
-        let end = at + usize::from(size);
-        if contents.len() < end {
-            return Err(ParseError);
-        }
-        let rdata = UnparsedRecordData::parse_record_data(&contents[..end], at, rtype)?;
-        let rname = RevNameBuf::from(owner);
-        let value = Record {
-            rname,
-            rtype,
-            rclass,
-            ttl,
-            rdata,
-        };
-        Ok((value, end))
+        split_after_owner_at(RevNameBuf::from(owner), contents, at)
     }
 }

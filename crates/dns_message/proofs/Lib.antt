@@ -46,3 +46,4 @@ pub mod TextLemmas
 pub mod UnparsedRecords
 pub mod WellFormedLemmas
 pub mod Whole
+pub mod WholeData

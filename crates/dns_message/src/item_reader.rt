@@ -12,6 +12,7 @@ ghost use Rattle.dns_rdata.specs.Data.{IsDataOf};
 ghost use Rattle.dns_message.specs.Seen.{AreSound, data_seen, record_value};
 ghost use Rattle.dns_message.specs.UnparsedRecords.{DataAreAt, data_start, unparsed_in, unparsed_value, with_data};
 
+use crate::chained_data::parse_chained_record_data;
 use crate::item::{ParsedRecord, end_of_question};
 use dns_chain::{FinalTargets, NameSpan, has_chained_name, read_unchained_name, unchained_end};
 use dns_name::{NameBuf, RevNameBuf};
@@ -144,7 +145,7 @@ impl<'a> ItemReader<'a> {
         ensures typed { IfOk result (λ v. IsDataOf v rtype.code.value) }
     {
         match &self.targets {
-            Some(targets) => targets.parse_record_data(start, end, rtype),
+            Some(targets) => parse_chained_record_data(targets, start, end, rtype),
             None => RecordData::parse_record_data(&self.contents[..end], start, rtype),
         }
     }

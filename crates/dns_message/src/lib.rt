@@ -11,6 +11,7 @@ mod canonical_list;
 mod canonical_owner;
 mod canonical_parts;
 mod canonical_record;
+mod chained_data;
 mod compressible_data;
 mod form_reader;
 mod form_span;

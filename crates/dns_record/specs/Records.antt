@@ -12,34 +12,52 @@ pub record RecordOf (N D : Type 0) : Type 0 where
   pub ttl : ℕ
   pub content : D
 
+-- that many octets of data, which are read for the type, and what follows them: the record of these with what precedes them
+abbrev pub data_of_size : {N D : Type 0} → (ℕ → Octets → Option D) → N → ℕ → ℕ → ℕ → ℕ → Octets → Option (RecordOf N D × Octets)
+data_of_size data_as owner rtype class ttl size after_size = do
+  (body, rest) ← octets size after_size
+  content ← data_as rtype body
+  Some (record { owner = owner; rtype = rtype; class = class; ttl = ttl; content = content }, rest)
+
+-- what follows an owner: a type, a class, a time to live, a size, and the data
+abbrev pub after_owner : {N D : Type 0} → (ℕ → Octets → Option D) → N → Octets → Option (RecordOf N D × Octets)
+after_owner data_as owner after_name = do
+  (rtype, after_type) ← number w16 after_name
+  (class, after_class) ← number w16 after_type
+  (ttl, after_ttl) ← number w32 after_class
+  (size, after_size) ← number w16 after_ttl
+  data_of_size data_as owner rtype class ttl size after_size
+
 -- An owner, a type, a class, a time to live, a size, and exactly that many octets of data, which are read for the type; and
 -- what follows them. Nothing after the data is seen when they are read.
 unfoldable pub record_at : {N D : Type 0} → (Octets → Option (N × Octets)) → (ℕ → Octets → Option D) → Octets → Option (RecordOf N D × Octets)
 record_at name data_as bytes = do
-  (owner, after_owner) ← name bytes
-  (rtype, after_type) ← number w16 after_owner
-  (class, after_class) ← number w16 after_type
-  (ttl, after_ttl) ← number w32 after_class
-  (size, after_size) ← number w16 after_ttl
-  (body, rest) ← octets size after_size
-  content ← data_as rtype body
-  Some (record { owner = owner; rtype = rtype; class = class; ttl = ttl; content = content }, rest)
+  (owner, after_name) ← name bytes
+  after_owner data_as owner after_name
 
 -- where that many octets end
 abbrev pub end_of : Octets → ℕ → ℕ → Option ℕ
 end_of contents at size = if nat_lt (length contents) (at + size) then None else Some (at + size)
 
 -- the same at a place in a message, and where the data end
-unfoldable pub record_in : {N D : Type 0} → (Octets → ℕ → Option (N × ℕ)) → (ℕ → Octets → ℕ → Option D) → Octets → ℕ → Option (RecordOf N D × ℕ)
-record_in name data_in contents at = do
-  (owner, after_owner) ← name contents at
-  (rtype, after_type) ← plain_at (number w16) contents after_owner
-  (class, after_class) ← plain_at (number w16) contents after_type
-  (ttl, after_ttl) ← plain_at (number w32) contents after_class
-  (size, after_size) ← plain_at (number w16) contents after_ttl
+abbrev pub data_of_size_in : {N D : Type 0} → (ℕ → Octets → ℕ → Option D) → Octets → N → ℕ → ℕ → ℕ → ℕ → ℕ → Option (RecordOf N D × ℕ)
+data_of_size_in data_in contents owner rtype class ttl size after_size = do
   end ← end_of contents after_size size
   content ← data_in rtype (take end contents) after_size
   Some (record { owner = owner; rtype = rtype; class = class; ttl = ttl; content = content }, end)
+
+abbrev pub after_owner_in : {N D : Type 0} → (ℕ → Octets → ℕ → Option D) → Octets → N → ℕ → Option (RecordOf N D × ℕ)
+after_owner_in data_in contents owner after_name = do
+  (rtype, after_type) ← plain_at (number w16) contents after_name
+  (class, after_class) ← plain_at (number w16) contents after_type
+  (ttl, after_ttl) ← plain_at (number w32) contents after_class
+  (size, after_size) ← plain_at (number w16) contents after_ttl
+  data_of_size_in data_in contents owner rtype class ttl size after_size
+
+unfoldable pub record_in : {N D : Type 0} → (Octets → ℕ → Option (N × ℕ)) → (ℕ → Octets → ℕ → Option D) → Octets → ℕ → Option (RecordOf N D × ℕ)
+record_in name data_in contents at = do
+  (owner, after_name) ← name contents at
+  after_owner_in data_in contents owner after_name
 
 -- ---- octets
 

@@ -1,6 +1,7 @@
 //! Questions and records, whatever their names and their data are, and the codes, numbers and strings in them.
 #![tactic(auto)]
 
+mod after_owner;
 mod canonical;
 mod charstr;
 mod charstr_buf;
@@ -20,6 +21,7 @@ mod serial;
 mod ttl;
 mod unparsed;
 
+pub use after_owner::split_after_owner_at;
 pub use canonical::CanonicalRecordData;
 pub use charstr::CharStr;
 pub use charstr_buf::CharStrBuf;

@@ -8,6 +8,7 @@ ghost use Rattle.dns_record.specs.InMessage.{fixed_header, record_writes, record
 ghost use Rattle.dns_record.specs.Records.{RecordOf, record_at, record_in, octets_of_parts, SizedData, SizedDataIn};
 ghost use Rattle.dns_record.specs.Seen.{record_seen};
 
+use crate::after_owner::{split_after_owner, split_after_owner_at};
 use crate::rclass::RClass;
 use crate::record_data::{ParseRecordData, ParseRecordDataBytes};
 use crate::rtype::RType;
@@ -15,7 +16,7 @@ use crate::ttl::TTL;
 use dns_num::{SizePrefixed, U16};
 use dns_wire::{
     BuildBytes, BuildInMessage, NameCompressor, ParseBytes, ParseError, ParseMessageBytes,
-    SplitBytes, SplitMessageBytes, TruncationError, split_octets, whole, whole_message,
+    SplitBytes, SplitMessageBytes, TruncationError, whole, whole_message,
 };
 
 /// A record: an owner, a type, a class, a time to live, and data (RFC 1035 section 4.1.3).
@@ -125,20 +126,7 @@ impl<'a, N: SplitBytes<'a>, D: ParseRecordDataBytes<'a>> SplitBytes<'a> for Reco
         ensures typed { IfOk result (λ x. D.is_of x.0.rdata x.0.rtype.code.value) }
     {
         let (rname, rest) = N::split_bytes(bytes)?;
-        let (rtype, rest) = RType::split_bytes(rest)?;
-        let (rclass, rest) = RClass::split_bytes(rest)?;
-        let (ttl, rest) = TTL::split_bytes(rest)?;
-        let (size, rest) = U16::split_bytes(rest)?;
-        let (content, rest) = split_octets(rest, usize::from(size))?;
-        let rdata = D::parse_record_data_bytes(content, rtype)?;
-        let value = Record {
-            rname,
-            rtype,
-            rclass,
-            ttl,
-            rdata,
-        };
-        Ok((value, rest))
+        split_after_owner(rname, rest)
     }
 }
 
@@ -163,23 +151,7 @@ impl<'a, N: SplitMessageBytes<'a>, D: ParseRecordData<'a>> SplitMessageBytes<'a>
         ensures typed { IfOk result (λ x. D.is_of x.0.rdata x.0.rtype.code.value) }
     {
         let (rname, at) = N::split_message_bytes(contents, start)?;
-        let (rtype, at) = RType::split_message_bytes(contents, at)?;
-        let (rclass, at) = RClass::split_message_bytes(contents, at)?;
-        let (ttl, at) = TTL::split_message_bytes(contents, at)?;
-        let (size, at) = U16::split_message_bytes(contents, at)?;
-        let end = at + usize::from(size);
-        if contents.len() < end {
-            return Err(ParseError);
-        }
-        let rdata = D::parse_record_data(&contents[..end], at, rtype)?;
-        let value = Record {
-            rname,
-            rtype,
-            rclass,
-            ttl,
-            rdata,
-        };
-        Ok((value, end))
+        split_after_owner_at(rname, contents, at)
     }
 }
 

@@ -11,8 +11,8 @@ ghost use Rattle.dns_record.specs.Kinds.{fields_in};
 ghost use Rattle.dns_basic.specs.Types.{ns_fields, cname_fields, soa_fields, ptr_fields, mx_fields, rp_fields};
 ghost use Rattle.dns_rdata.specs.Data.{data_fields, IsDataOf};
 
-use crate::final_targets::FinalTargets;
 use dns_basic::{CName, Mx, Ns, Ptr, Rp, Soa};
+use dns_chain::FinalTargets;
 use dns_name::NameBuf;
 use dns_num::{U16, U32};
 use dns_rdata::RecordData;
@@ -132,28 +132,26 @@ fn split_soa(
     Ok((value, end))
 }
 
-impl<'a> FinalTargets<'a> {
-    /// Reads the data of a record of this type, from the place up to `end`, where the record ends. `ParseError` comes exactly if there
-    /// are none of this type.
-    pub fn parse_record_data(
-        &self,
-        start: usize,
-        end: usize,
-        rtype: RType,
-    ) -> Result<RecordData<'a, NameBuf>, ParseError>
-        requires { end ≤ length self.now }
-        ensures exact { Gives (λ v. map (named_by (λ n. n)) (data_fields v)) result (data_in name_at rtype.code.value (take end self.now) start) }
-        ensures typed { IfOk result (λ v. IsDataOf v rtype.code.value) }
-    {
-        let contents = &self.contents()[..end];
-        match rtype {
-            RType::NS => as_data(whole_message(split_ns(self, start, end), contents)),
-            RType::CNAME => as_data(whole_message(split_cname(self, start, end), contents)),
-            RType::SOA => as_data(whole_message(split_soa(self, start, end), contents)),
-            RType::PTR => as_data(whole_message(split_ptr(self, start, end), contents)),
-            RType::MX => as_data(whole_message(split_mx(self, start, end), contents)),
-            RType::RP => as_data(whole_message(split_rp(self, start, end), contents)),
-            _ => RecordData::parse_record_data(contents, start, rtype),
-        }
+/// Reads the data of a record of this type, from the place up to `end`, where the record ends. Each pointer in their names is followed
+/// to its final target at once. `ParseError` comes exactly if there are none of this type.
+pub(crate) fn parse_chained_record_data<'a>(
+    targets: &FinalTargets<'a>,
+    start: usize,
+    end: usize,
+    rtype: RType,
+) -> Result<RecordData<'a, NameBuf>, ParseError>
+    requires { end ≤ length targets.now }
+    ensures exact { Gives (λ v. map (named_by (λ n. n)) (data_fields v)) result (data_in name_at rtype.code.value (take end targets.now) start) }
+    ensures typed { IfOk result (λ v. IsDataOf v rtype.code.value) }
+{
+    let contents = &targets.contents()[..end];
+    match rtype {
+        RType::NS => as_data(whole_message(split_ns(targets, start, end), contents)),
+        RType::CNAME => as_data(whole_message(split_cname(targets, start, end), contents)),
+        RType::SOA => as_data(whole_message(split_soa(targets, start, end), contents)),
+        RType::PTR => as_data(whole_message(split_ptr(targets, start, end), contents)),
+        RType::MX => as_data(whole_message(split_mx(targets, start, end), contents)),
+        RType::RP => as_data(whole_message(split_rp(targets, start, end), contents)),
+        _ => RecordData::parse_record_data(contents, start, rtype),
     }
 }
