@@ -2,10 +2,13 @@
 """Measures `dnslines` over many replies: the instructions for each, beside those of `dnscanon canon` alone; how long the lines take on
 1, 2 and 4 processors, beside ldns and dnspython; and the memory for a thousand lines and for a million.
 
+One process, two and four take turns. A round counts only if the host of a virtual machine left the processors alone during it.
+
 The replies are made, of some 200 octets each: a name, two to four addresses, a server with its address, and an OPT. Digests that
 differ from those of ldns or dnspython are named, and nothing is measured then."""
 import argparse
 import os
+import statistics
 import struct
 import subprocess
 import tempfile
@@ -50,6 +53,34 @@ def run(command, path):
         return time.perf_counter() - start, usage.ru_maxrss / 1024
 
 
+def stolen():
+    """The processor seconds that the host of a virtual machine took since its start (`steal` in proc(5))."""
+    with open("/proc/stat") as text:
+        return int(text.readline().split()[8]) / os.sysconf("SC_CLK_TCK")
+
+
+def undisturbed(command, processes):
+    """Seconds, or None if the host took more than a fiftieth of the processors' time."""
+    before = stolen()
+    seconds = run(command, os.devnull)[0]
+    return seconds if stolen() - before <= seconds * processes / 50 else None
+
+
+def rounds_of(word, divided, count, most):
+    """For each round that counts, the seconds with each number of processes; and how many rounds were left out."""
+    counted, left_out = [], 0
+    while len(counted) < count and left_out < most:
+        seconds = [undisturbed(over_parts([str(LINES), word], parts), len(parts)) for parts in divided]
+        if None in seconds:
+            left_out += 1
+        else:
+            counted.append(seconds)
+        for parts in divided[1:]:
+            if not are_joined(parts, divided[0][0]):
+                raise SystemExit(f"{len(parts)} processes wrote something else than one")
+    return counted, left_out
+
+
 def instructions(command, path):
     with open(path, "rb") as text, tempfile.NamedTemporaryFile() as out:
         told = subprocess.run(["valgrind", "--tool=callgrind", f"--callgrind-out-file={out.name}", *command], stdin=text,
@@ -62,15 +93,15 @@ def for_each_line(command, few, many, lines):
     return (instructions(command, many) - instructions(command, few)) / lines
 
 
-def canon_of_each(folder, count):
+def canon_of_each(folder, numbers):
     """Instructions of `dnscanon canon` for a reply, without those for a message of twelve octets."""
     total = 0
-    for number in range(count):
+    for number in numbers:
         path = folder / "one"
         path.write_text(reply(number).hex() + "\n")
         total += instructions([str(CANON), "canon"], path)
     path.write_text("0" * 24 + "\n")
-    return total / count - instructions([str(CANON), "canon"], path)
+    return total / len(numbers) - instructions([str(CANON), "canon"], path)
 
 
 def parts_of(path, count):
@@ -119,25 +150,27 @@ def main():
                 raise SystemExit(f"the digests of {other[-1]} differ")
         octets = sum(len(reply(number)) for number in range(1_000)) / 1_000
         print(f"{octets:.0f} octets a reply")
-        canon = canon_of_each(folder, 20)
+        canon = canon_of_each(folder, range(0, 100_000, 1_000))
         replies(1_001, thousand)
+        replies(100_001, hundred_thousand)
         print(f"instructions for a reply: canon {canon:.0f}", end="")
         for word in ("normal", "digest"):
-            each = for_each_line([str(LINES), word], few, thousand, 1_000)
+            each = for_each_line([str(LINES), word], few, hundred_thousand, 100_000)
             print(f", {word} {each:.0f} ({each / canon:.2f} of canon)", end="")
         print()
         print("| program | processes | seconds | messages a second | to one process |\n|---|---|---|---|---|")
         divided = [[str(many)], parts_of(many, 2), parts_of(many, 4)]
         for word in ("normal", "digest"):
-            for parts in divided:
-                command = over_parts([str(LINES), word], parts)
-                seconds = min(run(command, os.devnull)[0] for _ in range(chosen.runs))
-                if not are_joined(parts, many):
-                    raise SystemExit(f"{len(parts)} processes wrote something else than one")
-                alone = seconds if len(parts) == 1 else alone
-                print(f"| `dnslines {word}` | {len(parts)} | {seconds:.2f} | {chosen.lines / seconds:,.0f} | {alone / seconds:.2f} |")
-        replies(100_000, hundred_thousand)
-        for said, command, path, lines in (("ldns", [str(ldns)], hundred_thousand, 100_000), ("dnspython", python, thousand, 1_001)):
+            counted, left_out = rounds_of(word, divided, chosen.runs, 10 * chosen.runs)
+            if not counted:
+                raise SystemExit("the host took processors in each round")
+            for at, parts in enumerate(divided):
+                seconds = statistics.median(each[at] for each in counted)
+                gains = sorted(each[0] / each[at] for each in counted)
+                print(f"| `dnslines {word}` | {len(parts)} | {seconds:.2f} | {chosen.lines / seconds:,.0f} | "
+                      f"{statistics.median(gains):.2f} ({gains[0]:.2f} to {gains[-1]:.2f}) |")
+            print(f"{len(counted)} rounds, and {left_out} left out")
+        for said, command, path, lines in (("ldns", [str(ldns)], hundred_thousand, 100_001), ("dnspython", python, thousand, 1_001)):
             seconds, held = min(run(command, path) for _ in range(chosen.runs))
             print(f"| {said} | 1 | {seconds:.2f} | {lines / seconds:,.0f} | {held:.0f} MiB |")
         replies(1_000_000, million)
