@@ -65,14 +65,13 @@ seconds_of() {
     esac
 }
 
-# How many processors there are.
+# As many processes as there are processors, and as memory allows at 2 GB each.
 processors() {
-    nproc 2>/dev/null || getconf _NPROCESSORS_ONLN 2>/dev/null || echo 1
-}
-
-# How many processes memory allows at 2 GB each; nothing where that is not known.
-most_processes() {
-    awk '/^MemAvailable:/ { most = int($2 / 2000000); print (most < 1 ? 1 : most) }' /proc/meminfo 2>/dev/null
+    count=$(nproc 2>/dev/null || getconf _NPROCESSORS_ONLN 2>/dev/null || echo 1)
+    most=$(awk '/^MemAvailable:/ { print int($2 / 2000000) }' /proc/meminfo 2>/dev/null)
+    [ "${most:-$count}" -ge "$count" ] || count=$most
+    [ "$count" -ge 1 ] || count=1
+    echo "$count"
 }
 
 # A library is up to date if its proof began after the last change of its sources and of the toolchain, and after the proofs of
@@ -126,25 +125,23 @@ clear_rooms() {
     rm -rf "$rooms"
 }
 
-# Proves the library $1 with $2 processors, in the background. It has twice as many processes if memory allows and no crate waits for a
-# processor: then those of a crate that ends early do not stay idle. When it ends, its status is in a file. A mark tells when it began.
+# Proves the library $1 with $2 processes, in the background. When it ends, its status is in a file. A mark tells when it
+# began.
 start() {
-    processes=$(($2 * 2 < workers ? $2 * 2 : workers))
-    [ $count -le $free ] && [ $processes -le $((room - used)) ] || processes=$2
     : >"$rooms/$1.mark"
     (
         trap 'kill $! 2>/dev/null; exit 1' TERM
         furnish "$1" && cd "$rooms/$1/crates/$1" &&
-            { rt lib --jobs "$processes" & wait $!; }
+            { rt lib --jobs "$2" & wait $!; }
         echo $? >"$rooms/$1.status"
     ) </dev/null >"$out/$1.log" 2>&1 &
     echo $! >"$rooms/$1.pid"
-    echo "$2 $processes" >"$rooms/$1.jobs"
-    free=$((free - $2)) used=$((used + processes))
+    echo "$2" >"$rooms/$1.jobs"
+    free=$((free - $2))
     running="$running $1"
 }
 
-# Starts what waits and depends on proved libraries alone, with the free processors divided among it.
+# Starts what waits and depends on proved libraries alone, with the free processes divided among it.
 start_ready() {
     ready=
     for name in $waiting; do
@@ -165,8 +162,7 @@ gather() {
         kill -0 "$(cat "$rooms/$name.pid")" 2>/dev/null || [ -s "$rooms/$name.status" ] || echo 1 >"$rooms/$name.status"
         [ -s "$rooms/$name.status" ] || continue
         running=$(echo " $running " | sed "s/ $name / /")
-        read -r share processes <"$rooms/$name.jobs"
-        free=$((free + share)) used=$((used - processes))
+        free=$((free + $(cat "$rooms/$name.jobs")))
         clear_room "$name"
         [ "$(cat "$rooms/$name.status")" = 0 ] || { failed=$name && return 1; }
         mv "$rooms/$name.mark" "$crates/$name/out/proved"
@@ -279,10 +275,7 @@ done
 : >"$out/current.new" && rm -f "$out"/*.log && mkdir "$rooms" && plan >"$rooms/plan" || exit 1
 all=$(wc -l <"$rooms/plan")
 workers=$(processors)
-room=$(most_processes)
-room=${room:-$workers}
-[ "$room" -ge "$workers" ] || workers=$room
-free=$workers used=0
+free=$workers
 take_stock
 prove_libraries
 build_program
