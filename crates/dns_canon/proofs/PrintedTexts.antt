@@ -1,10 +1,9 @@
 -- A text that is put is the text that a command prints.
-use Rattle.std.proofs.Common.{ℕ, List, Option, Some, None, Result, Ok, Err, sym, subst, IfSome, ◌≡◌, true}
+use Rattle.std.proofs.Common.{ℕ, List, Option, Some, None, Result, Ok, Err, sym, subst, IfSome, ◌≡◌, ◌∙◌}
 use Rattle.std.specs.Prelude.{IsOk, IsErr, MatchResult}
-use Rattle.dns_wire.specs.Outside.{ReadsAll, Puts}
+use Rattle.dns_wire.specs.Outside.{Puts}
 use Rattle.dns_wire.specs.declared.io.traits.Failed.{Failed}
 use Rattle.dns_canon.specs.Run.{Prints, WritesText, ended}
-use Rattle.dns_canon.specs.ExpectedStatus.{reads, text_read}
 use Rattle.dns_canon.specs.declared.status.Status.{Status}
 use Rattle.dns_canon.specs.declared.status.Status.TheVariants.{WriteFault}
 use Rattle.dns_canon.specs.declared.words.Command.{Command}
@@ -17,9 +16,8 @@ text_put command text printed a b (Err e) (Ok v) came prints puts = cc
 text_put command text printed a b (Ok u) (Err status) came prints puts = cc
 text_put command text printed a b (Err e) (Err status) came prints puts = subst (WritesText command text a b) (sym came.0) (printed, prints, puts)
 
--- and so where the text was read
-pub read_put : (command : Command) (left after : Option (List ℕ)) (text printed : List ℕ) (a b : Option (List ℕ)) (put : Result (Unit {0}) Failed) (result : Result (Unit {0}) Status)
-    → reads (Some command) ≡ true → ReadsAll left after text → MatchResult result (λ _. IsOk put) (λ status. (status ≡ WriteFault) × IsErr put) → Prints command text printed → Puts a b printed put
-    → IfSome (text_read (Some command) left) (λ t. WritesText command t a b (ended result))
-read_put command None after text printed a b put result reading read came prints puts = rw reading tt
-read_put command (Some all) after text printed a b put result reading read came prints puts = rw reading (subst (λ t. WritesText command t a b (ended result)) read.0 (text_put command text printed a b put result came prints puts))
+-- and so for the text that was read, as far as it is known
+pub written_for : (command : Command) (known : Option (List ℕ)) (text items : List ℕ) (a b : Option (List ℕ)) (status : Status)
+    → text ≡ items → IfSome known (λ t. items ≡ t) → WritesText command text a b status → IfSome known (λ t. WritesText command t a b status)
+written_for command None text items a b status is read written = tt
+written_for command (Some all) text items a b status is read written = subst (λ t. WritesText command t a b status) (is ∙ read) written

@@ -1,10 +1,15 @@
 //! From words and a text to an answer.
 
-ghost use Rattle.std.specs.Prelude.{◌↔◌, true, false, ◌≡◌, ◌≢◌, ◌⊎◌, ◌+◌, ◌≤◌, [], ◌∷◌, ◌++◌, ℕ, codes, length, map, Some, None, IfOk, IfErr, IfSome, OnOk, IsOk, IsErr, MatchResult};
+ghost use Rattle.std.specs.Prelude.{◌↔◌, true, false, ◌≡◌, ◌≢◌, ◌⊎◌, ◌+◌, ◌≤◌, [], ◌∷◌, ◌++◌, ℕ, List, codes, length, map, Some, None, IfOk, IfErr, IfSome, OnOk, IsOk, IsErr, MatchResult};
 ghost use Rattle.dns_wire.specs.Outside.{Rose, HasCause, BecomesFlag, WritesPrefix, Puts};
 ghost use Rattle.std.specs.Io.KnownBytes.{Appends};
+ghost use Rattle.dns_wire.specs.Hexadecimal.{Spells};
+ghost use Rattle.dns_wire.specs.Octets.{Octets};
+ghost use Rattle.dns_message.specs.FormsRead.{forms_of};
+ghost use Rattle.dns_message.specs.Messages.{RecordValue, Valid};
 ghost use Rattle.dns_canon.specs.Run.{AllowedStatus, ended, Prints, WritesText, Empties};
 ghost use Rattle.dns_canon.specs.Statuses.{note_of};
+ghost use Rattle.dns_text.specs.Endings.{IsEmptied};
 ghost use Rattle.dns_text.specs.Taken.{TakesAtMost};
 ghost use Rattle.dns_canon.specs.ExpectedStatus.{reads, text_read, limit_of, expected_status};
 ghost use Rattle.dns_canon.specs.Words.{command_of};
@@ -16,7 +21,7 @@ use crate::message::forms_in;
 use crate::parts::parted;
 use crate::status::Status;
 use crate::words::{Command, LIMIT_OF_TWO, Words};
-use dns_message::CanonicalForm;
+use dns_message::{CanonicalForm, CanonicalForms};
 use dns_text::{
     MESSAGE_TEXT_LIMIT, Notice, READ_CHUNK, octets_of, put_notice, put_text, read_text,
 };
@@ -62,6 +67,18 @@ fn written(put: Result<(), Failed>) -> Result<(), Status>
     }
 }
 
+/// The canonical forms of the message that a text spells.
+fn forms_of_text(alloc: Global, text: &[u8]) -> Result<CanonicalForms, Status>
+    requires within { length text.now ≤ MESSAGE_TEXT_LIMIT }
+    ensures forms { IfOk result (λ forms. (message : Octets) × (rs : List RecordValue) × Spells text.now message × Valid message rs × (forms ≡ forms_of rs)) }
+    ensures ok { OnOk result (expected_status (Some Command.Canon) text.now ≡ Status.Done) }
+    ensures err { IfErr result (λ status. AllowedStatus (expected_status (Some Command.Canon) text.now) status) }
+    ensures refused { IfErr result (λ status. (status ≢ Status.Done) × ((status ≢ Status.ReadFault) × ((status ≢ Status.WriteFault) × (status ≢ Status.Usage)))) }
+{
+    let message = octets_of(alloc, text)?;
+    forms_in(alloc, &message, 0)
+}
+
 /// Writes the lines for the text of one message.
 fn put_canon<K: Sink>(alloc: Global, text: &[u8], sink: &mut K) -> Result<(), Status>
     requires within { length text.now ≤ MESSAGE_TEXT_LIMIT }
@@ -74,11 +91,87 @@ fn put_canon<K: Sink>(alloc: Global, text: &[u8], sink: &mut K) -> Result<(), St
     ensures unwritten { IfErr result (λ status. (status ≢ Status.WriteFault) → sink.new ≡ sink.old) }
     ensures flushed { OnOk result (BecomesFlag (K.is_flushed sink.old) (K.is_flushed sink.new) true) }
 {
-    let message = octets_of(alloc, text)?;
-    let forms = forms_in(alloc, &message, 0)?;
+    let forms = forms_of_text(alloc, text)?;
     let order = forms.collapsed(alloc)?;
     let mut lines = LineBuffer::new(alloc)?;
     written(put_forms(sink, &order, &mut lines))
+}
+
+/// Writes the line for the text of two messages.
+fn put_same<K: Sink>(alloc: Global, text: &[u8], sink: &mut K) -> Result<(), Status>
+    requires within { length text.now ≤ LIMIT_OF_TWO }
+    ensures ok { OnOk result (expected_status (Some Command.Same) text.now ≡ Status.Done) }
+    ensures err { IfErr result (λ status. AllowedStatus (expected_status (Some Command.Same) text.now) status) }
+    ensures refused { (result ≢ Err Status.Done) × (result ≢ Err Status.ReadFault) × (result ≢ Err Status.Usage) }
+    ensures write_fault { result ≡ Err Status.WriteFault → Rose (K.faults sink.old) (K.faults sink.new) }
+    ensures write_steady { (result ≢ Err Status.WriteFault) → K.faults sink.new ≡ K.faults sink.old }
+    ensures written { WritesText Command.Same text.now (K.written sink.old) (K.written sink.new) (ended result) }
+    ensures unwritten { IfErr result (λ status. (status ≢ Status.WriteFault) → sink.new ≡ sink.old) }
+    ensures flushed { OnOk result (BecomesFlag (K.is_flushed sink.old) (K.is_flushed sink.new) true) }
+{
+    let line = same_line(alloc, text)?;
+    written(put_text(sink, line))
+}
+
+/// Writes the line on the message of that many generated records.
+fn put_make<K: Sink>(alloc: Global, count: u16, sink: &mut K) -> Result<(), Status>
+    requires few { count ≤ MOST_RECORDS }
+    ensures err { IfErr result (λ status. (status ≡ Status.WriteFault) ⊎ (status ≡ Status.Memory)) }
+    ensures write_fault { result ≡ Err Status.WriteFault → Rose (K.faults sink.old) (K.faults sink.new) }
+    ensures write_steady { (result ≢ Err Status.WriteFault) → K.faults sink.new ≡ K.faults sink.old }
+    ensures written { WritesText (Command.Make count) [] (K.written sink.old) (K.written sink.new) (ended result) }
+    ensures unwritten { IfErr result (λ status. (status ≢ Status.WriteFault) → sink.new ≡ sink.old) }
+    ensures flushed { OnOk result (BecomesFlag (K.is_flushed sink.old) (K.is_flushed sink.new) true) }
+{
+    let line = make_text(alloc, count)?;
+    written(put_text(sink, &line))
+}
+
+/// Writes what the command prints for a text that is not too long for it.
+fn put_for<K: Sink>(
+    alloc: Global,
+    command: Command,
+    text: &[u8],
+    sink: &mut K,
+) -> Result<(), Status>
+    requires few { (count : ℕ) → command ≡ Command.Make count → count ≤ MOST_RECORDS }
+    requires within { length text.now ≤ limit_of command }
+    ensures ok { OnOk result (expected_status (Some command) text.now ≡ Status.Done) }
+    ensures err { IfErr result (λ status. AllowedStatus (expected_status (Some command) text.now) status) }
+    ensures refused { (result ≢ Err Status.Done) × (result ≢ Err Status.ReadFault) × (result ≢ Err Status.Usage) }
+    ensures write_fault { result ≡ Err Status.WriteFault → Rose (K.faults sink.old) (K.faults sink.new) }
+    ensures write_steady { (result ≢ Err Status.WriteFault) → K.faults sink.new ≡ K.faults sink.old }
+    ensures written { WritesText command text.now (K.written sink.old) (K.written sink.new) (ended result) }
+    ensures unwritten { IfErr result (λ status. (status ≢ Status.WriteFault) → sink.new ≡ sink.old) }
+    ensures flushed { OnOk result (BecomesFlag (K.is_flushed sink.old) (K.is_flushed sink.new) true) }
+{
+    match command {
+        Command::Canon => put_canon(alloc, text, sink),
+        Command::Same => put_same(alloc, text, sink),
+        Command::Make { count } => put_make(alloc, count, sink),
+    }
+}
+
+/// Reads the text of the command; `make` has an empty one.
+fn text_for<S: Source>(alloc: Global, command: Command, source: &mut S) -> Result<Vec<u8>, Status>
+    ensures text { IfOk result (λ text. IfSome (text_read (Some command) (S.left source.old)) (λ t. text.items ≡ t)) }
+    ensures within { IfOk result (λ text. length text.items ≤ limit_of command) }
+    ensures err { IfErr result (λ status. IfSome (text_read (Some command) (S.left source.old)) (λ t. AllowedStatus (expected_status (Some command) t) status)) }
+    ensures refused { (result ≢ Err Status.Done) × (result ≢ Err Status.WriteFault) × (result ≢ Err Status.Usage) }
+    ensures read_fault { result ≡ Err Status.ReadFault → Rose (S.faults source.old) (S.faults source.new) }
+    ensures read_steady { (result ≢ Err Status.ReadFault) → S.faults source.new ≡ S.faults source.old }
+    ensures reading { result ≡ Err Status.ReadFault → reads (Some command) ≡ true }
+    ensures unread { reads (Some command) ≡ false → source.new ≡ source.old }
+    ensures emptied { OnOk result (reads (Some command) ≡ true → IsEmptied (S.left source.old) (S.left source.new)) }
+    ensures unemptied { IfErr result (λ status. Empties status (S.left source.old) (S.left source.new)) }
+    ensures taken { TakesAtMost (S.left source.old) (S.left source.new) (limit_of command + READ_CHUNK) }
+{
+    let text = match command {
+        Command::Canon => read_text(alloc, source, MESSAGE_TEXT_LIMIT)?,
+        Command::Same => read_text(alloc, source, LIMIT_OF_TWO)?,
+        Command::Make { .. } => Vec::new(alloc),
+    };
+    Ok(text)
 }
 
 /// Reads the text of the command, and writes what the command prints for it.
@@ -104,17 +197,8 @@ fn carry_out<S: Source, K: Sink>(
     ensures emptied { reads (Some command) ≡ true → Empties (ended result) (S.left source.old) (S.left source.new) }
     ensures taken { TakesAtMost (S.left source.old) (S.left source.new) (limit_of command + READ_CHUNK) }
 {
-    match command {
-        Command::Canon => put_canon(alloc, &read_text(alloc, source, MESSAGE_TEXT_LIMIT)?, sink),
-        Command::Same => {
-            let line = same_line(alloc, &read_text(alloc, source, LIMIT_OF_TWO)?)?;
-            written(put_text(sink, line))
-        }
-        Command::Make { count } => {
-            let line = make_text(alloc, count)?;
-            written(put_text(sink, &line))
-        }
-    }
+    let text = text_for(alloc, command, source)?;
+    put_for(alloc, command, &text, sink)
 }
 
 /// Answers the words, and writes what their command prints.

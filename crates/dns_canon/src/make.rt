@@ -37,6 +37,16 @@ pub(crate) fn make_text(alloc: Global, count: u16) -> Result<Vec<u8>, Status>
     let (id, flags) = (U16::new(0), HeaderFlags::from_bits(0));
     let mut builder = MessageBuilder::new(&mut buffer, &mut compressor, id, flags);
     push_records(alloc, &mut builder, count)?;
+    line_on(alloc, &builder, count)
+}
+
+/// The line on a message in which that many generated records were built.
+fn line_on(alloc: Global, builder: &MessageBuilder<'_>, count: u16) -> Result<Vec<u8>, Status>
+    requires few { count ≤ MOST_RECORDS }
+    requires made { HasMade count builder.now }
+    ensures ok { IfOk result (λ printed. printed.items ≡ made_line count) }
+    ensures err { IfErr result (λ status. status ≡ Status.Memory) }
+{
     let message = builder.message().as_bytes();
     let forms = forms_in(alloc, message, 0)?;
     let order = forms.collapsed(alloc)?;
