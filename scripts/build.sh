@@ -139,20 +139,33 @@ start() {
     echo "$2" >"$rooms/$1.jobs"
     free=$((free - $2))
     running="$running $1"
+    waiting=$(echo " $waiting " | sed "s/ $1 / /")
 }
 
-# Starts what waits and depends on proved libraries alone, with the free processes divided among it.
+# Starts what waits and depends on proved libraries alone, with the free processes divided among it. What comes in the list after a
+# crate that is not ready is needed later, and starts only if a process is left.
 start_ready() {
     ready=
+    later=
+    unready=
     for name in $waiting; do
-        ! has_all "$(below "$name")" "$proved" || ready="$ready $name"
+        if ! has_all "$(below "$name")" "$proved"; then
+            unready=yes
+        elif [ -z "$unready" ]; then
+            ready="$ready $name"
+        else
+            later="$later $name"
+        fi
     done
     count=$(echo $ready | wc -w)
     for name in $ready; do
         [ $free -ge 0 ] || return 0
         start "$name" $((free < count ? 1 : free / count))
         count=$((count - 1))
-        waiting=$(echo " $waiting " | sed "s/ $name / /")
+    done
+    for name in $later; do
+        [ $free -gt 0 ] || return 0
+        start "$name" 1
     done
 }
 
