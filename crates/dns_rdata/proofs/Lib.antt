@@ -5,3 +5,4 @@ pub mod Forms
 pub mod UncompressedData
 pub mod CompressedData
 pub mod PlainOctets
+pub mod MappedNames

@@ -41,16 +41,21 @@ edns_fixed_header = 0 ∷ 0 ∷ opt_number ∷ []
 abbrev pub after_fixed_header : Octets → Option Octets
 after_fixed_header bytes = if pointwise nat_eq (take 3 bytes) edns_fixed_header then Some (drop 3 bytes) else None
 
--- the root and the number of OPT, a size of payload, a part of the response code, a version, flags, and data after the number of their octets
+-- after a size of payload and a part of the response code: a version, flags, and data after the number of their octets
+unfoldable pub edns_after_rcode : {D : Type 0} → (Octets → Option (D × Octets)) → ℕ → ℕ → Octets → Option (EdnsOf D × Octets)
+edns_after_rcode content payload ext_rcode bytes = do
+  (version, after_version) ← octet bytes
+  (flags, after_flags) ← number w16 after_version
+  (body, after_body) ← prefixed w16 content after_flags
+  Some (record { payload = payload; ext_rcode = ext_rcode; version = version; flags = flags; content = body }, after_body)
+
+-- the root and the number of OPT, a size of payload, a part of the response code, and what comes after it
 unfoldable pub edns_at : {D : Type 0} → (Octets → Option (D × Octets)) → Octets → Option (EdnsOf D × Octets)
 edns_at content bytes = do
   rest ← after_fixed_header bytes
   (payload, after_payload) ← number w16 rest
   (ext_rcode, after_rcode) ← octet after_payload
-  (version, after_version) ← octet after_rcode
-  (flags, after_flags) ← number w16 after_version
-  (body, after_body) ← prefixed w16 content after_flags
-  Some (record { payload = payload; ext_rcode = ext_rcode; version = version; flags = flags; content = body }, after_body)
+  edns_after_rcode content payload ext_rcode after_rcode
 
 -- the octets, if these are those of the data
 abbrev pub edns_octets : {D : Type 0} → EdnsRecord D → Octets → Octets

@@ -39,8 +39,12 @@ is_root (label ∷ labels) = false
 abbrev pub edns_fields : ℕ → ℕ → Octets → EdnsOf Octets
 edns_fields class ttl octets = record { payload = class; ext_rcode = ttl / 2 ^ 24; version = (ttl / 2 ^ 16) % 2 ^ 8; flags = ttl % 2 ^ 16; content = octets }
 
--- the EDNS record that a record is: its owner is the root, its type is OPT, and its data have options
+-- the EDNS record that a record with these parts is: its owner is the root, its type is OPT, and its data have options
+abbrev pub edns_of_parts : {N : Type 0} → Bool → ℕ → ℕ → ℕ → RecordData N → Option (EdnsOf Octets)
+edns_of_parts root rtype class ttl rdata = do
+  octets ← if root && (rtype == opt_number) then octets_of_options rdata else None
+  Some (edns_fields class ttl octets)
+
+-- the EDNS record that a record is
 abbrev pub edns_in : {N : Type 0} → Record Labels (RecordData N) → Option (EdnsOf Octets)
-edns_in form = do
-  octets ← if is_root form.rname && (form.rtype.code.value == opt_number) then octets_of_options form.rdata else None
-  Some (edns_fields form.rclass.code.value form.ttl.value.value octets)
+edns_in form = edns_of_parts (is_root form.rname) form.rtype.code.value form.rclass.code.value form.ttl.value.value form.rdata

@@ -9,7 +9,7 @@ use Rattle.dns_wire.specs.ReadingLemmas.{then_some, follows_both, octet_leaves, 
 use Rattle.dns_wire.specs.Reading.{Follows, LeavesRest, octet, number}
 use Rattle.std.specs.Prelude.{nat_eq}
 use Rattle.std.specs.Cmp.Lexicographic.{pointwise, as_long}
-use Rattle.dns_rdata.specs.Edns.{edns_fixed_header, after_fixed_header, edns_at}
+use Rattle.dns_rdata.specs.Edns.{edns_fixed_header, after_fixed_header, edns_after_rcode, edns_at}
 
 fixed_header_leaves_by : (b : Bool) (bytes rest : List ℕ) → pointwise nat_eq (take 3 bytes) edns_fixed_header ≡ b → cond b (Some (drop 3 bytes)) None ≡ Some rest → Follows rest bytes
 fixed_header_leaves_by true bytes rest is e =
@@ -22,7 +22,7 @@ fixed_header_leaves : (bytes rest : List ℕ) → after_fixed_header bytes ≡ S
 fixed_header_leaves bytes rest e = fixed_header_leaves_by (pointwise nat_eq (take 3 bytes) edns_fixed_header) bytes rest refl e
 
 pub edns_leaves : {D : Type 0} (content : List ℕ → Option (D × List ℕ)) → LeavesRest (edns_at content)
-unfolding edns_at
+unfolding edns_at edns_after_rcode
 edns_leaves content bytes found rest e =
     let a = then_some (after_fixed_header bytes) _ _ e in
     let b = then_some (number w16 a.0) _ _ a.2 in

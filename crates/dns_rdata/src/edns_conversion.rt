@@ -4,7 +4,7 @@ ghost use Rattle.std.specs.Prelude.{◌≡◌, [], List};
 ghost use Rattle.dns_wire.specs.Reading.{Gives};
 ghost use Rattle.dns_edns.specs.Flags.{flag_bits};
 ghost use Rattle.dns_rdata.specs.Edns.{edns_seen};
-ghost use Rattle.dns_rdata.specs.EdnsForms.{IsFormOf, octets_of_options, edns_fields, edns_in};
+ghost use Rattle.dns_rdata.specs.EdnsForms.{IsFormOf, octets_of_options, edns_fields, edns_of_parts, edns_in};
 
 use crate::edns_record::EdnsRecord;
 use crate::record_data::RecordData;
@@ -77,6 +77,23 @@ fn edns_of<'a>(rclass: RClass, ttl: TTL, options: Opt<'a>) -> EdnsRecord<Opt<'a>
     }
 }
 
+/// The EDNS record that a record is, of whose owner it is told whether it is the root.
+fn edns_of_parts<'a, N: Drop>(
+    is_root: bool,
+    rtype: RType,
+    rclass: RClass,
+    ttl: TTL,
+    rdata: RecordData<'a, N>,
+) -> Result<EdnsRecord<Opt<'a>>, ParseError>
+    ensures { Gives (edns_seen (λ options. options.slice.now)) result (edns_of_parts is_root rtype.code.value rclass.code.value ttl.value.value rdata.entry) }
+{
+    if !is_root || rtype != RType::OPT {
+        return Err(ParseError);
+    }
+    let options = options_of(rdata)?;
+    Ok(edns_of(rclass, ttl, options))
+}
+
 /// `ParseError` comes exactly if the owner is not the root, the type is not OPT, or the data are neither OPT data nor unknown
 /// data with the number of OPT that are options of at most 65,535 octets in all.
 impl<'a, N: Drop> TryFrom<Record<NameBuf, RecordData<'a, N>>> for EdnsRecord<Opt<'a>> {
@@ -87,11 +104,8 @@ impl<'a, N: Drop> TryFrom<Record<NameBuf, RecordData<'a, N>>> for EdnsRecord<Opt
     fn try_from(
         form: Record<NameBuf, RecordData<'a, N>>,
     ) -> Result<EdnsRecord<Opt<'a>>, ParseError> {
-        if !form.rname.as_name().is_root() || form.rtype != RType::OPT {
-            return Err(ParseError);
-        }
-        let options = options_of(form.rdata)?;
-        Ok(edns_of(form.rclass, form.ttl, options))
+        let is_root = form.rname.as_name().is_root();
+        edns_of_parts(is_root, form.rtype, form.rclass, form.ttl, form.rdata)
     }
 }
 
@@ -105,10 +119,7 @@ impl<'a, N: Drop> TryFrom<Record<RevNameBuf, RecordData<'a, N>>> for EdnsRecord<
     fn try_from(
         form: Record<RevNameBuf, RecordData<'a, N>>,
     ) -> Result<EdnsRecord<Opt<'a>>, ParseError> {
-        if !form.rname.as_revname().is_root() || form.rtype != RType::OPT {
-            return Err(ParseError);
-        }
-        let options = options_of(form.rdata)?;
-        Ok(edns_of(form.rclass, form.ttl, options))
+        let is_root = form.rname.as_revname().is_root();
+        edns_of_parts(is_root, form.rtype, form.rclass, form.ttl, form.rdata)
     }
 }

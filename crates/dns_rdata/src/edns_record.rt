@@ -4,7 +4,7 @@ ghost use Rattle.std.specs.Prelude.{◌≡◌, ◌↔◌, ◌≤◌, ◌<◌, �
 ghost use Rattle.std.specs.Fn.{FnOnceTakesAt, FnOnceReturnsAt};
 ghost use Rattle.dns_wire.specs.Layout.{octets_writes};
 ghost use Rattle.dns_wire.specs.Reading.{Gives};
-ghost use Rattle.dns_rdata.specs.Edns.{EdnsOf, edns_seen, after_fixed_header, edns_at, edns_octets, SamePrefix, TakesTwo, AnswersTwo};
+ghost use Rattle.dns_rdata.specs.Edns.{EdnsOf, edns_seen, after_fixed_header, edns_after_rcode, edns_at, edns_octets, SamePrefix, TakesTwo, AnswersTwo};
 ghost use Rattle.dns_rdata.specs.EdnsRecordLemmas.{edns_leaves};
 
 use dns_edns::EdnsFlags;
@@ -81,21 +81,34 @@ impl<'a, D: ParseBytes<'a>> ReadPlainValue<'a> for EdnsRecord<D> {
         let rest = split_fixed_header(bytes)?;
         let (max_udp_payload, rest) = U16::split_bytes(rest)?;
         let (ext_rcode, rest) = u8::split_bytes(rest)?;
-        let (version, rest) = u8::split_bytes(rest)?;
-        let (flags, rest) = EdnsFlags::split_bytes(rest)?;
-        let (content, rest) = match SizePrefixed::split_bytes(rest) {
-            Ok(parts) => parts,
-            Err(error) => return Err(error),
-        };
-        let value = EdnsRecord {
-            max_udp_payload,
-            ext_rcode,
-            version,
-            flags,
-            content,
-        };
-        Ok((value, rest))
+        read_after_rcode(max_udp_payload, ext_rcode, rest)
     }
+}
+
+/// Reads what comes after the part of the response code. `ParseError` comes exactly if it is not there.
+#[tactic(auto, unfolding(crate::specs::Edns::edns_after_rcode))]
+fn read_after_rcode<'a, D: ParseBytes<'a>>(
+    max_udp_payload: U16,
+    ext_rcode: u8,
+    bytes: &'a [u8],
+) -> Result<(EdnsRecord<D>, &'a [u8]), ParseError>
+    ensures exact { Gives (λ x. (edns_seen D.seen x.0, x.1.now)) result (edns_after_rcode D.reads max_udp_payload.value ext_rcode bytes.now) }
+    ensures within { IfOk result (λ x. length x.1.now ≤ length bytes.now) }
+{
+    let (version, rest) = u8::split_bytes(bytes)?;
+    let (flags, rest) = EdnsFlags::split_bytes(rest)?;
+    let (content, rest) = match SizePrefixed::split_bytes(rest) {
+        Ok(parts) => parts,
+        Err(error) => return Err(error),
+    };
+    let value = EdnsRecord {
+        max_udp_payload,
+        ext_rcode,
+        version,
+        flags,
+        content,
+    };
+    Ok((value, rest))
 }
 
 /// The octets after the root and the type of an EDNS record. `ParseError` comes exactly if they don't begin with these.

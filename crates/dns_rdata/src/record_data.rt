@@ -1,6 +1,6 @@
 //! Record data of any type.
 
-ghost use Rattle.std.specs.Prelude.{◌≡◌, ◌↔◌, ◌≤◌, ◌<◌, ◌^◌, ℕ, List, length, map, IsTrue, IfOk, true, ⊤};
+ghost use Rattle.std.specs.Prelude.{◌≡◌, ◌↔◌, ◌≤◌, ◌<◌, ◌^◌, ℕ, List, length, map, IsTrue, IfOk, Some, true, ⊤};
 ghost use Rattle.dns_wire.specs.Building.{Builds};
 ghost use Rattle.dns_wire.specs.Reading.{Gives};
 ghost use Rattle.std.specs.Cmp.Lexicographic.{slice_cmp};
@@ -229,21 +229,15 @@ impl<'a, N> RecordData<'a, N> {
         }
     }
 
-    /// The data with what the function makes of their names, called on them in the order of the fields.
-    pub fn map_names<R, F: FnMut(N) -> R>(self, f: F) -> RecordData<'a, R>
-        requires { TakesNames F.pre F.step f self }
-        ensures { HoldsGiven F.step f self.entry result }
+    /// The data as data with names of another type, of which they have none that pointers may lead through.
+    fn with_other_names<R>(self) -> RecordData<'a, R>
+        requires { is_plain self ≡ true }
+        ensures { without_names self.entry ≡ Some result }
     {
         match self {
             RecordData::A(v) => RecordData::A(v),
-            RecordData::Ns(v) => RecordData::Ns(v.map_name(f)),
-            RecordData::CName(v) => RecordData::CName(v.map_name(f)),
-            RecordData::Soa(v) => RecordData::Soa(v.map_names(f)),
-            RecordData::Ptr(v) => RecordData::Ptr(v.map_name(f)),
             RecordData::HInfo(v) => RecordData::HInfo(v),
-            RecordData::Mx(v) => RecordData::Mx(v.map_name(f)),
             RecordData::Txt(v) => RecordData::Txt(v),
-            RecordData::Rp(v) => RecordData::Rp(v.map_names(f)),
             RecordData::Srv(v) => RecordData::Srv(v),
             RecordData::Aaaa(v) => RecordData::Aaaa(v),
             RecordData::DName(v) => RecordData::DName(v),
@@ -258,6 +252,23 @@ impl<'a, N> RecordData<'a, N> {
             RecordData::CDNSKey(v) => RecordData::CDNSKey(v),
             RecordData::ZoneMD(v) => RecordData::ZoneMD(v),
             RecordData::Unknown(rtype, v) => RecordData::Unknown(rtype, v),
+            _ => unreachable!(),
+        }
+    }
+
+    /// The data with what the function makes of their names, called on them in the order of the fields.
+    pub fn map_names<R, F: FnMut(N) -> R>(self, f: F) -> RecordData<'a, R>
+        requires { TakesNames F.pre F.step f self }
+        ensures { HoldsGiven F.step f self.entry result }
+    {
+        match self {
+            RecordData::Ns(v) => RecordData::Ns(v.map_name(f)),
+            RecordData::CName(v) => RecordData::CName(v.map_name(f)),
+            RecordData::Soa(v) => RecordData::Soa(v.map_names(f)),
+            RecordData::Ptr(v) => RecordData::Ptr(v.map_name(f)),
+            RecordData::Mx(v) => RecordData::Mx(v.map_name(f)),
+            RecordData::Rp(v) => RecordData::Rp(v.map_names(f)),
+            plain => plain.with_other_names(),
         }
     }
 
