@@ -34,10 +34,10 @@ next_is v is = ap name_before (plain_wire (name_labels v.next.slice.now) (v.type
 algorithm_is : (v : Nsec3) → hash_algorithm (fields_octets (nsec3_fields v)) ≡ algorithm_of v
 algorithm_is v = refl
 
-iterations_is : (v : Nsec3) → iterations_of v < 65536 → hash_iterations (fields_octets (nsec3_fields v)) ≡ iterations_of v
+pub iterations_is : (v : Nsec3) → iterations_of v < 65536 → hash_iterations (fields_octets (nsec3_fields v)) ≡ iterations_of v
 iterations_is v fits = let n = iterations_of v in omega arith
 
-salt_is : (v : Nsec3) → hash_salt (fields_octets (nsec3_fields v)) ≡ salt_of v
+pub salt_is : (v : Nsec3) → hash_salt (fields_octets (nsec3_fields v)) ≡ salt_of v
 salt_is v = take_at (salt_of v) (length (next_owner_of v) ∷ (next_owner_of v ++ (v.types.slice.now ++ []))) (length (salt_of v)) refl
 
 after_is : (v : Nsec3) → after_salt (fields_octets (nsec3_fields v)) ≡ length (next_owner_of v) ∷ (next_owner_of v ++ (v.types.slice.now ++ []))
@@ -46,21 +46,17 @@ after_is v = drop_at (salt_of v) (length (next_owner_of v) ∷ (next_owner_of v 
 next_hash_is : (v : Nsec3) → next_hash (fields_octets (nsec3_fields v)) ≡ next_owner_of v
 next_hash_is v = ap (λ (l : List ℕ). take (slice_index l 0) (drop 1 l)) (after_is v) ∙ take_at (next_owner_of v) (v.types.slice.now ++ []) (length (next_owner_of v)) refl
 
-module _ (name : List (List ℕ)) (k : SortKey) (v : Nsec3) (octets : k.octets ≡ fields_octets (nsec3_fields v)) (fits : iterations_of v < 65536) where
-  tested : is_computed k.octets ≡ (eqb (algorithm_of v) 1 && leb (iterations_of v) 500 && eqb (length (next_owner_of v)) 20)
-  tested =
-      ap is_computed octets
-      ∙ (λ i. eqb (algorithm_is v i) 1 && leb (iterations_is v fits i) 500 && eqb (length (next_hash_is v i)) 20)
+-- whether hashes are computed, by the fields
+pub tested : (v : Nsec3) → iterations_of v < 65536 → is_computed (fields_octets (nsec3_fields v)) ≡ (eqb (algorithm_of v) 1 && leb (iterations_of v) 500 && eqb (length (next_owner_of v)) 20)
+tested v fits = λ i. eqb (algorithm_is v i) 1 && leb (iterations_is v fits i) 500 && eqb (length (next_hash_is v i)) 20
+
+module _ (name : List (List ℕ)) (k : SortKey) (v : Nsec3) (octets : k.octets ≡ fields_octets (nsec3_fields v)) where
+  abbrev by_test : Bool → Coverage
+  by_test b = cond {A = Coverage} b (hashed_coverage name k.octets (owner_hash k)) Unknown
 
   -- a record whose hashes are not computed
-  pub not_computed : (algorithm_of v ≡ 1 → iterations_of v ≤ 500 → length (next_owner_of v) ≡ 20 → ⊥) → Unknown ≡ nsec3_coverage name k
-  not_computed other = by (is_computed k.octets) refl where
-    by : (b : Bool) → is_computed k.octets ≡ b → Unknown ≡ cond {A = Coverage} b (hashed_coverage name k.octets (owner_hash k)) Unknown
-    by false is = refl
-    by true is =
-        let parts = and_parts (eqb (algorithm_of v) 1 && leb (iterations_of v) 500) (eqb (length (next_owner_of v)) 20) (sym tested ∙ is) in
-        let first = and_parts (eqb (algorithm_of v) 1) (leb (iterations_of v) 500) parts.0 in
-        absurd (other (eqb-true (algorithm_of v) 1 first.0) (leb-true (iterations_of v) 500 first.1) (eqb-true (length (next_owner_of v)) 20 parts.1))
+  pub not_computed : is_computed (fields_octets (nsec3_fields v)) ≡ false → Unknown ≡ nsec3_coverage name k
+  not_computed other = sym (ap by_test (ap is_computed octets ∙ other))
 
   -- a record whose owner has no hash
   pub not_hashed : owner_hash k ≡ None → Unknown ≡ nsec3_coverage name k
@@ -69,16 +65,12 @@ module _ (name : List (List ℕ)) (k : SortKey) (v : Nsec3) (octets : k.octets �
     by false = refl
     by true = sym (ap (hashed_coverage name k.octets) none)
 
-  pub hashed : (owner hash next : List ℕ) → algorithm_of v ≡ 1 → iterations_of v ≤ 500 → length (next_owner_of v) ≡ 20 → owner_hash k ≡ Some owner → next ≡ next_owner_of v
-      → hash ≡ nsec3_hash_of name (salt_of v) (iterations_of v) → coverage_in (slice_cmp nat_cmp) owner next hash ≡ nsec3_coverage name k
-  hashed owner hash next algorithm few long is next-is hash-is =
-      let yes : is_computed k.octets ≡ true =
-      tested ∙ (λ i. eqb (algorithm i) 1 && leb (iterations_of v) 500 && eqb (long i) 20) ∙ ap (λ (b : Bool). b && true) (le-leb (iterations_of v) 500 few) in
-      let salt : hash_salt k.octets ≡ salt_of v = ap hash_salt octets ∙ salt_is v in
-      let iterations : hash_iterations k.octets ≡ iterations_of v = ap hash_iterations octets ∙ iterations_is v fits in
+  pub hashed : (owner hash next : List ℕ) → is_computed (fields_octets (nsec3_fields v)) ≡ true → owner_hash k ≡ Some owner → next ≡ next_owner_of v
+      → hash ≡ nsec3_hash_of name (hash_salt (fields_octets (nsec3_fields v))) (hash_iterations (fields_octets (nsec3_fields v))) → coverage_in (slice_cmp nat_cmp) owner next hash ≡ nsec3_coverage name k
+  hashed owner hash next computed is next-is hash-is =
       let after : next_hash k.octets ≡ next = ap next_hash octets ∙ next_hash_is v ∙ sym next-is in
-      (λ i. coverage_in (slice_cmp nat_cmp) owner (sym after i) ((hash-is ∙ (λ j. nsec3_hash_of name (sym salt j) (sym iterations j))) i))
-      ∙ sym (ap (hashed_coverage name k.octets) is) ∙ sym (ap (λ (b : Bool). cond {A = Coverage} b (hashed_coverage name k.octets (owner_hash k)) Unknown) yes)
+      (λ i. coverage_in (slice_cmp nat_cmp) owner (sym after i) ((hash-is ∙ (λ j. nsec3_hash_of name (hash_salt (sym octets j)) (hash_iterations (sym octets j)))) i))
+      ∙ sym (ap (hashed_coverage name k.octets) is) ∙ sym (ap by_test (ap is_computed octets ∙ computed))
 
 -- the owner's labels are those from the root on
 pub owner_is : (k : SortKey) (owner : List (List ℕ)) → k.owner ≡ key owner → owner_hash k ≡ hash_of_text (first_label (lowered owner))

@@ -1,8 +1,7 @@
 -- Lines of records, and the octets of their data.
-use Rattle.std.proofs.Common.{◌≡◌, ◌<◌, ◌≤◌, ◌+◌, ℕ, List, [], ◌∷◌, ◌++◌, length, map, flat_map, take, take_all, drop, get_or, refl, sym, ap, ◌∙◌, arith, append-nil}
-use Rattle.std.proofs.lemmas.List.{drop-drop, take_more}
+use Rattle.std.proofs.Common.{◌≡◌, ◌<◌, ◌≤◌, ◌+◌, ℕ, List, [], ◌∷◌, ◌++◌, length, map, flat_map, take, take_all, drop, get_or, refl, sym, ap, ◌∙◌, arith}
+use Rattle.std.proofs.lemmas.List.{drop-drop, flat_map_more, take_more}
 use Rattle.std.proofs.lemmas.List.Concat.{flat_map-cons}
-use Rattle.std.proofs.lemmas.Grind.{flat_map-append}
 use Rattle.dns_wire.specs.Names.{wire, lowered}
 use Rattle.dns_wire.proofs.Lowered.{lowered_long}
 use Rattle.dns_message.specs.Canonical.{canonical_wire}
@@ -10,11 +9,12 @@ use Rattle.dns_message.specs.Messages.{RecordValue}
 use Rattle.dns_message.specs.Order.{sort_key}
 use Rattle.dns_message.proofs.Lengths.{canonical_wire_long}
 
--- the lines of one more
-pub lines_more : {X : Type 0} (vs : List X) (f : X → List ℕ) (i : ℕ) (v : X) → i < length vs → v ≡ get_or vs i v → flat_map f (take (i + 1) vs) ≡ flat_map f (take i vs) ++ f v
-lines_more {X = X} vs f i v within is =
-    ap (flat_map f) (take_more vs i v within ∙ ap (λ (x : X). take i vs ++ x ∷ []) (sym is)) ∙ flat_map-append f (take i vs) (v ∷ [])
-    ∙ ap (λ (l : List ℕ). flat_map f (take i vs) ++ l) (flat_map-cons f v [] ∙ append-nil (f v))
+-- what is appended for one more
+pub push_more : {X : Type 0} (vs : List X) (f : X → List ℕ) (i : ℕ) (v : X) (start now new : List ℕ) → i < length vs → v ≡ get_or vs i v → now ≡ start ++ flat_map f (take i vs) → new ≡ now ++ f v
+    → new ≡ start ++ flat_map f (take (i + 1) vs)
+push_more {X = X} vs f i v start now new within at is more =
+    more ∙ ap (λ (l : List ℕ). l ++ f v) is ∙ flat_map_more f start (take i vs) v
+    ∙ ap (λ (l : List X). start ++ flat_map f l) (ap (λ (x : X). take i vs ++ x ∷ []) at ∙ sym (take_more vs i v within))
 
 -- the lines of all, by what is seen of each
 pub lines_all : {X Y : Type 0} (vs : List X) (g : X → Y) (f : Y → List ℕ) (i : ℕ) → length vs ≤ i → flat_map (λ v. f (g v)) (take i vs) ≡ flat_map f (map g vs)

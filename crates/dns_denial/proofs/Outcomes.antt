@@ -1,6 +1,7 @@
 -- The outcome that a text calls for, and what is printed for it.
-use Rattle.std.proofs.Common.{◌≡◌, ℕ, ◌<◌, ◌≤◌, Bool, true, false, cond, inl, inr, List, length, Option, Some, None, refl, sym, ap, subst, ◌∙◌}
+use Rattle.std.proofs.Common.{◌≡◌, ℕ, ◌<◌, ◌≤◌, Bool, true, false, cond, inl, inr, List, length, Option, Some, None, Result, Ok, Err, refl, sym, ap, subst, ◌∙◌}
 use Rattle.std.specs.Prelude.{◌↔◌, ◌⊎◌}
+use Rattle.std.specs.Result.{IfErr, IsErrAnd}
 use Rattle.std.proofs.lemmas.Bool.{cases_lt, le-ltb, lt-ltb}
 use Rattle.std.proofs.lemmas.Option.{slice_get_cases, slice_get_past}
 use Rattle.dns_wire.specs.Hexadecimal.{Spells, SpellsNothing, spelled, trim}
@@ -19,11 +20,18 @@ use Rattle.dns_denial.specs.KeyTags.{key_tags_text}
 use Rattle.dns_denial.specs.Signed.{labels_field, signature_refusal, signatures, signed_text}
 use Rattle.dns_message.specs.Texts.{HasRecords}
 use Rattle.dns_message.proofs.TextLemmas.{one_records}
-use Rattle.dns_denial.specs.Texts.{HasTooManyLabels, LacksSignature, PrintsDenial, Suits, denial_outcome, denial_reads, denial_refusal, members, members_refusal, message_refusal, reading_refusal, spelling_refusal}
+use Rattle.dns_denial.specs.Texts.{HasTooManyLabels, LacksSignature, PrintsDenial, PrintsMembers, Suits, denial_outcome, denial_reads, denial_refusal, members, members_refusal, members_text, message_refusal, reading_refusal, spelling_refusal}
 use Rattle.dns_denial.specs.declared.refusal.Refusal.{Refusal}
 use Rattle.dns_denial.specs.declared.refusal.Refusal.TheVariants as refusal
 use Rattle.dns_denial.specs.declared.words.DenialCommand.{DenialCommand}
 use Rattle.dns_denial.specs.declared.words.DenialCommand.TheVariants.{Hash, Covers, Signed, KeyTags}
+
+-- ---- errors
+
+-- the error of a call is given back
+pub refused_again : {T E : Type 0} (r : Result T E) (e : E) (P : E → Type 0) → IsErrAnd r (λ x. x ≡ e) → P e → IfErr r P
+refused_again (Ok x) e P none p = absurd none
+refused_again (Err x) e P is p = subst P (sym is) p
 
 -- ---- records
 
@@ -94,11 +102,18 @@ CallsFor command t WriteFault = ⊥
 CallsFor command t Memory = ⊥
 
 -- why the text of a command that reads is refused
-read_refusal : (command : DenialCommand) (t : List ℕ) → denial_reads command ≡ true → denial_refusal command t ≡ message_refusal (members_refusal command) t
+pub read_refusal : (command : DenialCommand) (t : List ℕ) → denial_reads command ≡ true → denial_refusal command t ≡ message_refusal (members_refusal command) t
 read_refusal (Hash name salt iterations) t reads = absurd cc
 read_refusal (Covers name) t reads = refl
 read_refusal (Signed number) t reads = refl
 read_refusal KeyTags t reads = refl
+
+-- what is printed for it
+pub read_prints : (command : DenialCommand) (t printed : List ℕ) → denial_reads command ≡ true → PrintsMembers (members_text command) t printed → PrintsDenial command t printed
+read_prints (Hash name salt iterations) t printed reads prints = absurd cc
+read_prints (Covers name) t printed reads prints = prints
+read_prints (Signed number) t printed reads prints = prints
+read_prints KeyTags t printed reads prints = prints
 
 module _ (command : DenialCommand) (t : List ℕ) (reads : denial_reads command ≡ true) where
   within_limit : (o : Option Refusal) → length t ≤ 131072 → message_refusal (members_refusal command) t ≡ o → denial_outcome (Some command) t ≡ refused_or_done o

@@ -1,6 +1,7 @@
 -- Signatures, and the octets that they are over.
 use Rattle.std.proofs.Common.{◌≡◌, ℕ, ◌<◌, ◌≤◌, ◌==◌, Bool, true, false, cond, List, [], ◌∷◌, ◌++◌, length, take, drop, reverse, eqb-true, refl, sym, ap, ◌∙◌, arith, append_assoc, length-append, length-drop}
 use Rattle.std.specs.Prelude.{◌+◌, ◌-◌, ◌^◌, codes, slice_index}
+use Rattle.std.specs.Int.{w32, to_be_bytes}
 use Rattle.std.proofs.lemmas.List.{take_at, drop_at, drop-drop, reverse-append, reverse-reverse, length-map, length-reverse, take-append-drop}
 use Rattle.std.proofs.lemmas.Bool.{eqb-false}
 use Rattle.std.proofs.Math.Seq.{take-add}
@@ -16,9 +17,9 @@ use Rattle.dns_sec.specs.Types.{rrsig_fields}
 use Rattle.dns_sec.specs.declared.rrsig.Rrsig.{Rrsig}
 use Rattle.dns_message.specs.Canonical.{canonical_wire}
 use Rattle.dns_message.specs.Messages.{RecordValue}
-use Rattle.dns_message.specs.Order.{sort_key}
+use Rattle.dns_message.specs.Order.{SortKey, octets_of_key, sort_key}
 use Rattle.dns_denial.specs.Coverage.{name_before}
-use Rattle.dns_denial.specs.Signed.{labels_field, original_ttl, signed_owner, signer, without_signature}
+use Rattle.dns_denial.specs.Signed.{as_signed, is_signed_by, labels_field, original_ttl, signed_owner, signed_part, signer, without_signature}
 
 -- ---- the data of a signature
 
@@ -114,3 +115,17 @@ name_read owner octets is put = ap name_labels put ∙ (labels_of_wire (lowered 
 
 pub rest_is : (r : RecordValue) (size : ℕ) → size ≡ length (wire r.owner) → drop size (canonical_wire r) ≡ octets_of_parts [] r.rtype r.class r.ttl (sort_key r).octets
 rest_is r size is = drop_at (wire (lowered r.owner)) _ size (lowered_long r.owner ∙ sym is)
+
+-- ---- the parts of records
+
+-- by whether the signature is over the record
+abbrev part_by : SortKey → SortKey → Bool → List ℕ
+part_by g k over = cond {A = List ℕ} over (octets_of_key (as_signed g k)) []
+
+pub part_over : (g k : SortKey) (owner rest : List ℕ) (ttl : ℕ) → is_signed_by g k ≡ true → owner ≡ wire (reverse (signed_owner (labels_field g.octets) g.owner)) → ttl ≡ original_ttl g.octets
+    → rest ≡ octets_of_parts [] k.rtype k.class k.ttl k.octets → owner ++ (take 4 rest ++ (to_be_bytes w32 ttl ++ drop 8 rest)) ≡ signed_part g k
+part_over g k owner rest ttl over owner-is ttl-is rest-is =
+    (λ i. owner-is i ++ (take 4 (rest-is i) ++ (to_be_bytes w32 (ttl-is i) ++ drop 8 (rest-is i)))) ∙ sym (ap (part_by g k) over)
+
+pub part_other : (g k : SortKey) → is_signed_by g k ≡ false → signed_part g k ≡ []
+part_other g k other = ap (part_by g k) other

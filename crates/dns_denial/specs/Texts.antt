@@ -100,6 +100,13 @@ Suits KeyTags records = ⊤
 
 -- ---- what is printed
 
+-- what is printed of the members of a message
+abbrev pub members_text : DenialCommand → List SortKey → Octets
+members_text (Hash name salt iterations) records = []
+members_text (Covers name) records = coverage_text name records
+members_text (Signed number) records = signed_text number records
+members_text KeyTags records = key_tags_text records
+
 -- what is printed of the members of the message that a text spells
 abbrev pub PrintsMembers : (List SortKey → Octets) → Octets → Octets → Type 0
 PrintsMembers print text printed = (rs : List RecordValue) × HasRecords text rs × (printed ≡ print (members rs))

@@ -1,6 +1,6 @@
 //! The commands `hash`, `covers`, `signed` and `keytags`.
 
-ghost use Rattle.std.specs.Prelude.{◌≡◌, ◌≤◌, List, Option, Some, None, IfOk, IfErr, length};
+ghost use Rattle.std.specs.Prelude.{◌≡◌, ◌≤◌, List, Option, Some, None, IfOk, IfErr, length, true};
 ghost use Rattle.dns_wire.specs.Hexadecimal.{spelled, trim};
 ghost use Rattle.dns_wire.specs.Names.{name_labels};
 ghost use Rattle.dns_text.specs.Endings.{Ran};
@@ -11,12 +11,12 @@ ghost use Rattle.dns_denial.specs.Texts.{PrintsDenial, denial_limit, denial_note
 ghost use Rattle.dns_denial.specs.Words.{command_of};
 
 use crate::base32::base32hex;
-use crate::message::{coverages_in, signed_in, tags_in};
+use crate::message::text_in;
 use crate::nsec3::nsec3_hash;
 use crate::refusal::Refusal;
 use crate::status::DenialStatus;
 use crate::words::{DenialCommand, command_of};
-use dns_name::{Name, RevNameBuf};
+use dns_name::Name;
 use dns_text::{
     Args, HexError, MESSAGE_TEXT_LIMIT, Notice, PrintError, TextCommand, octets_of, put_line,
     put_notice, run_command,
@@ -52,38 +52,19 @@ fn message_of(alloc: Global, text: &[u8]) -> Result<Vec<u8>, PrintError<Refusal>
     }
 }
 
-/// What `covers` prints.
-fn print_coverages(
+/// What a command prints for the message that a text spells.
+fn print_message(
     alloc: Global,
+    command: &DenialCommand,
     text: &[u8],
-    name: &RevNameBuf,
 ) -> Result<Vec<u8>, PrintError<Refusal>>
-    ensures printed { IfOk result (λ printed. PrintsDenial (DenialCommand.Covers name.now) text.now printed.items) }
-    ensures accepted { IfOk result (λ _. denial_refusal (DenialCommand.Covers name.now) text.now ≡ None) }
-    ensures refused { IfErr result (RefusesFor (denial_refusal (DenialCommand.Covers name.now) text.now)) }
+    requires { denial_reads command.now ≡ true }
+    ensures printed { IfOk result (λ printed. PrintsDenial command.now text.now printed.items) }
+    ensures accepted { IfOk result (λ _. denial_refusal command.now text.now ≡ None) }
+    ensures refused { IfErr result (RefusesFor (denial_refusal command.now text.now)) }
 {
     let message = message_of(alloc, text)?;
-    coverages_in(alloc, &message, name)
-}
-
-/// What `signed` prints.
-fn print_signed(alloc: Global, text: &[u8], number: u16) -> Result<Vec<u8>, PrintError<Refusal>>
-    ensures printed { IfOk result (λ printed. PrintsDenial (DenialCommand.Signed number) text.now printed.items) }
-    ensures accepted { IfOk result (λ _. denial_refusal (DenialCommand.Signed number) text.now ≡ None) }
-    ensures refused { IfErr result (RefusesFor (denial_refusal (DenialCommand.Signed number) text.now)) }
-{
-    let message = message_of(alloc, text)?;
-    signed_in(alloc, &message, number)
-}
-
-/// What `keytags` prints.
-fn print_tags(alloc: Global, text: &[u8]) -> Result<Vec<u8>, PrintError<Refusal>>
-    ensures printed { IfOk result (λ printed. PrintsDenial DenialCommand.KeyTags text.now printed.items) }
-    ensures accepted { IfOk result (λ _. denial_refusal DenialCommand.KeyTags text.now ≡ None) }
-    ensures refused { IfErr result (RefusesFor (denial_refusal DenialCommand.KeyTags text.now)) }
-{
-    let message = message_of(alloc, text)?;
-    tags_in(alloc, &message)
+    text_in(alloc, command, &message)
 }
 
 impl TextCommand for DenialCommand {
@@ -121,9 +102,8 @@ impl TextCommand for DenialCommand {
                 let line = hash_line(alloc, name.as_name(), salt.as_slice(), *iterations)?;
                 Ok(line)
             }
-            DenialCommand::Covers { name } => print_coverages(alloc, text, name),
-            DenialCommand::Signed { number } => print_signed(alloc, text, *number),
-            DenialCommand::KeyTags => print_tags(alloc, text),
+            DenialCommand::Covers { .. } | DenialCommand::Signed { .. } | DenialCommand::KeyTags =>
+                print_message(alloc, self, text),
         }
     }
 

@@ -1,13 +1,14 @@
 //! What NSEC and NSEC3 records say of a name (RFC 4034 section 4, RFC 5155 section 7).
 
 ghost use Rattle.std.specs.Prelude.{◌≡◌};
+ghost use Rattle.std.specs.Cmp.Lexicographic.{slice_cmp};
+ghost use Rattle.std.specs.Ordering.{nat_cmp};
 ghost use Rattle.dns_wire.specs.Names.{lowered, name_labels};
 ghost use Rattle.dns_name.specs.Order.{key};
 ghost use Rattle.dns_record.specs.Fields.{fields_octets};
-ghost use Rattle.dns_nsec.specs.Hashed.{iterations_of, salt_of};
 ghost use Rattle.dns_nsec.specs.Types.{nsec_fields, nsec3_fields};
 ghost use Rattle.dns_message.specs.Order.{SortKey};
-ghost use Rattle.dns_denial.specs.Coverage.{coverage_by, coverage_word, first_label, nsec_coverage, nsec3_coverage};
+ghost use Rattle.dns_denial.specs.Coverage.{coverage_by, coverage_in, coverage_word, first_label, hash_iterations, hash_salt, is_computed, nsec_coverage, nsec3_coverage};
 ghost use Rattle.dns_denial.specs.Hashes.{nsec3_hash_of};
 ghost use Rattle.dns_denial.specs.Unbase32.{hash_of_text};
 
@@ -87,23 +88,35 @@ fn owner_hash(owner: Name<'_>) -> Option<[u8; 20]>
     unbase32hex(&octets[1..33])
 }
 
+/// Whether the hashes of a record are computed: by SHA-1, with few iterations, and the next hash is one (RFC 5155 section 11).
+fn is_computed(nsec3: &Nsec3<'_>) -> bool
+    ensures { result ≡ is_computed (fields_octets (nsec3_fields nsec3.now)) }
+{
+    nsec3.algorithm() == Nsec3HashAlgorithm::SHA1
+        && nsec3.iterations() <= MOST_ITERATIONS
+        && nsec3.next_owner().into_data().len() == 20
+}
+
 /// The hash of a name with the parameters of an NSEC3 record.
 fn hash_for(nsec3: &Nsec3<'_>, name: &RevNameBuf) -> [u8; 20]
-    ensures { result ≡ nsec3_hash_of name.now (salt_of nsec3.now) (iterations_of nsec3.now) }
+    ensures { result ≡ nsec3_hash_of name.now (hash_salt (fields_octets (nsec3_fields nsec3.now))) (hash_iterations (fields_octets (nsec3_fields nsec3.now))) }
 {
     let name = name.as_revname().to_name();
     nsec3_hash(name.as_name(), nsec3.salt().into_data(), nsec3.iterations())
+}
+
+/// What is said of a name by hashes: the owner's, the next one, and the name's.
+fn hashed_coverage(owner: &[u8], next: &[u8], hash: &[u8]) -> Coverage
+    ensures { result ≡ coverage_in (slice_cmp nat_cmp) owner.now next.now hash.now }
+{
+    coverage_by(owner.cmp(next), owner.cmp(hash), hash.cmp(next))
 }
 
 /// What an NSEC3 record says of a name, in the order of hashes (RFC 5155 section 3.1.7).
 pub(crate) fn nsec3_coverage(owner: &RevNameBuf, nsec3: &Nsec3<'_>, name: &RevNameBuf) -> Coverage
     ensures { (k : SortKey) → k.owner ≡ key owner.now → k.octets ≡ fields_octets (nsec3_fields nsec3.now) → result ≡ nsec3_coverage name.now k }
 {
-    let next = nsec3.next_owner().into_data();
-    if nsec3.algorithm() != Nsec3HashAlgorithm::SHA1
-        || nsec3.iterations() > MOST_ITERATIONS
-        || next.len() != 20
-    {
+    if !is_computed(nsec3) {
         return Coverage::Unknown;
     }
     let owner = owner.as_revname().to_name();
@@ -111,6 +124,9 @@ pub(crate) fn nsec3_coverage(owner: &RevNameBuf, nsec3: &Nsec3<'_>, name: &RevNa
         return Coverage::Unknown;
     };
     let hash = hash_for(nsec3, name);
-    let (owner, hash) = (owner.as_slice(), hash.as_slice());
-    coverage_by(owner.cmp(next), owner.cmp(hash), hash.cmp(next))
+    hashed_coverage(
+        owner.as_slice(),
+        nsec3.next_owner().into_data(),
+        hash.as_slice(),
+    )
 }

@@ -1,6 +1,6 @@
 //! What is printed for the records of a message.
 
-ghost use Rattle.std.specs.Prelude.{◌≡◌, ◌≤◌, ◌++◌, Option, Some, None, List, IfOk, IfErr, filter, length, map};
+ghost use Rattle.std.specs.Prelude.{◌≡◌, ◌≤◌, ◌++◌, Option, Some, None, List, IfOk, IfErr, OnOk, filter, length, map};
 ghost use Rattle.dns_wire.specs.Hexadecimal.{line};
 ghost use Rattle.dns_text.specs.Outcomes.{RefusesFor};
 ghost use Rattle.dns_message.specs.Canonical.{canonical_wire, is_not_opt};
@@ -9,7 +9,7 @@ ghost use Rattle.dns_message.specs.Order.{SortKey, sort_key};
 ghost use Rattle.dns_denial.specs.Coverage.{coverage_line, coverage_text, coverage_word};
 ghost use Rattle.dns_denial.specs.KeyTags.{key_line, key_tags_text, tag_line};
 ghost use Rattle.dns_denial.specs.Signed.{signature_refusal, signed_octets, signed_refusal, signed_text};
-ghost use Rattle.dns_denial.specs.Texts.{members, members_refusal, reading_refusal};
+ghost use Rattle.dns_denial.specs.Texts.{members, members_refusal, members_text, reading_refusal};
 
 use crate::coverage::{Coverage, nsec_coverage, nsec3_coverage};
 use crate::refusal::Refusal;
@@ -44,21 +44,39 @@ fn tag_line(alloc: Global, octets: &[u8]) -> Result<Vec<u8>, AllocError>
     Ok(line.into_bytes())
 }
 
-/// The line of a record, if it is a key. There is room for the record's canonical octets.
-fn key_line(
+/// Appends the line of a record, if it is a key. There is room for the record's canonical octets.
+fn push_key_line(
     alloc: Global,
     found: &CanonicalRecord<'_>,
     octets: &mut [u8],
-) -> Result<Vec<u8>, AllocError>
+    text: &mut Vec<u8>,
+) -> Result<(), AllocError>
     requires { CanonicalRecord.MAX_SIZE ≤ length octets.old }
-    ensures { IfOk result (λ line. line.items ≡ key_line (sort_key found.now)) }
+    ensures { OnOk result (text.new.items ≡ text.old.items ++ key_line (sort_key found.now)) }
 {
     if found.rtype() != RType::DNSKEY {
-        return Ok(Vec::new(alloc));
+        return Ok(());
     }
     let size = found.size();
     put_canonical(found, octets);
-    tag_line(alloc, data_of(found, &octets[..size]))
+    let line = tag_line(alloc, data_of(found, &octets[..size]))?;
+    text.extend_from_slice(&line)
+}
+
+/// The lines of the keys among records. There is room for the canonical octets of each.
+fn key_lines(
+    alloc: Global,
+    records: &[&CanonicalRecord<'_>],
+    octets: &mut [u8],
+) -> Result<Vec<u8>, AllocError>
+    requires { CanonicalRecord.MAX_SIZE ≤ length octets.old }
+    ensures { IfOk result (λ text. text.items ≡ key_tags_text (map (λ r. sort_key r.now) records.now)) }
+{
+    let mut text = Vec::new(alloc);
+    for found in records {
+        push_key_line(alloc, found, octets, &mut text)?;
+    }
+    Ok(text)
 }
 
 /// The lines of the keys among records.
@@ -66,41 +84,35 @@ fn key_tags_text(alloc: Global, records: &[&CanonicalRecord<'_>]) -> Result<Vec<
     ensures { IfOk result (λ text. text.items ≡ key_tags_text (map (λ r. sort_key r.now) records.now)) }
 {
     let mut octets = vec![in alloc; 0; CanonicalRecord::MAX_SIZE]?;
-    let mut text = Vec::new(alloc);
-    for found in records {
-        let line = key_line(alloc, found, &mut octets)?;
-        text.extend_from_slice(&line)?;
-    }
-    Ok(text)
+    key_lines(alloc, records, &mut octets)
 }
 
-/// The line of what a record of a type says of a name.
-fn said(alloc: Global, rtype: &[u8], coverage: Coverage) -> Result<Vec<u8>, AllocError>
-    ensures { IfOk result (λ line. line.items ≡ rtype.now ++ coverage_word coverage) }
+/// Appends the line of what a record of a type says of a name.
+fn push_said(rtype: &[u8], coverage: Coverage, text: &mut Vec<u8>) -> Result<(), AllocError>
+    ensures { OnOk result (text.new.items ≡ text.old.items ++ (rtype.now ++ coverage_word coverage)) }
 {
-    let mut line = Vec::from_slice(alloc, rtype)?;
-    line.extend_from_slice(coverage.word())?;
-    Ok(line)
+    text.extend_from_slice(rtype)?;
+    text.extend_from_slice(coverage.word())
 }
 
-/// The line of a record, if it is of type NSEC or NSEC3.
-fn coverage_line(
-    alloc: Global,
+/// Appends the line of a record, if it is of type NSEC or NSEC3.
+fn push_coverage_line(
     found: &CanonicalRecord<'_>,
     name: &RevNameBuf,
-) -> Result<Vec<u8>, AllocError>
-    ensures { IfOk result (λ line. line.items ≡ coverage_line name.now (sort_key found.now)) }
+    text: &mut Vec<u8>,
+) -> Result<(), AllocError>
+    ensures { OnOk result (text.new.items ≡ text.old.items ++ coverage_line name.now (sort_key found.now)) }
 {
     match found.rdata() {
         RecordData::Nsec(nsec) => {
             let coverage = nsec_coverage(found.owner(), nsec, name);
-            said(alloc, b"nsec ", coverage)
+            push_said(b"nsec ", coverage, text)
         }
         RecordData::Nsec3(nsec3) => {
             let coverage = nsec3_coverage(found.owner(), nsec3, name);
-            said(alloc, b"nsec3 ", coverage)
+            push_said(b"nsec3 ", coverage, text)
         }
-        _ => Ok(Vec::new(alloc)),
+        _ => Ok(()),
     }
 }
 
@@ -114,8 +126,7 @@ fn coverage_text(
 {
     let mut text = Vec::new(alloc);
     for found in records {
-        let line = coverage_line(alloc, found, name)?;
-        text.extend_from_slice(&line)?;
+        push_coverage_line(found, name, &mut text)?;
     }
     Ok(text)
 }
@@ -136,34 +147,6 @@ fn records_in(
         }
         Err(CanonError::Memory) => Err(PrintError::Memory),
     }
-}
-
-/// The lines of the tags of the keys in a message, in canonical order and alike ones once.
-pub(crate) fn tags_in(alloc: Global, message: &[u8]) -> Result<Vec<u8>, PrintError<Refusal>>
-    ensures printed { IfOk result (λ text. (rs : List RecordValue) × Valid message.now rs × (text.items ≡ key_tags_text (members rs))) }
-    ensures accepted { IfOk result (λ _. reading_refusal (members_refusal DenialCommand.KeyTags) (message_reading message.now) ≡ None) }
-    ensures refused { IfErr result (RefusesFor (reading_refusal (members_refusal DenialCommand.KeyTags) (message_reading message.now))) }
-{
-    let records = records_in(alloc, message)?;
-    let order = collapsed(alloc, &records)?;
-    let text = key_tags_text(alloc, &order)?;
-    Ok(text)
-}
-
-/// The lines of what the NSEC and NSEC3 records in a message say of a name, in canonical order and alike ones once.
-pub(crate) fn coverages_in(
-    alloc: Global,
-    message: &[u8],
-    name: &RevNameBuf,
-) -> Result<Vec<u8>, PrintError<Refusal>>
-    ensures printed { IfOk result (λ text. (rs : List RecordValue) × Valid message.now rs × (text.items ≡ coverage_text name.now (members rs))) }
-    ensures accepted { IfOk result (λ _. reading_refusal (members_refusal (DenialCommand.Covers name.now)) (message_reading message.now) ≡ None) }
-    ensures refused { IfErr result (RefusesFor (reading_refusal (members_refusal (DenialCommand.Covers name.now)) (message_reading message.now))) }
-{
-    let records = records_in(alloc, message)?;
-    let order = collapsed(alloc, &records)?;
-    let text = coverage_text(alloc, &order, name)?;
-    Ok(text)
 }
 
 /// The line of the octets that a signature is over.
@@ -200,17 +183,35 @@ fn signed_text(
     }
 }
 
-/// The line of the octets that the signature of a number in a message is over, the signatures in canonical order and alike ones once.
-pub(crate) fn signed_in(
+/// What a command prints of records; `hash` prints nothing of them.
+fn text_of(
     alloc: Global,
-    message: &[u8],
-    number: u16,
+    command: &DenialCommand,
+    records: &[&CanonicalRecord<'_>],
 ) -> Result<Vec<u8>, PrintError<Refusal>>
-    ensures printed { IfOk result (λ text. (rs : List RecordValue) × Valid message.now rs × (text.items ≡ signed_text number (members rs))) }
-    ensures accepted { IfOk result (λ _. reading_refusal (members_refusal (DenialCommand.Signed number)) (message_reading message.now) ≡ None) }
-    ensures refused { IfErr result (RefusesFor (reading_refusal (members_refusal (DenialCommand.Signed number)) (message_reading message.now))) }
+    ensures printed { IfOk result (λ text. text.items ≡ members_text command.now (map (λ r. sort_key r.now) records.now)) }
+    ensures accepted { IfOk result (λ _. members_refusal command.now (map (λ r. sort_key r.now) records.now) ≡ None) }
+    ensures refused { IfErr result (RefusesFor (members_refusal command.now (map (λ r. sort_key r.now) records.now))) }
+{
+    match command {
+        DenialCommand::Hash { .. } => Ok(Vec::new(alloc)),
+        DenialCommand::Covers { name } => Ok(coverage_text(alloc, records, name)?),
+        DenialCommand::Signed { number } => signed_text(alloc, records, *number),
+        DenialCommand::KeyTags => Ok(key_tags_text(alloc, records)?),
+    }
+}
+
+/// What a command prints of the records in a message, in canonical order and alike ones once.
+pub(crate) fn text_in(
+    alloc: Global,
+    command: &DenialCommand,
+    message: &[u8],
+) -> Result<Vec<u8>, PrintError<Refusal>>
+    ensures printed { IfOk result (λ text. (rs : List RecordValue) × Valid message.now rs × (text.items ≡ members_text command.now (members rs))) }
+    ensures accepted { IfOk result (λ _. reading_refusal (members_refusal command.now) (message_reading message.now) ≡ None) }
+    ensures refused { IfErr result (RefusesFor (reading_refusal (members_refusal command.now) (message_reading message.now))) }
 {
     let records = records_in(alloc, message)?;
     let order = collapsed(alloc, &records)?;
-    signed_text(alloc, &order, number)
+    text_of(alloc, command, &order)
 }

@@ -1,6 +1,6 @@
 //! The octets that a signature is over (RFC 4035 section 5.3.2, RFC 4034 section 3.1.8.1).
 
-ghost use Rattle.std.specs.Prelude.{◌≡◌, ◌≤◌, ◌<◌, ◌++◌, ◌↔◌, [], Some, None, IfOk, IsTrue, drop, length, map, reverse, take, if◌then◌else◌};
+ghost use Rattle.std.specs.Prelude.{◌≡◌, ◌≤◌, ◌<◌, ◌++◌, ◌↔◌, [], Some, None, IfOk, IsTrue, OnOk, drop, flat_map, length, map, reverse, take, if◌then◌else◌};
 ghost use Rattle.std.specs.Int.{w16, w32, to_be_bytes};
 ghost use Rattle.std.specs.Option.{option_map};
 ghost use Rattle.dns_wire.specs.Names.{name_labels, wire};
@@ -129,38 +129,72 @@ fn after_owner<'o>(found: &CanonicalRecord<'_>, octets: &'o [u8]) -> &'o [u8]
     &octets[found.owner().composed_size()..]
 }
 
-/// The canonical octets of a record with another owner and TTL, by those after its own owner: two of type, two of class, four of TTL, and
-/// the others (RFC 1035 section 3.2.1).
-fn part_of(alloc: Global, owner: &[u8], ttl: u32, rest: &[u8]) -> Result<Vec<u8>, AllocError>
+/// Appends the canonical octets of a record with another owner and TTL, by those after its own owner: two of type, two of class, four of
+/// TTL, and the others (RFC 1035 section 3.2.1).
+fn push_record(owner: &[u8], ttl: u32, rest: &[u8], signed: &mut Vec<u8>) -> Result<(), AllocError>
     requires { 8 ≤ length rest.now }
-    ensures { IfOk result (λ part. part.items ≡ owner.now ++ (take 4 rest.now ++ (to_be_bytes w32 ttl ++ drop 8 rest.now))) }
+    ensures { OnOk result (signed.new.items ≡ signed.old.items ++ (owner.now ++ (take 4 rest.now ++ (to_be_bytes w32 ttl ++ drop 8 rest.now)))) }
 {
-    let mut part = Vec::from_slice(alloc, owner)?;
-    part.extend_from_slice(&rest[..4])?;
-    part.extend_from_slice(&ttl.to_be_bytes())?;
-    part.extend_from_slice(&rest[8..])?;
-    Ok(part)
+    signed.extend_from_slice(owner)?;
+    signed.extend_from_slice(&rest[..4])?;
+    signed.extend_from_slice(&ttl.to_be_bytes())?;
+    signed.extend_from_slice(&rest[8..])
 }
 
-/// The canonical octets of a record as it was signed, if the signature is over it. There is room for the record's canonical octets.
-fn signed_part(
-    alloc: Global,
+/// Appends the canonical octets of a record as it was signed, if the signature is over it. There is room for the record's canonical octets.
+fn push_part(
     signature: &Signature<'_, '_>,
     owner: &[u8],
     found: &CanonicalRecord<'_>,
     octets: &mut [u8],
-) -> Result<Vec<u8>, AllocError>
+    signed: &mut Vec<u8>,
+) -> Result<(), AllocError>
     requires owner { owner.now ≡ wire (reverse (signed_owner (labels_field (sort_key signature.now.found.now).octets) (sort_key signature.now.found.now).owner)) }
     requires room { CanonicalRecord.MAX_SIZE ≤ length octets.old }
-    ensures { IfOk result (λ part. part.items ≡ signed_part (sort_key signature.now.found.now) (sort_key found.now)) }
+    ensures { OnOk result (signed.new.items ≡ signed.old.items ++ signed_part (sort_key signature.now.found.now) (sort_key found.now)) }
 {
     if !signature.is_over(found) {
-        return Ok(Vec::new(alloc));
+        return Ok(());
     }
     let size = found.size();
     put_canonical(found, octets);
     let rest = after_owner(found, &octets[..size]);
-    part_of(alloc, owner, signature.rrsig.ttl.as_secs(), rest)
+    push_record(owner, signature.rrsig.ttl.as_secs(), rest, signed)
+}
+
+/// Appends the canonical octets of the records that the signature is over, as they were signed. There is room for those of each.
+fn push_parts(
+    signature: &Signature<'_, '_>,
+    owner: &[u8],
+    records: &[&CanonicalRecord<'_>],
+    octets: &mut [u8],
+    signed: &mut Vec<u8>,
+) -> Result<(), AllocError>
+    requires owner { owner.now ≡ wire (reverse (signed_owner (labels_field (sort_key signature.now.found.now).octets) (sort_key signature.now.found.now).owner)) }
+    requires room { CanonicalRecord.MAX_SIZE ≤ length octets.old }
+    ensures { OnOk result (signed.new.items ≡ signed.old.items ++ flat_map (signed_part (sort_key signature.now.found.now)) (map (λ r. sort_key r.now) records.now)) }
+{
+    for found in records {
+        push_part(signature, owner, found, octets, signed)?;
+    }
+    Ok(())
+}
+
+/// The octets that a signature among records is over, by the owner that was signed. There is room for the canonical octets of each.
+fn octets_over(
+    alloc: Global,
+    records: &[&CanonicalRecord<'_>],
+    signature: &Signature<'_, '_>,
+    owner: &[u8],
+    octets: &mut [u8],
+) -> Result<Vec<u8>, AllocError>
+    requires owner { owner.now ≡ wire (reverse (signed_owner (labels_field (sort_key signature.now.found.now).octets) (sort_key signature.now.found.now).owner)) }
+    requires room { CanonicalRecord.MAX_SIZE ≤ length octets.old }
+    ensures { IfOk result (λ signed. signed.items ≡ signed_octets (map (λ r. sort_key r.now) records.now) (sort_key signature.now.found.now)) }
+{
+    let mut signed = signature.start(alloc, octets)?;
+    push_parts(signature, owner, records, octets, &mut signed)?;
+    Ok(signed)
 }
 
 /// The octets that a signature among records is over.
@@ -172,13 +206,8 @@ pub(crate) fn signed_octets(
     requires { labels_field (sort_key signature.now.found.now).octets ≤ length (sort_key signature.now.found.now).owner }
     ensures { IfOk result (λ signed. signed.items ≡ signed_octets (map (λ r. sort_key r.now) records.now) (sort_key signature.now.found.now)) }
 {
-    let mut octets = vec![in alloc; 0; CanonicalRecord::MAX_SIZE]?;
     let count = usize::from(signature.rrsig.labels);
     let owner = signed_owner(alloc, count, signature.found.owner())?;
-    let mut signed = signature.start(alloc, &mut octets)?;
-    for found in records {
-        let part = signed_part(alloc, signature, &owner, found, &mut octets)?;
-        signed.extend_from_slice(&part)?;
-    }
-    Ok(signed)
+    let mut octets = vec![in alloc; 0; CanonicalRecord::MAX_SIZE]?;
+    octets_over(alloc, records, signature, &owner, &mut octets)
 }
