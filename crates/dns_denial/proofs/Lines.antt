@@ -1,5 +1,6 @@
 -- Lines of records, and the octets of their data.
-use Rattle.std.proofs.Common.{◌≡◌, ◌<◌, ◌≤◌, ◌+◌, ℕ, List, [], ◌∷◌, ◌++◌, length, map, flat_map, take, take_all, drop, get_or, refl, sym, ap, ◌∙◌, arith}
+use Rattle.std.proofs.Common.{◌≡◌, ◌<◌, ◌≤◌, ◌+◌, ℕ, List, [], ◌∷◌, ◌++◌, length, map, flat_map, take, take_all, drop, get_or, cond, Result, Ok, Err, is_ok, refl, sym, ap, ◌∙◌, arith}
+use Rattle.std.specs.Result.{OnOk}
 use Rattle.std.proofs.lemmas.List.{drop-drop, flat_map_more, take_more}
 use Rattle.std.proofs.lemmas.List.Concat.{flat_map-cons}
 use Rattle.dns_wire.specs.Names.{wire, lowered}
@@ -15,6 +16,11 @@ pub push_more : {X : Type 0} (vs : List X) (f : X → List ℕ) (i : ℕ) (v : X
 push_more {X = X} vs f i v start now new within at is more =
     more ∙ ap (λ (l : List ℕ). l ++ f v) is ∙ flat_map_more f start (take i vs) v
     ∙ ap (λ (l : List X). start ++ flat_map f l) (ap (λ (x : X). take i vs ++ x ∷ []) at ∙ sym (take_more vs i v within))
+
+-- what is appended by a last call
+pub appended : {T E : Type 0} (r : Result T E) (new old more line : List ℕ) → new ≡ cond (is_ok r) (old ++ more) old → more ≡ line → OnOk r (new ≡ old ++ line)
+appended (Ok x) new old more line is same = is ∙ ap (λ (l : List ℕ). old ++ l) same
+appended (Err e) new old more line is same = tt
 
 -- the lines of all, by what is seen of each
 pub lines_all : {X Y : Type 0} (vs : List X) (g : X → Y) (f : Y → List ℕ) (i : ℕ) → length vs ≤ i → flat_map (λ v. f (g v)) (take i vs) ≡ flat_map f (map g vs)

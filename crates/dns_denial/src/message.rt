@@ -5,7 +5,7 @@ ghost use Rattle.dns_wire.specs.Hexadecimal.{line};
 ghost use Rattle.dns_text.specs.Outcomes.{RefusesFor};
 ghost use Rattle.dns_message.specs.Canonical.{canonical_wire, is_not_opt};
 ghost use Rattle.dns_message.specs.Messages.{RecordValue, Valid, message_reading};
-ghost use Rattle.dns_message.specs.Order.{SortKey, sort_key};
+ghost use Rattle.dns_message.specs.Order.{SortKey, collapsed, sort_key};
 ghost use Rattle.dns_denial.specs.Coverage.{coverage_line, coverage_text, coverage_word};
 ghost use Rattle.dns_denial.specs.KeyTags.{key_line, key_tags_text, tag_line};
 ghost use Rattle.dns_denial.specs.Signed.{signature_refusal, signed_octets, signed_refusal, signed_text};
@@ -201,6 +201,20 @@ fn text_of(
     }
 }
 
+/// What a command prints of records, in canonical order and alike ones once.
+fn text_for(
+    alloc: Global,
+    command: &DenialCommand,
+    records: &[CanonicalRecord<'_>],
+) -> Result<Vec<u8>, PrintError<Refusal>>
+    ensures printed { IfOk result (λ text. text.items ≡ members_text command.now (map sort_key (collapsed records.now))) }
+    ensures accepted { IfOk result (λ _. members_refusal command.now (map sort_key (collapsed records.now)) ≡ None) }
+    ensures refused { IfErr result (RefusesFor (members_refusal command.now (map sort_key (collapsed records.now)))) }
+{
+    let order = collapsed(alloc, records)?;
+    text_of(alloc, command, &order)
+}
+
 /// What a command prints of the records in a message, in canonical order and alike ones once.
 pub(crate) fn text_in(
     alloc: Global,
@@ -212,6 +226,5 @@ pub(crate) fn text_in(
     ensures refused { IfErr result (RefusesFor (reading_refusal (members_refusal command.now) (message_reading message.now))) }
 {
     let records = records_in(alloc, message)?;
-    let order = collapsed(alloc, &records)?;
-    text_of(alloc, command, &order)
+    text_for(alloc, command, &records)
 }

@@ -17,12 +17,10 @@ pub returns : goal.returns
 returns c =
     let command = c.args.command.now in
     let read = c.in_ok-records.ensures.read in
-    let keys =
-    ap (map (λ r. sort_key r.now)) c.deref-2.ensures.value ∙ c.in_ok-order.ensures.keys
-    ∙ ap (λ (rs : List RecordValue). map sort_key (collapsed rs)) (c.deref.ensures.value ∙ read.2) in
-    let refusal = valid_refusal (members_refusal command) c.args.message.now read.0 read.1 in
+    let keys = ap (λ (rs : List RecordValue). map sort_key (collapsed rs)) (c.deref.ensures.value ∙ read.2) in
+    let refusal = ap (members_refusal command) keys ∙ sym (valid_refusal (members_refusal command) c.args.message.now read.0 read.1) in
     record {
-      printed = IfOk-weaker c.text_of.result _ _ (λ text is. (read.0, read.1, is ∙ ap (members_text command) keys)) c.text_of.ensures.printed;
-      accepted = IfOk-weaker c.text_of.result _ _ (λ text is. refusal ∙ ap (members_refusal command) (sym keys) ∙ is) c.text_of.ensures.accepted;
-      refused = subst (λ (o : Option Refusal). IfErr c.text_of.result (RefusesFor o)) (ap (members_refusal command) keys ∙ sym refusal) c.text_of.ensures.refused;
+      printed = IfOk-weaker c.text_for.result _ _ (λ text is. (read.0, read.1, is ∙ ap (members_text command) keys)) c.text_for.ensures.printed;
+      accepted = IfOk-weaker c.text_for.result _ _ (λ text is. sym refusal ∙ is) c.text_for.ensures.accepted;
+      refused = subst (λ (o : Option Refusal). IfErr c.text_for.result (RefusesFor o)) refusal c.text_for.ensures.refused;
     }
