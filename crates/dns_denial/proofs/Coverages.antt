@@ -1,9 +1,8 @@
 -- What NSEC and NSEC3 records say of a name, by the fields of their data.
-use Rattle.std.proofs.Common.{◌≡◌, ℕ, ◌<◌, ◌≤◌, ◌==◌, Bool, true, false, cond, List, [], ◌∷◌, ◌++◌, codes, length, take, drop, reverse, Some, None, eqb, eqb-true, leb, refl, sym, ap, ◌∙◌, arith, append_assoc, take-append-drop}
+use Rattle.std.proofs.Common.{◌≡◌, ℕ, ◌<◌, ◌==◌, Bool, true, false, cond, List, [], ◌∷◌, ◌++◌, codes, length, take, drop, reverse, Some, None, eqb, leb, refl, sym, ap, ◌∙◌, arith, append_assoc, take-append-drop}
 use Rattle.std.specs.Prelude.{◌&&◌, slice_index}
 use Rattle.std.specs.Ordering.{nat_cmp}
 use Rattle.std.specs.Cmp.Lexicographic.{slice_cmp}
-use Rattle.std.proofs.lemmas.Bool.{and_parts, le-leb, leb-true}
 use Rattle.std.proofs.lemmas.List.{take_at, drop_at, reverse-reverse}
 use Rattle.dns_wire.specs.Names.{IsName, labels_wire, lowered, name_labels, wire}
 use Rattle.dns_wire.proofs.Walk.{plain_wire}

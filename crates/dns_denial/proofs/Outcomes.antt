@@ -13,7 +13,7 @@ use Rattle.dns_message.specs.Messages.Reading.{Short as TooShort, Stopped, Whole
 use Rattle.dns_message.specs.Order.{SortKey}
 use Rattle.dns_message.specs.Same.{Same}
 use Rattle.dns_message.proofs.CanonicalListSameness.{keys_from_same}
-use Rattle.dns_message.proofs.OneReading.{three_kinds, valid_one}
+use Rattle.dns_message.proofs.OneReading.{three_kinds}
 use Rattle.dns_message.proofs.Phrased.{short_reading}
 use Rattle.dns_denial.specs.Coverage.{coverage_text}
 use Rattle.dns_denial.specs.KeyTags.{key_tags_text}

@@ -4,7 +4,7 @@ use Rattle.std.specs.Cmp.Lexicographic.{slice_cmp}
 use Rattle.dns_wire.specs.Names.{lowered}
 use Rattle.dns_denial.specs.Coverage.{coverage_in, first_label, owner_hash}
 use Rattle.dns_denial.specs.Unbase32.{hash_of_text}
-use Rattle.dns_denial.proofs.Coverages.{hashed, not_computed, not_hashed, owner_is}
+use Rattle.dns_denial.proofs.Coverages.{hashed, not_computed, owner_is}
 use Rattle.dns_denial.proofs.coverage.nsec3_coverage.Goals as goal
 
 pub returns : goal.returns
