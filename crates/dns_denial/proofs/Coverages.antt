@@ -30,24 +30,11 @@ next_is v is = ap name_before (plain_wire (name_labels v.next.slice.now) (v.type
 
 -- ---- NSEC3
 
-algorithm_is : (v : Nsec3) → hash_algorithm (fields_octets (nsec3_fields v)) ≡ algorithm_of v
-algorithm_is v = refl
-
-pub iterations_is : (v : Nsec3) → iterations_of v < 65536 → hash_iterations (fields_octets (nsec3_fields v)) ≡ iterations_of v
-iterations_is v fits = let n = iterations_of v in omega arith
-
-pub salt_is : (v : Nsec3) → hash_salt (fields_octets (nsec3_fields v)) ≡ salt_of v
-salt_is v = take_at (salt_of v) (length (next_owner_of v) ∷ (next_owner_of v ++ (v.types.slice.now ++ []))) (length (salt_of v)) refl
-
 after_is : (v : Nsec3) → after_salt (fields_octets (nsec3_fields v)) ≡ length (next_owner_of v) ∷ (next_owner_of v ++ (v.types.slice.now ++ []))
 after_is v = drop_at (salt_of v) (length (next_owner_of v) ∷ (next_owner_of v ++ (v.types.slice.now ++ []))) (length (salt_of v)) refl
 
 next_hash_is : (v : Nsec3) → next_hash (fields_octets (nsec3_fields v)) ≡ next_owner_of v
 next_hash_is v = ap (λ (l : List ℕ). take (slice_index l 0) (drop 1 l)) (after_is v) ∙ take_at (next_owner_of v) (v.types.slice.now ++ []) (length (next_owner_of v)) refl
-
--- whether hashes are computed, by the fields
-pub tested : (v : Nsec3) → iterations_of v < 65536 → is_computed (fields_octets (nsec3_fields v)) ≡ (eqb (algorithm_of v) 1 && leb (iterations_of v) 500 && eqb (length (next_owner_of v)) 20)
-tested v fits = λ i. eqb (algorithm_is v i) 1 && leb (iterations_is v fits i) 500 && eqb (length (next_hash_is v i)) 20
 
 module _ (name : List (List ℕ)) (k : SortKey) (v : Nsec3) (octets : k.octets ≡ fields_octets (nsec3_fields v)) where
   abbrev by_test : Bool → Coverage

@@ -82,7 +82,7 @@ last_labels labels count few =
 pub lowered_few : (labels : List (List ℕ)) → length (lowered labels) ≡ length labels
 lowered_few labels = length-map labels _
 
-key_few : (labels : List (List ℕ)) → length (key labels) ≡ length labels
+pub key_few : (labels : List (List ℕ)) → length (key labels) ≡ length labels
 key_few labels = length-reverse (lowered labels) ∙ lowered_few labels
 
 pub owner_stays : (owner : List (List ℕ)) (count : ℕ) → count ≡ length owner → wire (lowered owner) ≡ wire (reverse (signed_owner count (key owner)))

@@ -120,13 +120,12 @@ pub(crate) fn nsec3_coverage(owner: &RevNameBuf, nsec3: &Nsec3<'_>, name: &RevNa
         return Coverage::Unknown;
     }
     let owner = owner.as_revname().to_name();
-    let Some(owner) = owner_hash(owner.as_name()) else {
-        return Coverage::Unknown;
-    };
-    let hash = hash_for(nsec3, name);
-    hashed_coverage(
-        owner.as_slice(),
-        nsec3.next_owner().into_data(),
-        hash.as_slice(),
-    )
+    match owner_hash(owner.as_name()) {
+        Some(owner) => {
+            let hash = hash_for(nsec3, name);
+            let next = nsec3.next_owner().into_data();
+            hashed_coverage(owner.as_slice(), next, hash.as_slice())
+        }
+        None => Coverage::Unknown,
+    }
 }
