@@ -69,7 +69,7 @@ fn one_word(args: &Args) -> Option<DenialCommand>
     requires { length args.now ≡ 1 }
     ensures { result ≡ command_of args.now }
 {
-    let word = args.get(0)?;
+    let word = args.get(0).unwrap();
     if word == "keytags" {
         Some(DenialCommand::KeyTags)
     } else {
@@ -82,8 +82,8 @@ fn two_words(args: &Args) -> Option<DenialCommand>
     requires { length args.now ≡ 2 }
     ensures { result ≡ command_of args.now }
 {
-    let word = args.get(0)?;
-    let next = args.get(1)?;
+    let word = args.get(0).unwrap();
+    let next = args.get(1).unwrap();
     if word == "covers" {
         covers_named(next)
     } else if word == "signed" {
@@ -98,10 +98,10 @@ fn four_words(args: &Args) -> Option<DenialCommand>
     requires { length args.now ≡ 4 }
     ensures { result ≡ command_of args.now }
 {
-    let word = args.get(0)?;
-    let name = args.get(1)?;
-    let salt = args.get(2)?;
-    let iterations = args.get(3)?;
+    let word = args.get(0).unwrap();
+    let name = args.get(1).unwrap();
+    let salt = args.get(2).unwrap();
+    let iterations = args.get(3).unwrap();
     if word == "hash" {
         hash_named(name, salt, iterations)
     } else {

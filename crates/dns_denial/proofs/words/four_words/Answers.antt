@@ -7,7 +7,7 @@ use Rattle.dns_denial.proofs.words.four_words.Goals as goal
 
 pub returns-then-eq : goal.returns-then-eq
 returns-then-eq c =
-    let h = four_is c.args.args.now c.in_ok-word.word.now c.in_ok-name.name.now c.in_ok-salt.salt.now c.in_ok-iterations.iterations.now c.requires
-    (sym c.get.ensures.value ∙ ap option_copied c.in_ok-word.was) (sym c.get-2.ensures.value ∙ ap option_copied c.in_ok-name.was)
-    (sym c.get-3.ensures.value ∙ ap option_copied c.in_ok-salt.was) (sym c.get-4.ensures.value ∙ ap option_copied c.in_ok-iterations.was) in
-    c.hash_named.ensures ∙ sym (h ∙ ap (λ t. cond {A = Option DenialCommand} t (hash_named c.in_ok-name.name.now c.in_ok-salt.salt.now c.in_ok-iterations.iterations.now) None) (sym c.if-eq.ensures))
+    let h = four_is c.args.args.now c.unwrap-word.result.now c.unwrap-name.result.now c.unwrap-salt.result.now c.unwrap-iterations.result.now c.requires
+    (sym c.get.ensures.value ∙ ap option_copied c.unwrap-word.ensures) (sym c.get-2.ensures.value ∙ ap option_copied c.unwrap-name.ensures)
+    (sym c.get-3.ensures.value ∙ ap option_copied c.unwrap-salt.ensures) (sym c.get-4.ensures.value ∙ ap option_copied c.unwrap-iterations.ensures) in
+    c.hash_named.ensures ∙ sym (h ∙ ap (λ t. cond {A = Option DenialCommand} t (hash_named c.unwrap-name.result.now c.unwrap-salt.result.now c.unwrap-iterations.result.now) None) (sym c.if-eq.ensures))
