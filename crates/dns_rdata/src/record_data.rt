@@ -128,7 +128,7 @@ impl<N: Clone> Clone for RecordData<'_, N> {
             RecordData::Ptr(v) => as_data!(Ptr, v.clone()),
             RecordData::Mx(v) => as_data!(Mx, v.clone()),
             RecordData::Rp(v) => as_data!(Rp, v.clone()),
-            plain => Ok(plain.without_names().unwrap()),
+            plain => Ok(plain.plain_copy()),
         }
     }
 }
@@ -175,29 +175,30 @@ impl<'a, N> RecordData<'a, N> {
         }
     }
 
-    /// The data as data with names of another type, if they have none that pointers may lead through.
-    fn without_names<R>(&self) -> Option<RecordData<'a, R>>
-        ensures { result ≡ without_names self.now }
+    /// A copy as data with names of another type, of which the data have none that pointers may lead through.
+    fn plain_copy<R>(&self) -> RecordData<'a, R>
+        requires { is_plain self.now ≡ true }
+        ensures { without_names self.now ≡ Some result }
     {
         match self {
-            RecordData::A(v) => Some(RecordData::A(*v)),
-            RecordData::HInfo(v) => Some(RecordData::HInfo(*v)),
-            RecordData::Txt(v) => Some(RecordData::Txt(*v)),
-            RecordData::Srv(v) => Some(RecordData::Srv(*v)),
-            RecordData::Aaaa(v) => Some(RecordData::Aaaa(*v)),
-            RecordData::DName(v) => Some(RecordData::DName(*v)),
-            RecordData::Opt(v) => Some(RecordData::Opt(*v)),
-            RecordData::Ds(v) => Some(RecordData::Ds(*v)),
-            RecordData::Rrsig(v) => Some(RecordData::Rrsig(*v)),
-            RecordData::Nsec(v) => Some(RecordData::Nsec(*v)),
-            RecordData::DNSKey(v) => Some(RecordData::DNSKey(*v)),
-            RecordData::Nsec3(v) => Some(RecordData::Nsec3(*v)),
-            RecordData::Nsec3Param(v) => Some(RecordData::Nsec3Param(*v)),
-            RecordData::Cds(v) => Some(RecordData::Cds(*v)),
-            RecordData::CDNSKey(v) => Some(RecordData::CDNSKey(*v)),
-            RecordData::ZoneMD(v) => Some(RecordData::ZoneMD(*v)),
-            RecordData::Unknown(rtype, v) => Some(RecordData::Unknown(*rtype, *v)),
-            _ => None,
+            RecordData::A(v) => RecordData::A(*v),
+            RecordData::HInfo(v) => RecordData::HInfo(*v),
+            RecordData::Txt(v) => RecordData::Txt(*v),
+            RecordData::Srv(v) => RecordData::Srv(*v),
+            RecordData::Aaaa(v) => RecordData::Aaaa(*v),
+            RecordData::DName(v) => RecordData::DName(*v),
+            RecordData::Opt(v) => RecordData::Opt(*v),
+            RecordData::Ds(v) => RecordData::Ds(*v),
+            RecordData::Rrsig(v) => RecordData::Rrsig(*v),
+            RecordData::Nsec(v) => RecordData::Nsec(*v),
+            RecordData::DNSKey(v) => RecordData::DNSKey(*v),
+            RecordData::Nsec3(v) => RecordData::Nsec3(*v),
+            RecordData::Nsec3Param(v) => RecordData::Nsec3Param(*v),
+            RecordData::Cds(v) => RecordData::Cds(*v),
+            RecordData::CDNSKey(v) => RecordData::CDNSKey(*v),
+            RecordData::ZoneMD(v) => RecordData::ZoneMD(*v),
+            RecordData::Unknown(rtype, v) => RecordData::Unknown(*rtype, *v),
+            _ => unreachable!(),
         }
     }
 
@@ -284,7 +285,7 @@ impl<'a, N> RecordData<'a, N> {
             RecordData::Ptr(v) => RecordData::Ptr(v.map_name_by_ref(f)),
             RecordData::Mx(v) => RecordData::Mx(v.map_name_by_ref(f)),
             RecordData::Rp(v) => RecordData::Rp(v.map_names_by_ref(f)),
-            plain => plain.without_names().unwrap(),
+            plain => plain.plain_copy(),
         }
     }
 }

@@ -1,6 +1,7 @@
-use Rattle.dns_plain.specs.Types.{srv_fields, dname_fields}
+use Rattle.dns_edns.specs.Types.{opt_fields}
+use Rattle.dns_plain.specs.Types.{a_fields, hinfo_fields, txt_fields, aaaa_fields, srv_fields, dname_fields}
 use Rattle.dns_sec.specs.Types.{ds_fields, cds_fields, rrsig_fields, dnskey_fields, cdnskey_fields, zonemd_fields}
-use Rattle.dns_nsec.specs.Types.{nsec3_fields, nsec3param_fields}
+use Rattle.dns_nsec.specs.Types.{nsec_fields, nsec3_fields, nsec3param_fields}
 use Rattle.dns_rdata.proofs.Canonical.{plain_compared}
 use Rattle.dns_rdata.proofs.record_data.RecordData.cmp_of_one_type.Goals as goal
 
@@ -33,3 +34,39 @@ returns-in-CDNSKey-CDNSKey g c = rw (c.in-CDNSKey-CDNSKey.is-0, c.in-CDNSKey-CDN
 
 pub returns-in-ZoneMD-ZoneMD : goal.returns-in-ZoneMD-ZoneMD
 returns-in-ZoneMD-ZoneMD g c = rw (c.in-ZoneMD-ZoneMD.is-0, c.in-ZoneMD-ZoneMD.is-1) (plain_compared g.N.CanonicalName.name 63 (zonemd_fields (λ digest. digest.now) c.in-ZoneMD-ZoneMD.v) (zonemd_fields (λ digest. digest.now) c.in-ZoneMD-ZoneMD.w) _ c.cmp_canonical-in-ZoneMD-ZoneMD.ensures)
+
+pub returns-in-A-A : goal.returns-in-A-A
+returns-in-A-A g c = rw (c.in-A-A.is-0, c.in-A-A.is-1) (plain_compared g.N.CanonicalName.name 1 (a_fields c.in-A-A.v) (a_fields c.in-A-A.w) _ c.cmp_canonical.ensures)
+
+pub returns-in-HInfo-HInfo : goal.returns-in-HInfo-HInfo
+returns-in-HInfo-HInfo g c = rw (c.in-HInfo-HInfo.is-0, c.in-HInfo-HInfo.is-1) (plain_compared g.N.CanonicalName.name 13 (hinfo_fields c.in-HInfo-HInfo.v) (hinfo_fields c.in-HInfo-HInfo.w) _ c.cmp_canonical-in-HInfo-HInfo.ensures)
+
+pub returns-in-Txt-Txt : goal.returns-in-Txt-Txt
+returns-in-Txt-Txt g c = rw (c.in-Txt-Txt.is-0, c.in-Txt-Txt.is-1) (plain_compared g.N.CanonicalName.name 16 (txt_fields c.in-Txt-Txt.v.slice.now) (txt_fields c.in-Txt-Txt.w.slice.now) _ c.cmp_canonical-in-Txt-Txt.ensures)
+
+pub returns-in-Aaaa-Aaaa : goal.returns-in-Aaaa-Aaaa
+returns-in-Aaaa-Aaaa g c = rw (c.in-Aaaa-Aaaa.is-0, c.in-Aaaa-Aaaa.is-1) (plain_compared g.N.CanonicalName.name 28 (aaaa_fields c.in-Aaaa-Aaaa.v) (aaaa_fields c.in-Aaaa-Aaaa.w) _ c.cmp_canonical-in-Aaaa-Aaaa.ensures)
+
+pub returns-in-Opt-Opt : goal.returns-in-Opt-Opt
+returns-in-Opt-Opt g c = rw (c.in-Opt-Opt.is-0, c.in-Opt-Opt.is-1) (plain_compared g.N.CanonicalName.name 41 (opt_fields c.in-Opt-Opt.v.slice.now) (opt_fields c.in-Opt-Opt.w.slice.now) _ c.cmp_canonical-in-Opt-Opt.ensures)
+
+pub returns-in-Nsec-Nsec : goal.returns-in-Nsec-Nsec
+returns-in-Nsec-Nsec g c = rw (c.in-Nsec-Nsec.is-0, c.in-Nsec-Nsec.is-1) (plain_compared g.N.CanonicalName.name 47 (nsec_fields c.in-Nsec-Nsec.v) (nsec_fields c.in-Nsec-Nsec.w) _ c.cmp_canonical-in-Nsec-Nsec.ensures)
+
+pub returns-in-Ns-Ns : goal.returns-in-Ns-Ns
+returns-in-Ns-Ns g c = rw (c.in-Ns-Ns.is-0, c.in-Ns-Ns.is-1) c.cmp_canonical-in-Ns-Ns.ensures
+
+pub returns-in-CName-CName : goal.returns-in-CName-CName
+returns-in-CName-CName g c = rw (c.in-CName-CName.is-0, c.in-CName-CName.is-1) c.cmp_canonical-in-CName-CName.ensures
+
+pub returns-in-Soa-Soa : goal.returns-in-Soa-Soa
+returns-in-Soa-Soa g c = rw (c.in-Soa-Soa.is-0, c.in-Soa-Soa.is-1) c.cmp_canonical-in-Soa-Soa.ensures
+
+pub returns-in-Ptr-Ptr : goal.returns-in-Ptr-Ptr
+returns-in-Ptr-Ptr g c = rw (c.in-Ptr-Ptr.is-0, c.in-Ptr-Ptr.is-1) c.cmp_canonical-in-Ptr-Ptr.ensures
+
+pub returns-in-Mx-Mx : goal.returns-in-Mx-Mx
+returns-in-Mx-Mx g c = rw (c.in-Mx-Mx.is-0, c.in-Mx-Mx.is-1) c.cmp_canonical-in-Mx-Mx.ensures
+
+pub returns-in-Rp-Rp : goal.returns-in-Rp-Rp
+returns-in-Rp-Rp g c = rw (c.in-Rp-Rp.is-0, c.in-Rp-Rp.is-1) c.cmp_canonical-in-Rp-Rp.ensures

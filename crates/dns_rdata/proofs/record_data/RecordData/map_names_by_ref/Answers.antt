@@ -1,6 +1,8 @@
 use Rattle.std.proofs.Common.{refl, ap, rules}
 use denote.Param.Members.{post_steps}
 use Rattle.dns_rdata.specs.declared.record_data.RecordData.TheVariants.{Mx}
+use Rattle.std.specs.Fn.{CalledAt}
+use Rattle.dns_rdata.proofs.MappedNames.{plain_given}
 use Rattle.dns_rdata.proofs.record_data.RecordData.map_names_by_ref.Goals as goal
 
 pub map_names_by_ref-requires : goal.map_names_by_ref-requires
@@ -36,3 +38,6 @@ returns-in-Mx g c =
     let (shown, returned, shows) = c.map_name_by_ref-in-Mx.ensures.name in
     let (last, called) = post_steps g.F.FnMut c.args.f (shown, tt) c.map_name_by_ref-in-Mx.result.exchange (g.met.F.FnMut c.lifetimes (search rules)).1 returned in
     rw c.in-Mx.is (c.map_name_by_ref-in-Mx.result.exchange, last, record { shown = shown; shows = shows; called = called }, ap (λ preference. Mx (record { preference = preference; exchange = c.map_name_by_ref-in-Mx.result.exchange })) c.map_name_by_ref-in-Mx.ensures.unchanged)
+
+pub returns-in_default : goal.returns-in_default
+returns-in_default g c = plain_given (CalledAt g.F.FnMut) c.args.f c.args.self.now c.plain_copy.result c.plain_copy.ensures
