@@ -235,25 +235,15 @@ impl<'a, N> RecordData<'a, N> {
         requires { is_plain self ≡ true }
         ensures { without_names self.entry ≡ Some result }
     {
+        let copy = self.plain_copy();
         match self {
-            RecordData::A(v) => RecordData::A(v),
-            RecordData::HInfo(v) => RecordData::HInfo(v),
-            RecordData::Txt(v) => RecordData::Txt(v),
-            RecordData::Srv(v) => RecordData::Srv(v),
-            RecordData::Aaaa(v) => RecordData::Aaaa(v),
-            RecordData::DName(v) => RecordData::DName(v),
-            RecordData::Opt(v) => RecordData::Opt(v),
-            RecordData::Ds(v) => RecordData::Ds(v),
-            RecordData::Rrsig(v) => RecordData::Rrsig(v),
-            RecordData::Nsec(v) => RecordData::Nsec(v),
-            RecordData::DNSKey(v) => RecordData::DNSKey(v),
-            RecordData::Nsec3(v) => RecordData::Nsec3(v),
-            RecordData::Nsec3Param(v) => RecordData::Nsec3Param(v),
-            RecordData::Cds(v) => RecordData::Cds(v),
-            RecordData::CDNSKey(v) => RecordData::CDNSKey(v),
-            RecordData::ZoneMD(v) => RecordData::ZoneMD(v),
-            RecordData::Unknown(rtype, v) => RecordData::Unknown(rtype, v),
-            _ => unreachable!(),
+            RecordData::Ns(_)
+            | RecordData::CName(_)
+            | RecordData::Soa(_)
+            | RecordData::Ptr(_)
+            | RecordData::Mx(_)
+            | RecordData::Rp(_) => unreachable!(),
+            _ => copy,
         }
     }
 
