@@ -236,6 +236,7 @@ impl<'a, N> RecordData<'a, N> {
         ensures { without_names self.entry ≡ Some result }
     {
         let copy = self.plain_copy();
+        // A name need not be droppable: of data with names nothing is dropped.
         match self {
             RecordData::Ns(_)
             | RecordData::CName(_)
