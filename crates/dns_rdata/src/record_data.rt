@@ -236,7 +236,7 @@ impl<'a, N> RecordData<'a, N> {
         ensures { without_names self.entry ≡ Some result }
     {
         let copy = self.plain_copy();
-        // A name need not be droppable: of data with names nothing is dropped.
+        // Names may not be droppable, so data with names are told apart before the rest is dropped.
         match self {
             RecordData::Ns(_)
             | RecordData::CName(_)
