@@ -77,7 +77,8 @@ fn edns_of<'a>(rclass: RClass, ttl: TTL, options: Opt<'a>) -> EdnsRecord<Opt<'a>
     }
 }
 
-/// The EDNS record that a record is, of whose owner it is told whether it is the root.
+/// The EDNS record that a record with these parts is. `ParseError` comes exactly if its owner is not the root, its type is
+/// not OPT, or its data have no options.
 fn edns_of_parts<'a, N: Drop>(
     is_root: bool,
     rtype: RType,
