@@ -1,6 +1,6 @@
 -- What NSEC and NSEC3 records say of a name, by the fields of their data.
-use Rattle.std.proofs.Common.{◌≡◌, ℕ, ◌<◌, ◌==◌, Bool, true, false, cond, List, [], ◌∷◌, ◌++◌, codes, length, take, drop, reverse, Some, None, eqb, leb, refl, sym, ap, ◌∙◌, arith, append_assoc, take-append-drop}
-use Rattle.std.specs.Prelude.{◌&&◌, slice_index}
+use Rattle.std.proofs.Common.{◌≡◌, ℕ, ◌==◌, Bool, true, false, cond, List, [], ◌∷◌, ◌++◌, codes, length, take, drop, reverse, Some, None, refl, sym, ap, ◌∙◌, append_assoc, take-append-drop}
+use Rattle.std.specs.Prelude.{slice_index}
 use Rattle.std.specs.Ordering.{nat_cmp}
 use Rattle.std.specs.Cmp.Lexicographic.{slice_cmp}
 use Rattle.std.proofs.lemmas.List.{take_at, drop_at, reverse-reverse}
@@ -9,7 +9,7 @@ use Rattle.dns_wire.proofs.Walk.{plain_wire}
 use Rattle.dns_name.specs.Order.{key}
 use Rattle.dns_record.specs.Fields.{canonical_fields, fields_octets}
 use Rattle.dns_nsec.specs.Types.{nsec_fields, nsec3_fields}
-use Rattle.dns_nsec.specs.Hashed.{algorithm_of, iterations_of, next_owner_of, salt_of}
+use Rattle.dns_nsec.specs.Hashed.{next_owner_of, salt_of}
 use Rattle.dns_nsec.specs.declared.nsec.Nsec.{Nsec}
 use Rattle.dns_nsec.specs.declared.nsec3.Nsec3.{Nsec3}
 use Rattle.dns_rdata.specs.Data.{IsDataOf}
@@ -17,7 +17,7 @@ use Rattle.dns_rdata.specs.declared.record_data.RecordData.TheVariants as data_o
 use Rattle.dns_message.specs.Messages.{RecordValue}
 use Rattle.dns_message.specs.Order.{SortKey, sort_key}
 use Rattle.dns_message.specs.Seen.{data_seen}
-use Rattle.dns_denial.specs.Coverage.{after_salt, coverage_in, coverage_line, coverage_word, first_label, hash_algorithm, hash_iterations, hash_salt, hashed_coverage, is_computed, name_before, next_hash, next_name, nsec_coverage, nsec3_coverage, owner_hash}
+use Rattle.dns_denial.specs.Coverage.{after_salt, coverage_in, coverage_line, coverage_word, first_label, hash_iterations, hash_salt, hashed_coverage, is_computed, name_before, next_hash, next_name, nsec_coverage, nsec3_coverage, owner_hash}
 use Rattle.dns_denial.specs.Hashes.{nsec3_hash_of}
 use Rattle.dns_denial.specs.Unbase32.{hash_of_text}
 use Rattle.dns_denial.specs.declared.coverage.Coverage.{Coverage}
