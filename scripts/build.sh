@@ -142,8 +142,8 @@ start() {
     waiting=$(echo " $waiting " | sed "s/ $1 / /")
 }
 
-# Starts what waits and depends on proved libraries alone, with the free processes divided among it. What comes in the list after a
-# crate that is not ready is needed later, and starts only if a process is left.
+# Starts what waits and depends on proved libraries alone. What comes in the list after a crate that is not ready is needed later: it
+# fills processors that are left, with one process, and does not count when the others have the processors divided among them.
 start_ready() {
     ready=
     later=
@@ -158,14 +158,17 @@ start_ready() {
         fi
     done
     count=$(echo $ready | wc -w)
+    share=$((free + $(echo $filling | wc -w)))
     for name in $ready; do
-        [ $free -ge 0 ] || return 0
-        start "$name" $((free < count ? 1 : free / count))
+        [ $share -ge 0 ] || return 0
+        start "$name" $((share < count ? 1 : share / count))
+        share=$((share - $(cat "$rooms/$name.jobs")))
         count=$((count - 1))
     done
     for name in $later; do
         [ $free -gt 0 ] || return 0
         start "$name" 1
+        filling="$filling $name"
     done
 }
 
@@ -175,6 +178,7 @@ gather() {
         kill -0 "$(cat "$rooms/$name.pid")" 2>/dev/null || [ -s "$rooms/$name.status" ] || echo 1 >"$rooms/$name.status"
         [ -s "$rooms/$name.status" ] || continue
         running=$(echo " $running " | sed "s/ $name / /")
+        filling=$(echo " $filling " | sed "s/ $name / /")
         free=$((free + $(cat "$rooms/$name.jobs")))
         clear_room "$name"
         [ "$(cat "$rooms/$name.status")" = 0 ] || { failed=$name && return 1; }
@@ -278,7 +282,7 @@ build_program() {
     mv "$rooms/$program/crates/$program/out/$program" "$out/$program" || failed=$program
 }
 
-running='' failed='' proved='' waiting='' seconds=0 spent=0 change=yes
+running='' filling='' failed='' proved='' waiting='' seconds=0 spent=0 change=yes
 take_turn
 clear_rooms
 for crate in "$crates"/*/; do
