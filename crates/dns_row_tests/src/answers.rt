@@ -38,8 +38,41 @@ pub(crate) struct Answer {
     pub(crate) output: Vec<u8>,
 }
 
-/// The answer of a library to a field of words for a text, over devices in memory with these faults. The sink takes 40 octets at a call,
-/// the notes take 7.
+/// The answer that ended so and wrote this.
+fn answer_of(
+    alloc: Global,
+    status: String,
+    sink: &TextSink<'_>,
+    notes: &TextSink<'_>,
+) -> Result<Answer, AllocError> {
+    let output = Vec::from_slice(alloc, sink.written())?;
+    Ok(Answer {
+        status,
+        is_flushed: sink.flushed(),
+        notes: Vec::from_slice(alloc, notes.written())?,
+        output,
+    })
+}
+
+/// The answer of a library to words for a text, over devices in memory with these faults and this room. The sink takes 40 octets at a
+/// call, the notes take 7.
+fn answer_in(
+    alloc: Global,
+    (library, words): (Library, Vec<String>),
+    text: &[u8],
+    faults: Faults,
+    room: &mut [u8],
+) -> Result<Answer, AllocError> {
+    let mut line = [0u8; 100];
+    let (reads, writes, notes_calls) = ([faults.source], [faults.sink], [faults.notes]);
+    let mut source = TextSource::new(text, faults.piece.max(1), &reads);
+    let mut sink = TextSink::new(room, 40, &writes);
+    let mut notes = TextSink::new(&mut line, 7, &notes_calls);
+    let status = ending_of(alloc, library, words, &mut source, &mut sink, &mut notes)?;
+    answer_of(alloc, status, &sink, &notes)
+}
+
+/// The answer of a library to a field of words for a text, over devices in memory with these faults.
 pub(crate) fn answer_over(
     alloc: Global,
     library: Library,
@@ -47,20 +80,9 @@ pub(crate) fn answer_over(
     text: &[u8],
     faults: Faults,
 ) -> Result<Answer, AllocError> {
-    let words = words_of(alloc, words)?;
     let mut room = vec![in alloc; 0; ROOM]?;
-    let mut line = [0u8; 100];
-    let (reads, writes, notes_calls) = ([faults.source], [faults.sink], [faults.notes]);
-    let mut source = TextSource::new(text, faults.piece.max(1), &reads);
-    let mut sink = TextSink::new(&mut room, 40, &writes);
-    let mut notes = TextSink::new(&mut line, 7, &notes_calls);
-    let status = ending_of(alloc, library, words, &mut source, &mut sink, &mut notes)?;
-    Ok(Answer {
-        status,
-        is_flushed: sink.flushed(),
-        notes: Vec::from_slice(alloc, notes.written())?,
-        output: Vec::from_slice(alloc, sink.written())?,
-    })
+    let words = words_of(alloc, words)?;
+    answer_in(alloc, (library, words), text, faults, &mut room)
 }
 
 /// The answer of a library to a field of words for a text, if no device fails.

@@ -58,13 +58,18 @@ pub(crate) fn octets_of(alloc: Global, field: &str) -> Result<Vec<u8>, AllocErro
     Ok(octets)
 }
 
+/// The word that a part of a field represents.
+fn word_of(alloc: Global, part: &str) -> Result<String, AllocError> {
+    let octets = octets_of(alloc, part)?;
+    String::from_utf8_lossy(alloc, &octets)
+}
+
 /// The words of a command line, between commas; a hyphen means none.
 pub(crate) fn words_of(alloc: Global, field: &str) -> Result<Vec<String>, AllocError> {
     let mut words = Vec::new(alloc);
     if field != "-" {
-        for word in field.split(',') {
-            let octets = octets_of(alloc, word)?;
-            words.push(String::from_utf8_lossy(alloc, &octets)?)?;
+        for part in field.split(',') {
+            words.push(word_of(alloc, part)?)?;
         }
     }
     Ok(words)
