@@ -1,223 +1,195 @@
-//! Data of DNSSEC and EDNS in all forms: what is read, what is written, and in what order.
+//! The fields of the data of DNSSEC.
 
-use crate::security_calls::{are_alike, forms, holds, rewrites};
-use dns_edns::Opt;
+use crate::assertions::holds;
 use dns_nsec::{Nsec, Nsec3, Nsec3Param};
-use dns_record::CanonicalRecordData;
-use dns_sec::{CDNSKey, Cds, DNSKey, Ds, Rrsig, ZoneMD};
+use dns_record::RType;
+use dns_sec::{DNSKey, Ds, Rrsig, ZoneMD};
 use dns_wire::ParseBytes;
-use std::cmp::Ordering;
 
 /// The DS of RFC 4034 section 5.4, as `to_wire` of dnspython 2.3.0 writes it.
-pub(crate) const DIGEST: &[u8] =
-    b"\xecE\x05\x01+\xb1\x83\xaf_\x22X\x81y\xa5;\x0a\x98c\x1f\xad\x1a)!\x18";
-
-/// The DNSKEY 256 3 5 AQPSKmynfzW4kyBv015MUG2DeIQ3, as `to_wire` of dnspython 2.3.0 writes it.
-pub(crate) const KEY: &[u8] = b"\x01\0\x03\x05\x01\x03\xd2*l\xa7\x7f5\xb8\x93 o\xd3^LPm\x83x\x847";
-
-/// A CDS of a SHA-256 digest from `samples/child-digests`, as `to_wire` of dnspython 2.3.0 writes it.
-const CHILD_DIGEST: &[u8] =
-    b"\xeey\x0d\x02Z\x98N[L\x8b~\x9b\xa2W\xe1\xbbl\xa4\xda\x9a^F\xba\x97\xb9\xa5\x9d\xb2\xa2\x88\x86\xebg\x82\x11\xfd";
-
-/// The CDNSKEY of an Ed25519 key from `samples/child-keys-signed`, as `to_wire` of dnspython 2.3.0 writes it.
-const CHILD_KEY: &[u8] =
-    b"\x01\x01\x03\x0f\xf8\xb7\x0c\x0e\x83\xf9\xa4@f\xbc\xafx\xd4m\xba\0L.\xac\x83\xd8N\x88$i\x80'F\x10\xb3\x0dx";
-
-/// The CDNSKEY 0 3 0 AA== of RFC 8078 section 4, as `to_wire` of dnspython 2.3.0 writes it.
-const NO_KEY: &[u8] = b"\0\0\x03\0\0";
-
-/// The RRSIG A 5 3 86400 20030322173103 20030220173103 2642 Example.COM. oJB1Wg==, as `to_wire` of dnspython 2.3.0
-/// writes it.
-pub(crate) const SIGNATURE: &[u8] =
-    b"\0\x01\x05\x03\0\x01Q\x80>|\x9d\xd7>U\x10\xd7\x0aR\x07Example\x03COM\0\xa0\x90uZ";
-
-/// The same as `to_digestable` of dnspython 2.3.0 writes it.
-const LOWERCASE_SIGNATURE: &[u8] =
-    b"\0\x01\x05\x03\0\x01Q\x80>|\x9d\xd7>U\x10\xd7\x0aR\x07example\x03com\0\xa0\x90uZ";
+const DIGEST: &[u8] = b"\xecE\x05\x01+\xb1\x83\xaf_\x22X\x81y\xa5;\x0a\x98c\x1f\xad\x1a)!\x18";
 
 /// The ZONEMD of RFC 8976 appendix A.1, as `to_wire` of dnspython 2.3.0 writes it.
-pub(crate) const ZONE_DIGEST: &[u8] =
+const ZONE_DIGEST: &[u8] =
     b"xH\xb9\x1c\x01\x01\xc6\x80\x90\xd9\x0az\xedqk\xc4Y\xf94\x0e=|\x13p\xd4\xd2K~/\xc3\xa1\
     \xdd\xc0\xb9\xa8qS\xb9\xa9q;<\x9a\xe5\xcc'w\x7f\x98\xb8\xe70\x04L";
 
-/// The NSEC Host.Example.com. A, as dnspython writes it, in canonical form too.
+/// The DNSKEY 256 3 5 AQPSKmynfzW4kyBv015MUG2DeIQ3, as `to_wire` of dnspython 2.3.0 writes it.
+const KEY: &[u8] = b"\x01\0\x03\x05\x01\x03\xd2*l\xa7\x7f5\xb8\x93 o\xd3^LPm\x83x\x847";
+
+/// The RRSIG A 5 3 86400 20030322173103 20030220173103 2642 Example.COM. oJB1Wg==, as `to_wire` of dnspython 2.3.0
+/// writes it.
+const SIGNATURE: &[u8] =
+    b"\0\x01\x05\x03\0\x01Q\x80>|\x9d\xd7>U\x10\xd7\x0aR\x07Example\x03COM\0\xa0\x90uZ";
+
+/// The NSEC Host.Example.com. A, as dnspython writes it.
 const NEXT_NAME: &[u8] = b"\x04Host\x07Example\x03com\0\0\x01\x40";
 
 /// The NSEC3 of RFC 5155 appendix A for the apex, as dnspython writes it.
-pub(crate) const HASHED: &[u8] =
+const HASHED: &[u8] =
     b"\x01\x01\0\x0c\x04\xaa\xbb\xcc\xdd\x14\x17\x4e\xb2\x40\x9f\xe2\x8b\xcb\x48\x87\xa1\x83\x6f\x95\x7f\x0a\x84\x25\xe2\x7b\0\x07\x22\x01\0\0\0\x02\x90";
 
 /// NSEC3PARAM data with the salt of RFC 5155 appendix A.
-pub(crate) const PARAMETERS: &[u8] = b"\x01\0\0\x0c\x04\xaa\xbb\xcc\xdd";
+const PARAMETERS: &[u8] = b"\x01\0\0\x0c\x04\xaa\xbb\xcc\xdd";
 
-/// Which calls read the contents from the place on as data of this kind and of the type of this number.
-fn read_forms(kind: &str, contents: &[u8], start: usize, number: u16) -> [bool; 4] {
-    match kind {
-        "RRSIG" => forms::<Rrsig>(contents, start, number),
-        "ZONEMD of two octets" => forms::<ZoneMD<[u8; 2]>>(contents, start, number),
-        "NSEC" => forms::<Nsec>(contents, start, number),
-        "NSEC3" => forms::<Nsec3>(contents, start, number),
-        _ => forms::<Opt>(contents, start, number),
+/// The key tag, the algorithm, the digest type and the size of the digest of DS data.
+fn ds_fields(octets: &[u8]) -> Option<(u16, u8, u8, usize)> {
+    match Ds::parse_bytes(octets) {
+        Ok(data) => Some((
+            data.keytag.get(),
+            data.algorithm.code,
+            data.digest_type.code,
+            data.digest.len(),
+        )),
+        Err(_) => None,
     }
 }
 
-/// Whether no call reads the contents after their first octet if they are cut at any place, the first one included.
-fn refuses_all_prefixes(kind: &str, contents: &[u8], number: u16) -> bool {
-    for size in 0..contents.len() {
-        let is_refused = match contents.get(..size) {
-            Some(prefix) => read_forms(kind, prefix, 1, number) == [false; 4],
-            None => false,
-        };
-        if !is_refused {
-            return false;
+/// The serial number, the scheme, the hash algorithm and the size of the digest of ZONEMD data.
+fn zonemd_fields(octets: &[u8]) -> Option<(u32, u8, u8, usize)> {
+    match ZoneMD::<&[u8]>::parse_bytes(octets) {
+        Ok(data) => Some((
+            data.serial.get(),
+            data.scheme.code,
+            data.hash_alg.code,
+            data.digest.len(),
+        )),
+        Err(_) => None,
+    }
+}
+
+/// The flags, the protocol, the algorithm and the size of the key of DNSKEY data.
+fn key_fields(octets: &[u8]) -> Option<(u16, u8, u8, usize)> {
+    match DNSKey::parse_bytes(octets) {
+        Ok(data) => Some((
+            data.flags.bits(),
+            data.protocol,
+            data.algorithm.code,
+            data.key.len(),
+        )),
+        Err(_) => None,
+    }
+}
+
+/// The fields that RFC 4034 section 5.4 and RFC 8976 appendix A.1 print, and those of a key.
+#[test]
+fn digests_and_keys_have_their_fields(rt: HostRuntime) {
+    let zone_fields = Some((2_018_031_900, 1, 1, 48));
+    holds(&rt, ds_fields(DIGEST) == Some((60_485, 5, 1, 20)), "DS");
+    holds(&rt, zonemd_fields(ZONE_DIGEST) == zone_fields, "ZONEMD");
+    holds(&rt, key_fields(KEY) == Some((256, 3, 5, 21)), "DNSKEY");
+}
+
+/// The type covered, the algorithm, the labels and the original TTL of RRSIG data.
+fn signed_fields(octets: &[u8]) -> Option<(u16, u8, u8, u32)> {
+    match Rrsig::parse_bytes(octets) {
+        Ok(data) => Some((
+            data.type_covered().code.get(),
+            data.algorithm.code,
+            data.labels,
+            data.original_ttl().as_secs(),
+        )),
+        Err(_) => None,
+    }
+}
+
+/// The expiration, the inception and the key tag of RRSIG data.
+fn signing_fields(octets: &[u8]) -> Option<(u32, u32, u16)> {
+    match Rrsig::parse_bytes(octets) {
+        Ok(data) => Some((
+            data.expiration().into_int(),
+            data.inception.get(),
+            data.key_tag(),
+        )),
+        Err(_) => None,
+    }
+}
+
+/// Whether RRSIG data have this signer and this signature.
+fn is_signed(octets: &[u8], signer: &[u8], signature: &[u8]) -> bool {
+    match Rrsig::parse_bytes(octets) {
+        Ok(data) => data.signer.as_bytes() == signer && data.signature == signature,
+        Err(_) => false,
+    }
+}
+
+#[test]
+fn signatures_have_their_fields(rt: HostRuntime) {
+    let signing = Some((1_048_354_263, 1_045_762_263, 2642));
+    let signed = Some((1, 5, 3, 86_400));
+    let is_signed = is_signed(SIGNATURE, b"\x07Example\x03COM\0", b"\xa0\x90\x75\x5a");
+    holds(&rt, signed_fields(SIGNATURE) == signed, "what is signed");
+    holds(
+        &rt,
+        signing_fields(SIGNATURE) == signing,
+        "when and by which key",
+    );
+    holds(&rt, is_signed, "signer and signature");
+}
+
+/// Whether A and NS are among the types of NSEC data with this next name.
+fn next_types(octets: &[u8], name: &[u8]) -> Option<(bool, bool)> {
+    match Nsec::parse_bytes(octets) {
+        Ok(data) if data.next_name().as_bytes() == name => {
+            let types = data.types();
+            Some((types.contains(RType::A), types.contains(RType::NS)))
         }
-    }
-    true
-}
-
-/// Whether the contents after their first octet are read as data of the type of this number and of no other, and
-/// refused if they are cut at any place.
-fn reads_no_less(kind: &str, contents: &[u8], number: u16) -> bool {
-    read_forms(kind, contents, 1, number) == [true; 4]
-        && read_forms(kind, contents, 1, 2) == [true, true, false, false]
-        && refuses_all_prefixes(kind, contents, number)
-}
-
-/// The least data of some types after one octet: the last field is empty if it may be.
-#[test]
-fn least_data_are_read(rt: HostRuntime) {
-    let signature: &[u8] = b".\0\x01\x05\x03\0\x01\x51\x80\0\0\0\x02\0\0\0\x01\x0a\x52\x01a\0";
-    let cases: [(&str, u16, &[u8]); 4] = [
-        ("RRSIG", 46, signature),
-        ("ZONEMD of two octets", 63, b".\0\0\0\x01\x01\x01ab"),
-        ("NSEC", 47, b".\x01a\0\0\x02\0\x08"),
-        ("NSEC3", 50, b".\x01\0\0\0\0\0"),
-    ];
-    for (kind, number, contents) in cases {
-        assert!(rt; reads_no_less(kind, contents, number), "{kind}");
-    }
-}
-
-/// Data that no call reads, from the place on: with octets after them, with a pointer as a name, with bitmaps that are
-/// cut, have an octet after them, or are missing.
-#[test]
-fn malformed_data_are_refused(rt: HostRuntime) {
-    let pointed: &[u8] = b"\x01a\0\0\x01\x05\x03\0\x01\x51\x80\0\0\0\x02\0\0\0\x01\x0a\x52\xc0\x0c";
-    let cut: &[u8] = &HASHED[..38];
-    let cases: [(&str, u16, &[u8], usize); 8] = [
-        ("ZONEMD of two octets", 63, b"\0\0\0\x01\x01\x01abc", 0),
-        ("RRSIG", 46, pointed, 3),
-        ("OPT", 41, b"\0\x03\0\x03\xaa\xaa", 0),
-        ("NSEC", 47, b"\x01a\0\0\x02\0\x08*", 0),
-        ("NSEC", 47, b"\0\0\x01\x40\0\x01\x40", 0),
-        ("NSEC", 47, b"\0", 0),
-        ("NSEC3", 50, b"\x01\0\0\0\0\0\0", 0),
-        ("NSEC3", 50, cut, 0),
-    ];
-    for (kind, number, contents, start) in cases {
-        assert!(rt;
-            read_forms(kind, contents, start, number) == [false; 4],
-            "{kind} at {start}"
-        );
-    }
-}
-
-/// OPT data, which may be empty, are read from the place on, but not after the end.
-#[test]
-fn opt_data_are_read(rt: HostRuntime) {
-    let cases: [(u16, &[u8], usize, [bool; 4]); 4] = [
-        (41, b"..\0\x03\0\x02ns", 2, [true; 4]),
-        (16, b"..\0\x03\0\x02ns", 2, [true, true, false, false]),
-        (41, b"..", 2, [true; 4]),
-        (41, b"..", 3, [true, false, true, false]),
-    ];
-    for (number, contents, start, wanted) in cases {
-        assert!(rt;
-            read_forms("OPT", contents, start, number) == wanted,
-            "{number} at {start}"
-        );
-    }
-}
-
-/// Whether data of this kind and of these octets are written as them, and in canonical form as these.
-fn rewrites_kind(kind: &str, octets: &[u8], canonical: &[u8]) -> bool {
-    match kind {
-        "DS" => rewrites::<Ds>(octets, canonical),
-        "DNSKEY" => rewrites::<DNSKey>(octets, canonical),
-        "CDS" => rewrites::<Cds>(octets, canonical),
-        "CDNSKEY" => rewrites::<CDNSKey>(octets, canonical),
-        "RRSIG" => rewrites::<Rrsig>(octets, canonical),
-        "ZONEMD" => rewrites::<ZoneMD<&[u8]>>(octets, canonical),
-        "NSEC" => rewrites::<Nsec>(octets, canonical),
-        "NSEC3" => rewrites::<Nsec3>(octets, canonical),
-        "NSEC3PARAM" => rewrites::<Nsec3Param>(octets, canonical),
-        _ => rewrites::<Opt>(octets, canonical),
-    }
-}
-
-/// The canonical forms are those of `to_digestable` of dnspython 2.3.0: a signer's name is in lowercase, and a next
-/// name keeps its case (RFC 6840 section 5.1).
-#[test]
-fn data_are_written(rt: HostRuntime) {
-    let option: &[u8] = b"\0\x03\0\x02ns";
-    let cases: [(&str, &[u8], &[u8]); 11] = [
-        ("DS", DIGEST, DIGEST),
-        ("DNSKEY", KEY, KEY),
-        ("CDS", CHILD_DIGEST, CHILD_DIGEST),
-        ("CDNSKEY", CHILD_KEY, CHILD_KEY),
-        ("CDNSKEY", NO_KEY, NO_KEY),
-        ("RRSIG", SIGNATURE, LOWERCASE_SIGNATURE),
-        ("ZONEMD", ZONE_DIGEST, ZONE_DIGEST),
-        ("NSEC", NEXT_NAME, NEXT_NAME),
-        ("NSEC3", HASHED, HASHED),
-        ("NSEC3PARAM", PARAMETERS, PARAMETERS),
-        ("OPT", option, option),
-    ];
-    for (kind, octets, canonical) in cases {
-        assert!(rt; rewrites_kind(kind, octets, canonical), "{kind}");
-    }
-}
-
-/// Two values of these octets.
-fn two<'a, D: ParseBytes<'a>>(one: &'a [u8], other: &'a [u8]) -> Option<(D, D)> {
-    match (D::parse_bytes(one), D::parse_bytes(other)) {
-        (Ok(one), Ok(other)) => Some((one, other)),
         _ => None,
     }
 }
 
-/// How RRSIG data of these octets compare in canonical order.
-fn rrsig_order(one: &[u8], other: &[u8]) -> Option<Ordering> {
-    match two::<Rrsig>(one, other) {
-        Some((one, other)) => Some(one.cmp_canonical(&other)),
-        None => None,
+/// The algorithm, the flags and the iterations of NSEC3 data.
+fn hashing(octets: &[u8]) -> Option<(u8, u8, u16)> {
+    match Nsec3::parse_bytes(octets) {
+        Ok(data) => Some((
+            data.algorithm().code,
+            data.flags().bits(),
+            data.iterations(),
+        )),
+        Err(_) => None,
     }
 }
 
-/// How NSEC data of these octets compare in canonical order.
-fn nsec_order(one: &[u8], other: &[u8]) -> Option<Ordering> {
-    match two::<Nsec>(one, other) {
-        Some((one, other)) => Some(one.cmp_canonical(&other)),
-        None => None,
+/// Whether NSEC3 data have this salt, this hash of the next owner and this bitmap.
+fn has_hashed(octets: &[u8], salt: &[u8], next_owner: &[u8], bitmap: &[u8]) -> bool {
+    match Nsec3::parse_bytes(octets) {
+        Ok(data) => {
+            data.salt().into_data() == salt
+                && data.next_owner().into_data() == next_owner
+                && data.types().slice == bitmap
+        }
+        Err(_) => false,
     }
 }
 
-/// The order of the canonical octets (RFC 4034 section 6.3), in which a signer's name is in lowercase, and a next name
-/// keeps its case.
-#[test]
-fn data_are_ordered(rt: HostRuntime) {
-    let lower: &[u8] = b"\x04host\x07example\x03com\0\0\x01\x40";
-    let names = nsec_order(NEXT_NAME, lower);
-    let signers = rrsig_order(SIGNATURE, LOWERCASE_SIGNATURE);
-    holds(&rt, names == Some(Ordering::Less), "next names");
-    holds(&rt, signers == Some(Ordering::Equal), "signers");
+/// The algorithm, the flags, the opt-out and the iterations of NSEC3PARAM data with this salt.
+fn parameters(octets: &[u8], salt: &[u8]) -> Option<(u8, u8, bool, u16)> {
+    match Nsec3Param::parse_bytes(octets) {
+        Ok(data) if data.salt().into_data() == salt => Some((
+            data.hash_algorithm().code,
+            data.flags().bits(),
+            data.opt_out_flag(),
+            data.iterations(),
+        )),
+        _ => None,
+    }
 }
 
-/// Data are equal whatever the case of their names, and feed a hasher alike then.
+/// The salt, and the hash of the next owner and the bitmap of the apex in RFC 5155 appendix A. A next name keeps its
+/// case.
 #[test]
-fn data_are_compared(rt: HostRuntime) {
-    let signatures = are_alike::<Rrsig>(SIGNATURE, LOWERCASE_SIGNATURE);
-    let keys = are_alike::<DNSKey>(KEY, b"\x01\x01\x03\x05");
-    holds(&rt, signatures == Some(true), "signatures");
-    holds(&rt, keys == Some(false), "keys");
+fn denials_have_their_fields(rt: HostRuntime) {
+    let (name, salt) = (b"\x04Host\x07Example\x03com\0", b"\xaa\xbb\xcc\xdd");
+    let next_owner =
+        b"\x17\x4e\xb2\x40\x9f\xe2\x8b\xcb\x48\x87\xa1\x83\x6f\x95\x7f\x0a\x84\x25\xe2\x7b";
+    let has_hashed = has_hashed(HASHED, salt, next_owner, b"\0\x07\x22\x01\0\0\0\x02\x90");
+    let wanted = Some((1, 0, false, 12));
+    holds(
+        &rt,
+        next_types(NEXT_NAME, name) == Some((true, false)),
+        "NSEC",
+    );
+    holds(&rt, hashing(HASHED) == Some((1, 1, 12)), "NSEC3");
+    holds(&rt, has_hashed, "octets of NSEC3");
+    holds(&rt, parameters(PARAMETERS, salt) == wanted, "NSEC3PARAM");
 }

@@ -105,22 +105,27 @@ fn finish(v: State) -> u64
     v.0 ^ v.1 ^ v.2 ^ v.3
 }
 
-/// The hash of the input under the key.
-fn hashes(key: &[u8; 16], input: &[u8]) -> [u8; 8] {
-    SipHash.hash(key, input)
+/// The octets from 0 on.
+const KEY: [u8; 16] = *b"\0\x01\x02\x03\x04\x05\x06\x07\x08\x09\x0a\x0b\x0c\x0d\x0e\x0f";
+
+/// Whether this is the hash of that many octets from 0 on, under the key of the octets from 0 on.
+fn hashes(size: usize, hash: &[u8]) -> bool {
+    match KEY.get(..size) {
+        Some(input) => SipHash.hash(&KEY, input).as_slice() == hash,
+        None => false,
+    }
 }
 
-/// The first vectors of SipHash's own list, and the one of its paper: a key and an input of the octets from 0 on.
+/// The first vectors of SipHash's own list, and the one of its paper.
 #[test]
 fn sip_hash_is_that_of_its_paper(rt: HostRuntime) {
-    let key = *b"\0\x01\x02\x03\x04\x05\x06\x07\x08\x09\x0a\x0b\x0c\x0d\x0e\x0f";
-    let cases: [(&[u8], [u8; 8]); 4] = [
-        (b"", *b"\x31\x0e\x0e\xdd\x47\xdb\x6f\x72"),
-        (&key[..7], *b"\x37\xd1\x01\x8b\xf5\x00\x02\xab"),
-        (&key[..8], *b"\x62\x24\x93\x9a\x79\xf5\xf5\x93"),
-        (&key[..15], *b"\xe5\x45\xbe\x49\x61\xca\x29\xa1"),
+    let cases: [(usize, &[u8]); 4] = [
+        (0, b"\x31\x0e\x0e\xdd\x47\xdb\x6f\x72"),
+        (7, b"\x37\xd1\x01\x8b\xf5\x00\x02\xab"),
+        (8, b"\x62\x24\x93\x9a\x79\xf5\xf5\x93"),
+        (15, b"\xe5\x45\xbe\x49\x61\xca\x29\xa1"),
     ];
-    for (input, hash) in cases {
-        assert!(rt; hashes(&key, input) == hash, "{input:?}");
+    for (size, hash) in cases {
+        assert!(rt; hashes(size, hash), "{size}");
     }
 }

@@ -1,9 +1,28 @@
 //! Canonical forms of a message's records, and their order.
 
 use crate::assertions::holds;
-use crate::canonical_record::{ADDRESSES, LEAST, most_records};
-use dns_message::{CanonicalForms, read_records};
+use dns_message::{CanonicalForms, collapse, read_records};
 use std::alloc::Global;
+
+/// Four answers: an address of `A.` for 60 seconds, the same of `a.` for 59 and for 61, and another address.
+const ADDRESSES: &[u8] =
+    b"\x12\x34\x81\x80\0\0\0\x04\0\0\0\0\x01A\0\0\x01\0\x01\0\0\0\x3c\0\x04\xc0\0\x02\x01\x01a\0\0\x01\0\x01\0\0\0\x3b\0\x04\xc0\0\x02\x01\x01a\0\0\x01\0\x01\0\0\0\x3d\0\x04\xc0\0\x02\x01\x01a\0\0\x01\0\x01\0\0\0\x3b\0\x04\xc0\0\x02\x02";
+
+/// The canonical octets of the first address, for 59 seconds.
+const LEAST: &[u8] = b"\x01a\0\0\x01\0\x01\0\0\0\x3b\0\x04\xc0\0\x02\x01";
+
+/// The message of the most records: 5,956 of 11 octets, one of each class from 0 on.
+fn most_records() -> [u8; 65_528] {
+    let mut message = [0; 65_528];
+    message[6] = 0x17;
+    message[7] = 0x44;
+    for index in 0..5_956 {
+        message[13 + 11 * index] = 0xff;
+        message[15 + 11 * index] = (index / 256) as u8;
+        message[16 + 11 * index] = (index % 256) as u8;
+    }
+    message
+}
 
 /// How many of the forms are left, if those of alike records count once, and whether the first has these octets.
 fn first_left(alloc: Global, forms: &CanonicalForms, wanted: &[u8]) -> Option<(usize, bool)> {
@@ -34,10 +53,6 @@ fn collapses(alloc: Global, message: &[u8], wanted: &[u8]) -> Option<(usize, usi
 fn alike_forms_collapse_to_the_least_ttl(rt: HostRuntime) {
     let found = collapses(rt.alloc(), ADDRESSES, LEAST);
     holds(&rt, found == Some((4, 2, true)), "four addresses");
-}
-
-#[test]
-fn the_most_forms_collapse(rt: HostRuntime) {
     let first = b"\0\xff\0\0\0\0\0\0\0\0\0";
     let found = collapses(rt.alloc(), &most_records(), first);
     holds(
@@ -45,4 +60,23 @@ fn the_most_forms_collapse(rt: HostRuntime) {
         found == Some((5_956, 5_956, true)),
         "all classes differ",
     );
+}
+
+/// How many records of a message are left, if alike ones count once.
+fn count_left(alloc: Global, message: &[u8]) -> Option<usize> {
+    let Ok(records) = read_records(alloc, message) else {
+        return None;
+    };
+    match collapse(alloc, records) {
+        Ok(unchanged) => Some(unchanged.len()),
+        Err(_) => None,
+    }
+}
+
+#[test]
+fn alike_records_collapse(rt: HostRuntime) {
+    let four = count_left(rt.alloc(), ADDRESSES);
+    holds(&rt, four == Some(2), "four addresses");
+    let most = count_left(rt.alloc(), &most_records());
+    holds(&rt, most == Some(5_956), "all classes differ");
 }

@@ -11,11 +11,7 @@ mod canonical_forms;
 #[cfg(test)]
 mod canonical_record;
 #[cfg(test)]
-mod edns_conversion;
-#[cfg(test)]
 mod edns_record;
-#[cfg(test)]
-mod mapped_names;
 #[cfg(test)]
 mod message_builder;
 #[cfg(test)]
@@ -26,8 +22,6 @@ mod rdata_by_type;
 mod record_data;
 #[cfg(test)]
 mod records_in_message;
-#[cfg(test)]
-mod unknown_data;
 #[cfg(test)]
 mod written;
 

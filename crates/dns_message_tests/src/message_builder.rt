@@ -4,9 +4,8 @@ use crate::assertions::holds;
 use crate::record_data::{Data, read};
 use dns_edns::{EdnsFlags, Opt};
 use dns_message::{HeaderFlags, MessageBuildError, MessageBuilder};
-use dns_name::{Name, NameBuf};
+use dns_name::NameBuf;
 use dns_num::{SizePrefixed, U16};
-use dns_plain::A;
 use dns_rdata::EdnsRecord;
 use dns_record::{QClass, QType, Question, RClass, RType, Record, TTL};
 use dns_wire::{NameCompressor, ParseBytes};
@@ -64,6 +63,15 @@ fn push_additional(builder: &mut MessageBuilder<'_>, found: &OwnedRecord<'_>) ->
     builder.push_additional(found).err()
 }
 
+/// Why the record is refused in the section of this letter.
+fn push_in(builder: &mut MessageBuilder<'_>, section: char, found: &OwnedRecord<'_>) -> Refusal {
+    match section {
+        'a' => push_answer(builder, found),
+        'n' => push_authority(builder, found),
+        _ => push_additional(builder, found),
+    }
+}
+
 /// The record of these parts.
 fn record_of<'a>(owner: &[u8], number: u16, ttl: u32, octets: &'a [u8]) -> Option<OwnedRecord<'a>> {
     match (NameBuf::parse_bytes(owner), read(number, octets)) {
@@ -81,11 +89,9 @@ pub(crate) type Parts<'a> = (char, &'a [u8], u16, u32, &'a [u8]);
 /// Why a record of these parts is refused; `None` if there is no such record.
 fn push_record(builder: &mut MessageBuilder<'_>, parts: Parts<'_>) -> Option<Refusal> {
     let (section, owner, number, ttl, octets) = parts;
-    match (section, record_of(owner, number, ttl, octets)) {
-        ('a', Some(found)) => Some(push_answer(builder, &found)),
-        ('n', Some(found)) => Some(push_authority(builder, &found)),
-        (_, Some(found)) => Some(push_additional(builder, &found)),
-        (_, None) => None,
+    match record_of(owner, number, ttl, octets) {
+        Some(found) => Some(push_in(builder, section, &found)),
+        None => None,
     }
 }
 
@@ -104,13 +110,13 @@ fn are_pushed(builder: &mut MessageBuilder<'_>) -> bool {
     true
 }
 
-/// Whether a question for this type is pushed.
-fn is_question_pushed(builder: &mut MessageBuilder<'_>, name: &[u8], qtype: QType) -> bool {
+/// Why a question for this name and this type is refused.
+fn push_question(builder: &mut MessageBuilder<'_>, name: &[u8], qtype: QType) -> Refusal {
     match NameBuf::parse_bytes(name) {
         Ok(name) => builder
             .push_question(&Question::new(&name, qtype, QClass::IN))
-            .is_ok(),
-        Err(_) => false,
+            .err(),
+        Err(_) => None,
     }
 }
 
@@ -132,7 +138,7 @@ fn is_answer_built(wanted: &[u8]) -> bool {
     let mut names = NameCompressor::new();
     let (id, flags) = (U16::new(0x1234), HeaderFlags::from_bits(0x8580));
     let mut builder = MessageBuilder::new(&mut buffer, &mut names, id, flags);
-    is_question_pushed(&mut builder, WWW, QType::A)
+    push_question(&mut builder, WWW, QType::A).is_none()
         && are_pushed(&mut builder)
         && is_edns_pushed(&mut builder, 1232)
         && builder.message().as_bytes() == wanted
@@ -143,36 +149,16 @@ fn an_answer_with_records_in_three_sections(rt: HostRuntime) {
     holds(&rt, is_answer_built(ANSWER), "the answer");
 }
 
-/// Why an address of the owner is refused as an answer.
-fn push_address(builder: &mut MessageBuilder<'_>, owner: &[u8]) -> Refusal {
-    match NameBuf::parse_bytes(owner) {
-        Ok(owner) => {
-            let address = A {
-                octets: [127, 0, 0, 1],
-            };
-            let found = Record::new(owner, RType::A, RClass::IN, TTL::from(42), address);
-            builder.push_answer(&found).err()
-        }
-        Err(_) => None,
-    }
-}
-
-/// Why a question is refused.
-fn push_question(builder: &mut MessageBuilder<'_>) -> Refusal {
-    let question = Question::new(Name::root(), QType::NS, QClass::IN);
-    builder.push_question(&question).err()
-}
-
 /// Why an address and a question after it are refused in a buffer, and how many octets the message has then.
-fn push_two(buffer: &mut [u8]) -> Option<(Refusal, Refusal, usize)> {
+fn push_two(buffer: &mut [u8]) -> Option<(Option<Refusal>, Refusal, usize)> {
     if buffer.len() < 12 {
         return None;
     }
     let mut names = NameCompressor::new();
     let (id, flags) = (U16::new(7), HeaderFlags::from_bits(0x8400));
     let mut builder = MessageBuilder::new(buffer, &mut names, id, flags);
-    let address = push_address(&mut builder, WWW);
-    let question = push_question(&mut builder);
+    let address = push_record(&mut builder, ('a', WWW, 1, 42, b"\x7f\0\0\x01"));
+    let question = push_question(&mut builder, b"\0", QType::NS);
     Some((address, question, builder.message().as_bytes().len()))
 }
 
@@ -183,62 +169,15 @@ fn an_item_fits_exactly_or_is_refused(rt: HostRuntime) {
         b"\0\x07\x84\0\0\0\0\x01\0\0\0\0\x03www\x07example\x03org\0\0\x01\0\x01\0\0\0\x2a\0\x04\x7f\0\0\x01";
     let mut buffer = [0; 43];
     let pushed = push_two(&mut buffer);
-    let answers = Some((None, Some(MessageBuildError::Misplaced), 43));
+    let answers = Some((Some(None), Some(MessageBuildError::Misplaced), 43));
     holds(&rt, pushed == answers, "43 octets");
     holds(&rt, buffer.as_slice() == wanted.as_slice(), "the message");
     let mut buffer = [0; 42];
     let pushed = push_two(&mut buffer);
-    let question = Some((Some(MessageBuildError::Truncated), None, 17));
+    let question = Some((Some(Some(MessageBuildError::Truncated)), None, 17));
     holds(&rt, pushed == question, "42 octets");
     let wanted = b"\0\x07\x84\0\0\x01\0\0\0\0\0\0\0\0\x02\0\x01";
     holds(&rt, buffer.starts_with(wanted), "a question alone");
-}
-
-/// How many questions are pushed until one is refused.
-fn push_questions(builder: &mut MessageBuilder<'_>) -> usize {
-    for count in 0..70_000 {
-        if push_question(builder).is_some() {
-            return count;
-        }
-    }
-    70_000
-}
-
-/// How many questions are pushed, and why one more and an address are refused.
-fn push_many(buffer: &mut [u8]) -> Option<(usize, Refusal, Refusal)> {
-    if buffer.len() < 12 {
-        return None;
-    }
-    let mut names = NameCompressor::new();
-    let (id, flags) = (U16::new(0), HeaderFlags::default());
-    let mut builder = MessageBuilder::new(buffer, &mut names, id, flags);
-    let count = push_questions(&mut builder);
-    let question = push_question(&mut builder);
-    Some((count, question, push_address(&mut builder, b"\0")))
-}
-
-/// As many questions as a count can say, five octets each.
-#[test]
-fn a_message_takes_65535_questions(rt: HostRuntime) {
-    match vec![in rt.alloc(); 0; 327_687] {
-        Ok(mut buffer) => {
-            let (full, long) = (MessageBuildError::TooMany, MessageBuildError::Truncated);
-            let pushed = push_many(&mut buffer);
-            holds(
-                &rt,
-                pushed == Some((65_535, Some(full), Some(long))),
-                "refusals",
-            );
-            let start = b"\0\0\0\0\xff\xff\0\0\0\0\0\0\0\0\x02\0\x01";
-            holds(&rt, buffer.starts_with(start), "the first question");
-            holds(
-                &rt,
-                buffer.ends_with(b"\0\0\x02\0\x01"),
-                "the last question",
-            );
-        }
-        Err(_) => holds(&rt, false, "memory"),
-    }
 }
 
 /// Whether this is the text of the error.

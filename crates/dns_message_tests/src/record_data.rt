@@ -1,8 +1,8 @@
 //! Record data of each type, read under the number of the type and written again.
 
-use crate::rdata_by_type::rdata;
+use crate::rdata_by_type::{malformed_rdata, other_rdata, rdata};
 use crate::written::{writes, writes_canonical};
-use dns_name::{Name, NameBuf};
+use dns_name::Name;
 use dns_rdata::RecordData;
 use dns_record::{ParseRecordDataBytes, RType};
 
@@ -14,40 +14,17 @@ pub(crate) fn read(number: u16, octets: &[u8]) -> Option<Data<'_>> {
     Data::parse_record_data_bytes(octets, RType::from(number)).ok()
 }
 
-/// Whether the data are equal to those of the type with this number that the octets are.
-fn is_same(data: &Data<'_>, number: u16, octets: &[u8]) -> bool {
-    match read(number, octets) {
-        Some(wanted) => *data == wanted,
-        None => false,
-    }
-}
-
-/// The same for data whose names are owned.
-pub(crate) fn is_same_owned(data: &RecordData<'_, NameBuf>, number: u16, octets: &[u8]) -> bool {
-    is_same(
-        &data.map_names_by_ref(|name| name.as_name()),
-        number,
-        octets,
-    )
-}
-
-/// Whether the data are proper, have this type, are written as these octets and in canonical form as those, and are
-/// equal to the same data.
+/// Whether the data are proper, have this type, and are written as these octets and in canonical form as those.
 fn is_written(number: u16, octets: &[u8], canonical: &[u8]) -> bool {
     match read(number, octets) {
         Some(data) => {
-            has_type(&data, number)
+            data.is_proper()
+                && u16::from(data.rtype()) == number
                 && writes(&data, octets)
                 && writes_canonical(&data, canonical)
-                && is_same(&data, number, octets)
         }
         None => false,
     }
-}
-
-/// Whether the data are proper, and say that they have this type.
-pub(crate) fn has_type(data: &Data<'_>, number: u16) -> bool {
-    data.is_proper() && u16::from(data.rtype()) == number
 }
 
 #[test]
@@ -57,10 +34,22 @@ fn each_type_is_read_and_written(rt: HostRuntime) {
     }
 }
 
-/// Whether the octets without the last one are data of the type.
-fn is_read_cut(number: u16, octets: &[u8]) -> bool {
+#[test]
+fn other_data_are_read_and_written(rt: HostRuntime) {
+    for (number, octets, canonical) in other_rdata() {
+        assert!(rt; is_written(*number, octets, canonical), "{number}");
+    }
+}
+
+/// Whether the octets are no data of the type.
+fn is_refused(number: u16, octets: &[u8]) -> bool {
+    read(number, octets).is_none()
+}
+
+/// Whether the octets without the last one are no data of the type.
+fn is_refused_cut(number: u16, octets: &[u8]) -> bool {
     match octets.split_last() {
-        Some((_, start)) => read(number, start).is_some(),
+        Some((_, start)) => is_refused(number, start),
         None => false,
     }
 }
@@ -73,7 +62,14 @@ fn ends_in_rest(number: u16) -> bool {
 #[test]
 fn data_an_octet_short_are_refused(rt: HostRuntime) {
     for (number, octets, _) in rdata() {
-        let is_read = is_read_cut(*number, octets);
-        assert!(rt; is_read == ends_in_rest(*number), "{number}");
+        let is_refused = is_refused_cut(*number, octets);
+        assert!(rt; is_refused != ends_in_rest(*number), "{number}");
+    }
+}
+
+#[test]
+fn malformed_data_are_refused(rt: HostRuntime) {
+    for (number, octets) in malformed_rdata() {
+        assert!(rt; is_refused(*number, octets), "{number}");
     }
 }

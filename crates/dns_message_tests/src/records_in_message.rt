@@ -4,7 +4,7 @@ use crate::assertions::holds;
 use crate::boxed_record_data::boxed;
 use crate::message_builder::is_pushed;
 use crate::rdata_by_type::rdata;
-use crate::record_data::is_same_owned;
+use crate::written::writes_canonical;
 use dns_message::{HeaderFlags, MessageBuilder};
 use dns_name::{Name, NameBuf};
 use dns_num::U16;
@@ -102,13 +102,13 @@ fn record_at(place: usize) -> Option<(OwnedRecord<'static>, usize)> {
     OwnedRecord::split_message_bytes(CONTENTS, place).ok()
 }
 
-/// Where the record ends that begins at the place, and has this type and data.
-fn end_of_record(place: usize, number: u16, octets: &[u8]) -> Option<usize> {
+/// Where the record ends that begins at the place, and has this type and data with these canonical octets.
+fn end_of_record(place: usize, number: u16, canonical: &[u8]) -> Option<usize> {
     match record_at(place) {
         Some((found, end)) => {
             let is_same = u16::from(found.rtype) == number
                 && found.rname.as_name().as_bytes() == OWNER
-                && is_same_owned(&found.rdata, number, octets);
+                && writes_canonical(&found.rdata, canonical);
             if is_same { Some(end) } else { None }
         }
         None => None,
@@ -118,8 +118,8 @@ fn end_of_record(place: usize, number: u16, octets: &[u8]) -> Option<usize> {
 #[test]
 fn shared_names_are_read(rt: HostRuntime) {
     let mut place = 0;
-    for (number, octets, _) in rdata() {
-        let end = end_of_record(place, *number, octets);
+    for (number, _, canonical) in rdata() {
+        let end = end_of_record(place, *number, canonical);
         assert!(rt; end.is_some(), "{number}");
         place = end.unwrap_or(0);
     }
