@@ -1,80 +1,60 @@
-//! Types and classes of records and of questions: their numbers and their printed text.
+//! Types and classes of records: their printed text, and the types whose names are in lowercase in canonical form.
 
-use crate::assertion::holds;
 use crate::printing::prints;
-use dns_record::{QType, RClass, RType};
+use dns_record::{RClass, RType};
 
-/// The numbers of the types and the class that are made of the number.
-fn numbers(number: u16) -> (u16, u16, u16) {
-    (
-        u16::from(RType::from(number)),
-        u16::from(QType::from(number)),
-        u16::from(RClass::from(number)),
-    )
-}
+/// Types by their numbers, and what they print.
+const TYPES: &[(u16, &str)] = &[
+    (1, "A"),
+    (2, "NS"),
+    (5, "CNAME"),
+    (6, "SOA"),
+    (12, "PTR"),
+    (13, "HINFO"),
+    (15, "MX"),
+    (16, "TXT"),
+    (17, "RP"),
+    (28, "AAAA"),
+    (33, "SRV"),
+    (39, "DNAME"),
+    (41, "OPT"),
+    (43, "DS"),
+    (46, "RRSIG"),
+    (47, "NSEC"),
+    (48, "DNSKEY"),
+    (50, "NSEC3"),
+    (51, "NSEC3PARAM"),
+    (59, "CDS"),
+    (60, "CDNSKEY"),
+    (63, "ZONEMD"),
+    (250, "TSIG"),
+    (0, "TYPE0"),
+    (265, "TYPE265"),
+    (65535, "TYPE65535"),
+];
 
-#[test]
-fn codes_are_numbers(rt: HostRuntime) {
-    holds(&rt, numbers(251) == (251, 251, 251), "251");
-}
-
-/// The names that IANA lists, those of RFC 1035 and RFC 1183.
+/// The names that IANA lists, those of RFC 1035 and RFC 1183, those of later RFCs, and numbers without a name as
+/// RFC 3597 section 5 writes them.
 #[test]
 fn prints_types(rt: HostRuntime) {
-    let cases = [
-        (1, "A"),
-        (2, "NS"),
-        (5, "CNAME"),
-        (6, "SOA"),
-        (12, "PTR"),
-        (13, "HINFO"),
-        (15, "MX"),
-        (16, "TXT"),
-        (17, "RP"),
-    ];
-    for (number, text) in cases {
-        assert!(rt; prints(rt.alloc(), &RType::from(number), text), "{text}");
+    for (number, text) in TYPES {
+        assert!(rt; prints(rt.alloc(), &RType::from(*number), text), "{text}");
     }
 }
 
-/// Those of later RFCs, and numbers without a name as RFC 3597 section 5 writes them.
-#[test]
-fn prints_types_of_later_standards(rt: HostRuntime) {
-    let cases = [
-        (28, "AAAA"),
-        (33, "SRV"),
-        (39, "DNAME"),
-        (41, "OPT"),
-        (43, "DS"),
-        (46, "RRSIG"),
-        (47, "NSEC"),
-        (48, "DNSKEY"),
-        (50, "NSEC3"),
-        (51, "NSEC3PARAM"),
-        (59, "CDS"),
-        (60, "CDNSKEY"),
-        (63, "ZONEMD"),
-        (250, "TSIG"),
-        (0, "TYPE0"),
-        (265, "TYPE265"),
-        (65535, "TYPE65535"),
-    ];
-    for (number, text) in cases {
-        assert!(rt; prints(rt.alloc(), &RType::from(number), text), "{text}");
-    }
-}
+/// Classes by their numbers, and what they print.
+const CLASSES: &[(u16, &str)] = &[
+    (1, "IN"),
+    (3, "CH"),
+    (2, "CLASS2"),
+    (42, "CLASS42"),
+    (65535, "CLASS65535"),
+];
 
 #[test]
 fn prints_classes(rt: HostRuntime) {
-    let cases = [
-        (1, "IN"),
-        (3, "CH"),
-        (2, "CLASS2"),
-        (42, "CLASS42"),
-        (65535, "CLASS65535"),
-    ];
-    for (number, text) in cases {
-        assert!(rt; prints(rt.alloc(), &RClass::from(number), text), "{text}");
+    for (number, text) in CLASSES {
+        assert!(rt; prints(rt.alloc(), &RClass::from(*number), text), "{text}");
     }
 }
 

@@ -3,13 +3,13 @@
 use crate::assertion::holds;
 use crate::names::name;
 use crate::pointers::end_of_name;
-use crate::writing::{compresses, end_in_message, has_no_room_in_message};
+use crate::writing::end_in_message;
 use dns_name::{Name, NameBuf};
 use dns_wire::SplitMessageBytes;
 use std::alloc::Global;
 
 /// Names, each with the offset at which it ends in the contents of a message.
-const NAMES: [(&[u8], usize); 14] = [
+const NAMES: &[(&[u8], usize)] = &[
     (b"\x03www\x07Example\x03org\0", 17),
     (b"\x04mail\x07example\x03ORG\0", 24),
     (b"\x07example\x03net\0", 37),
@@ -51,12 +51,12 @@ fn names(alloc: Global, octets: &[(&[u8], usize)]) -> Option<Vec<NameBuf>> {
 /// Whether names are written as these octets, with these places.
 fn writes_names(names: &[NameBuf], wanted: &[u8; 107], places: &[u16]) -> bool {
     let mut contents = [0; 107];
-    end_in_message(&names, &mut contents, 0, places) == Some(107) && &contents == wanted
+    end_in_message(&names, &mut contents, places) == Some(107) && &contents == wanted
 }
 
 #[test]
 fn compresses_names_as_other_software_does(rt: HostRuntime) {
-    let names = names(rt.alloc(), &NAMES);
+    let names = names(rt.alloc(), NAMES);
     let is_written = match &names {
         Some(names) => writes_names(names.as_slice(), &CONTENTS, &PLACES),
         None => false,
@@ -83,8 +83,8 @@ fn reads_names_that_other_software_wrote(rt: HostRuntime) {
     let mut offset = 0;
     for (octets, end) in NAMES {
         let found = end_of_equal_name(&CONTENTS, offset, octets);
-        assert!(rt; found == Some(end), "the name at {offset}");
-        offset = end;
+        assert!(rt; found == Some(*end), "the name at {offset}");
+        offset = *end;
     }
 }
 
@@ -94,68 +94,39 @@ const STANDARD: [u8; 81] =
     *b"........\x01F\x03ISI\x04ARPA\0........\x03FOO\xc0\x14..................\xc0\x1a\
     ..........................\0";
 
-/// Where the names of `STANDARD` end that are written in these contents, the dots with them.
-fn end_of_standard(contents: &mut [u8; 81]) -> Option<usize> {
-    let isi = ([b'.'; 8], name(b"\x01F\x03ISI\x04ARPA\0"));
-    let foo = ([b'.'; 8], name(b"\x03FOO\x01F\x03ISI\x04ARPA\0"));
-    let arpa = ([b'.'; 18], name(b"\x04ARPA\0"));
-    let root = ([b'.'; 26], Name::root());
-    end_in_message(&((isi, foo), (arpa, root)), contents, 0, &[8, 10, 14, 28])
+/// Whether the names of `STANDARD` are written so one after another, the dots with them.
+fn writes_standard(places: &[u16]) -> bool {
+    let parts: [(&[u8], Name<'_>); 4] = [
+        (b"........", name(b"\x01F\x03ISI\x04ARPA\0")),
+        (b"........", name(b"\x03FOO\x01F\x03ISI\x04ARPA\0")),
+        (b"..................", name(b"\x04ARPA\0")),
+        (b"..........................", Name::root()),
+    ];
+    let mut contents = [0; 81];
+    end_in_message(&parts, &mut contents, places) == Some(81) && contents == STANDARD
 }
 
 #[test]
 fn compresses_the_names_of_the_standard(rt: HostRuntime) {
-    let mut contents = [0; 81];
-    holds(&rt, end_of_standard(&mut contents) == Some(81), "the end");
-    holds(&rt, contents == STANDARD, "contents");
+    holds(
+        &rt,
+        writes_standard(&[8, 10, 14, 28]),
+        "contents and places",
+    );
 }
+
+/// The names of `STANDARD`, where they begin, their octets, and where they end.
+const STANDARD_NAMES: &[(&str, usize, &[u8], usize)] = &[
+    ("F.ISI.ARPA", 8, b"\x01F\x03ISI\x04ARPA\0", 20),
+    ("FOO.F.ISI.ARPA", 28, b"\x03FOO\x01F\x03ISI\x04ARPA\0", 34),
+    ("ARPA", 52, b"\x04ARPA\0", 54),
+    ("the root", 80, b"\0", 81),
+];
 
 #[test]
 fn reads_the_names_of_the_standard(rt: HostRuntime) {
-    let cases: [(&str, usize, &[u8], usize); 4] = [
-        ("F.ISI.ARPA", 8, b"\x01F\x03ISI\x04ARPA\0", 20),
-        ("FOO.F.ISI.ARPA", 28, b"\x03FOO\x01F\x03ISI\x04ARPA\0", 34),
-        ("ARPA", 52, b"\x04ARPA\0", 54),
-        ("the root", 80, b"\0", 81),
-    ];
-    for (what, offset, octets, end) in cases {
-        let found = end_of_name::<NameBuf>(&STANDARD, offset, octets);
-        assert!(rt; found == Some(end), "{what}");
+    for (what, offset, octets, end) in STANDARD_NAMES {
+        let found = end_of_name(&STANDARD, *offset, octets);
+        assert!(rt; found == Some(*end), "{what}");
     }
-}
-
-/// Whether a vector with the name twice is written as these octets.
-fn compresses_vector(alloc: Global, name: Name<'_>, octets: &[u8]) -> bool {
-    match vec![in alloc; name, name] {
-        Ok(names) => compresses(&names, octets, &[1, 3, 7]),
-        Err(_) => false,
-    }
-}
-
-#[test]
-fn parts_share_names(rt: HostRuntime) {
-    let isi = name(b"\x01F\x03ISI\x04ARPA\0");
-    let foo = name(b"\x03FOO\x01F\x03ISI\x04ARPA\0");
-    let two = b"\x01F\x03ISI\x04ARPA\0\xc0\x0d";
-    holds(&rt, compresses_vector(rt.alloc(), isi, two), "a vector");
-    let three = b"\x01F\x03ISI\x04ARPA\0\x03FOO\xc0\x0d\xc0\x19";
-    let places = [1, 3, 7, 13];
-    holds(
-        &rt,
-        compresses(&[isi, foo, foo], three, &places),
-        "an array",
-    );
-    holds(&rt, compresses(&((isi, foo), foo), three, &places), "pairs");
-}
-
-/// The third name has no room.
-#[test]
-fn writes_a_name_twice_and_refuses_a_third(rt: HostRuntime) {
-    let name = name(b"\x01a\x01b\0").to_revname();
-    let mut contents = [0; 7];
-    let two = end_in_message(&[&name, &name], &mut contents, 0, &[0, 2]);
-    holds(&rt, two == Some(7), "the end");
-    holds(&rt, &contents == b"\x01a\x01b\0\xc0\x0c", "contents");
-    let three = [&name, &name, &name];
-    holds(&rt, has_no_room_in_message(&three, 7), "a third");
 }

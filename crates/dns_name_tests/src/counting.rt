@@ -1,79 +1,15 @@
-//! Comparisons and readings that count their steps. No program sees the count: only clauses speak of it. So a test
+//! Readings that count their steps. No program sees the count: only clauses speak of it. So a test
 //! goes over the name's label types and counts those. It is proved that a reading raises the count by that number.
 
 ghost use Rattle.std.specs.Prelude.{◌≡◌, ◌+◌, ◌<◌, ℕ, List, IfSome};
 ghost use Rattle.dns_wire.specs.Pointers.{NameAt, label_type_count};
 
 use crate::assertion::holds;
-use crate::names::name;
-use crate::pointers::CHAIN;
-use dns_name::{Name, NameBuf, Steps};
-use dns_wire::{LabelType, NameCursor, ParseError, SplitMessageBytes};
-use std::cmp::Ordering;
+use crate::pointers::{CHAIN, end_of_name};
+use dns_name::{NameBuf, Steps};
+use dns_wire::{LabelType, NameCursor};
 use std::marker::Brand;
 use std::sync::ledger::{Blank, Ledger};
-
-/// The order of the names, whose steps are counted.
-fn compared<L: Ledger>(one: &Name<'_>, other: &Name<'_>, blank: Blank) -> Ordering
-    requires name { blank.name ≡ L.name }
-    requires parts { blank.parts ≡ L.parts }
-    requires some { 0 < blank.parts }
-{
-    let mut steps: Steps<L> = Steps::new(blank);
-    one.cmp_counted(other, &mut steps)
-}
-
-/// The order of the names, by a count that begins here.
-fn order(one: &[u8], other: &[u8]) -> Ordering {
-    compared::<Brand>(&name(one), &name(other), Blank::new(1))
-}
-
-#[test]
-fn a_counted_comparison_gives_the_same_order(rt: HostRuntime) {
-    let cases: [(&str, &[u8], &[u8], Ordering); 3] = [
-        (
-            "a label inside the other",
-            b"\x01a\0",
-            b"\x03!\x01a\0",
-            Ordering::Greater,
-        ),
-        ("the root first", b"\0", b"\x01a\0", Ordering::Less),
-        (
-            "equal except for case",
-            b"\x01A\x01b\0",
-            b"\x01a\x01B\0",
-            Ordering::Equal,
-        ),
-    ];
-    for (what, one, other, wanted) in cases {
-        assert!(rt; order(one, other) == wanted, "{what}");
-    }
-}
-
-/// The name at the offset and where it ends, read in steps that are counted.
-fn read<L: Ledger>(
-    contents: &[u8],
-    offset: usize,
-    blank: Blank,
-) -> Result<(NameBuf, usize), ParseError>
-    requires name { blank.name ≡ L.name }
-    requires parts { blank.parts ≡ L.parts }
-    requires some { 0 < blank.parts }
-{
-    let mut steps: Steps<L> = Steps::new(blank);
-    NameBuf::split_counted(contents, offset, &mut steps)
-}
-
-/// Where the name ends that begins at the offset, if it is the same when its steps are counted.
-fn counted_end(contents: &[u8], offset: usize) -> Option<usize> {
-    match (
-        read::<Brand>(contents, offset, Blank::new(1)),
-        NameBuf::split_message_bytes(contents, offset),
-    ) {
-        (Ok((name, end)), Ok((other, _end))) => { if name == other { Some(end) } else { None } }
-        _ => None,
-    }
-}
 
 /// How many label types a reading from the offset goes over: one for each label and each pointer, and one for the
 /// root. `None` if no root is among the first 10,000.
@@ -116,7 +52,6 @@ fn steps_counted(contents: &[u8], offset: usize) -> Option<usize> {
 
 #[test]
 fn a_counted_reading_goes_over_each_pointer(rt: HostRuntime) {
-    holds(&rt, counted_end(CHAIN, 18) == Some(20), "a chain");
     holds(
         &rt,
         steps_counted(CHAIN, 18) == Some(5),
@@ -161,7 +96,7 @@ fn a_chain_of_8000_pointers_is_read_to_its_end(rt: HostRuntime) {
     );
     holds(
         &rt,
-        counted_end(&contents, 16_012) == Some(16_014),
+        end_of_name(&contents, 16_012, b"\0") == Some(16_014),
         "its end",
     );
 }

@@ -1,18 +1,11 @@
 //! Names and labels as JSON strings.
 
 use crate::assertion::holds;
+use crate::printing::prints;
 use dns_label::label_of;
-use dns_name::{NameBuf, RevNameBuf, label_from_json, label_to_json};
+use dns_name::{NameBuf, RevNameBuf, label_to_json};
 use serde_json::Value;
 use std::alloc::Global;
-
-/// Whether a text is the value as JSON.
-fn is_json(alloc: Global, value: &Value, text: &str) -> bool {
-    match value.to_string(alloc) {
-        Ok(printed) => printed.as_str() == text,
-        Err(_) => false,
-    }
-}
 
 /// The JSON string of the name that the text spells.
 fn json_of_name(alloc: Global, text: &[u8]) -> Option<Value> {
@@ -38,89 +31,72 @@ fn json_of_label(alloc: Global, contents: &[u8]) -> Option<Value> {
     }
 }
 
-/// Whether the JSON value was made and is printed as the text.
-fn prints_json(alloc: Global, value: Option<Value>, text: &str) -> bool {
-    match value {
-        Some(value) => is_json(alloc, &value, text),
+/// The JSON string of a name, of a name that is kept from the root on, or of a label.
+fn json_of(alloc: Global, kind: &str, text: &[u8]) -> Option<Value> {
+    match kind {
+        "name" => json_of_name(alloc, text),
+        "name from the root on" => json_of_reversed_name(alloc, text),
+        _ => json_of_label(alloc, text),
+    }
+}
+
+/// Whether the JSON value is made and is printed as the text.
+fn prints_json(alloc: Global, kind: &str, text: &[u8], wanted: &str) -> bool {
+    match json_of(alloc, kind, text) {
+        Some(value) => prints(alloc, &value, wanted),
         None => false,
     }
 }
 
-/// A name of 255 octets as text: three labels of 63 letters and one of 61.
-fn longest_text() -> [u8; 254] {
-    let mut text = [b'a'; 254];
-    for end in [63, 127, 191, 253] {
-        text[end] = b'.';
-    }
-    text
-}
+/// The text of a name of 255 octets: three labels of 63 letters and one of 61.
+const LONGEST: &[u8] = b"\
+    aaaaaaaaaaaaaaaaaaaaaaaaaaaaaaaaaaaaaaaaaaaaaaaaaaaaaaaaaaaaaaa.\
+    aaaaaaaaaaaaaaaaaaaaaaaaaaaaaaaaaaaaaaaaaaaaaaaaaaaaaaaaaaaaaaa.\
+    aaaaaaaaaaaaaaaaaaaaaaaaaaaaaaaaaaaaaaaaaaaaaaaaaaaaaaaaaaaaaaa.\
+    aaaaaaaaaaaaaaaaaaaaaaaaaaaaaaaaaaaaaaaaaaaaaaaaaaaaaaaaaaaaa.";
 
-/// Whether the text of the longest name is its JSON string.
-fn holds_longest(alloc: Global) -> bool {
-    let text = longest_text();
-    match json_of_name(alloc, &text) {
-        Some(value) => match value.as_str() {
-            Some(string) => string.as_bytes() == text.as_slice(),
-            None => false,
-        },
-        None => false,
-    }
-}
+/// The text of the longest name in quotes.
+const LONGEST_JSON: &str = "\"\
+    aaaaaaaaaaaaaaaaaaaaaaaaaaaaaaaaaaaaaaaaaaaaaaaaaaaaaaaaaaaaaaa.\
+    aaaaaaaaaaaaaaaaaaaaaaaaaaaaaaaaaaaaaaaaaaaaaaaaaaaaaaaaaaaaaaa.\
+    aaaaaaaaaaaaaaaaaaaaaaaaaaaaaaaaaaaaaaaaaaaaaaaaaaaaaaaaaaaaaaa.\
+    aaaaaaaaaaaaaaaaaaaaaaaaaaaaaaaaaaaaaaaaaaaaaaaaaaaaaaaaaaaaa.\
+    \"";
 
-#[test]
-fn the_longest_name_is_a_json_string(rt: HostRuntime) {
-    holds(&rt, holds_longest(rt.alloc()), "255 octets");
-}
+/// The longest label: 63 letters.
+const LONGEST_LABEL: &[u8] = b"aaaaaaaaaaaaaaaaaaaaaaaaaaaaaaaaaaaaaaaaaaaaaaaaaaaaaaaaaaaaaaa";
 
-/// Whether the longest label, 63 letters, is its JSON string.
-fn holds_longest_label(alloc: Global) -> bool {
-    let letters = [b'a'; 63];
-    match json_of_label(alloc, &letters) {
-        Some(value) => match value.as_str() {
-            Some(string) => string.as_bytes() == letters.as_slice(),
-            None => false,
-        },
-        None => false,
-    }
-}
+/// The longest label in quotes.
+const LONGEST_LABEL_JSON: &str =
+    "\"aaaaaaaaaaaaaaaaaaaaaaaaaaaaaaaaaaaaaaaaaaaaaaaaaaaaaaaaaaaaaaa\"";
 
-#[test]
-fn the_longest_label_is_a_json_string(rt: HostRuntime) {
-    holds(&rt, holds_longest_label(rt.alloc()), "63 octets");
-}
+/// Kinds of names and labels, their texts, and the texts of their JSON strings.
+const STRINGS: &[(&str, &[u8], &str)] = &[
+    ("name", b"example.", "\"example.\""),
+    ("name", b"a\\.b.\\000\\255.", "\"a\\\\.b.\\\\000\\\\255.\""),
+    ("name", LONGEST, LONGEST_JSON),
+    ("name from the root on", b"example.", "\"example.\""),
+    (
+        "name from the root on",
+        b"a\\.b.\\000\\255.",
+        "\"a\\\\.b.\\\\000\\\\255.\"",
+    ),
+    ("label", b"a", "\"a\""),
+    ("label", b"\"\0x", "\"\\\\\\\"\\\\000x\""),
+    ("label", LONGEST_LABEL, LONGEST_LABEL_JSON),
+];
 
 #[test]
-fn prints_names_as_json(rt: HostRuntime) {
-    let alloc = rt.alloc();
-    let cases = [
-        ("example.", "\"example.\""),
-        ("a\\.b.\\000\\255.", "\"a\\\\.b.\\\\000\\\\255.\""),
-    ];
-    for (text, wanted) in cases {
-        let json = json_of_name(alloc, text.as_bytes());
-        assert!(rt; prints_json(alloc, json, wanted), "{text}");
-        let json = json_of_reversed_name(alloc, text.as_bytes());
-        assert!(rt; prints_json(alloc, json, wanted), "{text} from the root on");
+fn prints_names_and_labels_as_json(rt: HostRuntime) {
+    for (kind, text, wanted) in STRINGS {
+        assert!(rt; prints_json(rt.alloc(), kind, text, wanted), "{wanted}");
     }
 }
 
-#[test]
-fn prints_labels_as_json(rt: HostRuntime) {
-    let alloc = rt.alloc();
-    let cases = [
-        ("a letter", b"a".as_slice(), "\"a\""),
-        ("a quote", b"\"\0x", "\"\\\\\\\"\\\\000x\""),
-    ];
-    for (what, contents, wanted) in cases {
-        let json = json_of_label(alloc, contents);
-        assert!(rt; prints_json(alloc, json, wanted), "{what}");
-    }
-}
-
-/// Whether the JSON text spells the name of these octets, in either layout.
+/// Whether the JSON text spells the name of these octets.
 fn spells_name(alloc: Global, json: &str, octets: &[u8]) -> bool {
     match Value::from_str(alloc, json) {
-        Ok(value) => is_name(&value, octets) && is_reversed_name(&value, octets),
+        Ok(value) => is_name(&value, octets),
         Err(_) => false,
     }
 }
@@ -133,42 +109,12 @@ fn is_name(value: &Value, octets: &[u8]) -> bool {
     }
 }
 
-/// Whether the name of these octets is read from the value and kept from the root on.
-fn is_reversed_name(value: &Value, octets: &[u8]) -> bool {
-    match RevNameBuf::from_json(value) {
-        Ok(name) => name.as_revname().to_name().as_name().as_bytes() == octets,
-        Err(_) => false,
-    }
-}
-
-/// Whether the JSON text spells the label of these octets.
-fn spells_label(alloc: Global, json: &str, contents: &[u8]) -> bool {
-    match Value::from_str(alloc, json) {
-        Ok(value) => is_label(&value, contents),
-        Err(_) => false,
-    }
-}
-
-/// Whether the label of these octets is read from the value.
-fn is_label(value: &Value, contents: &[u8]) -> bool {
-    match label_from_json(value) {
-        Ok(label) => label.as_label().contents() == contents,
-        Err(_) => false,
-    }
-}
-
 #[test]
 fn reads_json(rt: HostRuntime) {
-    let alloc = rt.alloc();
     let escapes = b"\x03a.b\x02\x00\xff\0";
     holds(
         &rt,
-        spells_name(alloc, "\"a\\\\.b.\\\\000\\\\255.\"", escapes),
+        spells_name(rt.alloc(), "\"a\\\\.b.\\\\000\\\\255.\"", escapes),
         "a name with escapes",
-    );
-    holds(
-        &rt,
-        spells_label(alloc, "\"\\\\\\\"\\\\000x\"", b"\"\0x"),
-        "a label with escapes",
     );
 }

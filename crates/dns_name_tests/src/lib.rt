@@ -4,8 +4,6 @@
 #[cfg(test)]
 mod assertion;
 #[cfg(test)]
-mod canonical_data;
-#[cfg(test)]
 mod canonical_order;
 #[cfg(test)]
 mod character_strings;
@@ -16,11 +14,7 @@ mod compression;
 #[cfg(test)]
 mod counting;
 #[cfg(test)]
-mod hashing;
-#[cfg(test)]
 mod json;
-#[cfg(test)]
-mod lowercase;
 #[cfg(test)]
 mod name_text;
 #[cfg(test)]
@@ -33,14 +27,6 @@ mod numbers;
 mod pointers;
 #[cfg(test)]
 mod printing;
-#[cfg(test)]
-mod questions;
-#[cfg(test)]
-mod reading;
-#[cfg(test)]
-mod record_data;
-#[cfg(test)]
-mod records;
 #[cfg(test)]
 mod reversed_names;
 #[cfg(test)]

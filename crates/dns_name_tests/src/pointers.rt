@@ -2,19 +2,14 @@
 //! those in pointers from its beginning, which is 12 octets before.
 
 use crate::assertion::holds;
-use crate::reading::{end_at, parses_at};
-use crate::writing::writes;
-use dns_name::{NameBuf, ReadMessageName, RevNameBuf};
+use dns_name::NameBuf;
+use dns_wire::SplitMessageBytes;
 
 /// Where the name ends that begins at the offset, if these are its octets.
-pub(crate) fn end_of_name<'a, T: ReadMessageName<'a>>(
-    contents: &'a [u8],
-    offset: usize,
-    octets: &[u8],
-) -> Option<usize> {
-    match T::split_message_bytes(contents, offset) {
+pub(crate) fn end_of_name(contents: &[u8], offset: usize, octets: &[u8]) -> Option<usize> {
+    match NameBuf::split_message_bytes(contents, offset) {
         Ok((name, end)) => {
-            if writes(&name, octets) {
+            if name.as_name().as_bytes() == octets {
                 Some(end)
             } else {
                 None
@@ -34,42 +29,30 @@ const OVER_POINTER: &[u8] = b"\0\x04abc\xc0\x0d\0\x01\0\x01\0\0\0\0\0\x04\xc0\0\
 /// The name at the pointer in `OVER_POINTER`.
 const OVER_POINTER_NAME: &[u8] = b"\x04abc\xc0\x0d\0\x01\0\x01\0\0\0\0\0\x04\xc0\0\x02\0";
 
+/// Contents of messages, offsets of names in them, the octets of these, and where they end.
+const NAMES: &[(&str, &[u8], usize, &[u8], usize)] = &[
+    ("a chain", CHAIN, 18, b"\0", 20),
+    ("through itself", OVER_POINTER, 5, OVER_POINTER_NAME, 7),
+    ("over a pointer", OVER_POINTER, 1, OVER_POINTER_NAME, 21),
+];
+
 #[test]
 fn follows_pointers(rt: HostRuntime) {
-    let cases = [
-        ("a chain", CHAIN, 18, b"\0".as_slice(), 20),
-        ("through itself", OVER_POINTER, 5, OVER_POINTER_NAME, 7),
-        ("over a pointer", OVER_POINTER, 1, OVER_POINTER_NAME, 21),
-    ];
-    for (what, contents, offset, octets, end) in cases {
-        let found = end_of_name::<NameBuf>(contents, offset, octets);
-        assert!(rt; found == Some(end), "{what}");
-        let found = end_of_name::<RevNameBuf>(contents, offset, octets);
-        assert!(rt; found == Some(end), "{what}, from the root on");
+    for (what, contents, offset, octets, end) in NAMES {
+        let found = end_of_name(contents, *offset, octets);
+        assert!(rt; found == Some(*end), "{what}");
     }
 }
 
-/// Whether no name of either layout begins at the offset.
-fn refuses(contents: &[u8], offset: usize) -> bool {
-    end_at::<NameBuf>(contents, offset).is_none()
-        && end_at::<RevNameBuf>(contents, offset).is_none()
+/// Whether no name begins at the start of the contents.
+fn is_refused(contents: &[u8]) -> bool {
+    NameBuf::split_message_bytes(contents, 0).is_err()
 }
 
 #[test]
 fn refuses_pointers_that_do_not_lead_back(rt: HostRuntime) {
     let at_itself = b"\xc0\x0c\0\x01\0\x01\0\0\0\x3c\0\x04\xc0\0\x02\x01";
-    holds(&rt, refuses(at_itself, 0), "to itself");
+    holds(&rt, is_refused(at_itself), "to itself");
     let into_header = b"\xc0\x0b\0\x01\0\x01\0\0\0\x3c\0\x04\xc0\0\x02\x01";
-    holds(&rt, refuses(into_header, 0), "into the header");
-}
-
-/// Whether a name of either layout goes from the offset to the end of the contents.
-fn goes_to_the_end(contents: &[u8], offset: usize) -> bool {
-    parses_at::<NameBuf>(contents, offset) && parses_at::<RevNameBuf>(contents, offset)
-}
-
-#[test]
-fn reads_names_up_to_the_end(rt: HostRuntime) {
-    holds(&rt, goes_to_the_end(OVER_POINTER, 1), "over a pointer");
-    holds(&rt, !goes_to_the_end(OVER_POINTER, 5), "octets after it");
+    holds(&rt, is_refused(into_header), "into the header");
 }
