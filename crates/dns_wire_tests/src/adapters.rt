@@ -86,18 +86,6 @@ fn long_piece_is_passed_on() -> bool {
     WriteSink::new(io::sink()).write(&piece) == Ok(65_537)
 }
 
-#[test]
-fn adapters_pass_octets_on(rt: HostRuntime) {
-    all_hold(
-        &rt,
-        &[
-            ("a reader", reader_is_passed_on()),
-            ("a writer", writer_is_passed_on()),
-            ("a long piece", long_piece_is_passed_on()),
-        ],
-    );
-}
-
 /// Whether a reader that fails at its first and third calls is called three times, and its one octet comes.
 fn reader_fails() -> bool {
     let mut into = *b"...";
@@ -107,11 +95,6 @@ fn reader_fails() -> bool {
     let second = source.read(&mut into) == Ok(1) && into == *b"x..";
     let third = source.read(&mut into) == Err(Failed);
     first && second && third && reader.calls == 3
-}
-
-#[test]
-fn a_source_reports_the_errors_of_its_reader(rt: HostRuntime) {
-    all_hold(&rt, &[("a reader", reader_fails())]);
 }
 
 /// Whether a writer that fails at its second and third calls takes one octet, and is not flushed.
@@ -134,14 +117,6 @@ fn flush_fails() -> bool {
     first && second && third && writer.calls == 3 && writer.flushes == 1
 }
 
-#[test]
-fn a_sink_reports_the_errors_of_its_writer(rt: HostRuntime) {
-    all_hold(
-        &rt,
-        &[("a write", writer_fails()), ("a flush", flush_fails())],
-    );
-}
-
 /// Whether a read into no room is passed on, and is no fault.
 fn reads_nothing() -> bool {
     let mut reader = failing_at(&[]);
@@ -157,9 +132,18 @@ fn writes_nothing() -> bool {
 }
 
 #[test]
-fn a_read_and_a_write_of_nothing_are_no_faults(rt: HostRuntime) {
+fn adapters_pass_calls_and_errors_on(rt: HostRuntime) {
     all_hold(
         &rt,
-        &[("a read", reads_nothing()), ("a write", writes_nothing())],
+        &[
+            ("a reader", reader_is_passed_on()),
+            ("a writer", writer_is_passed_on()),
+            ("a long piece", long_piece_is_passed_on()),
+            ("a reader that fails", reader_fails()),
+            ("a write that fails", writer_fails()),
+            ("a flush that fails", flush_fails()),
+            ("a read of nothing", reads_nothing()),
+            ("a write of nothing", writes_nothing()),
+        ],
     );
 }

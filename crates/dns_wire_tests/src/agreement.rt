@@ -11,38 +11,38 @@ fn agreement(one: &[u8], other: &[u8]) -> (usize, usize) {
     )
 }
 
-/// Names, and how many octets agree from the first on, and from the last back.
-fn agreements() -> [(&'static [u8], &'static [u8], (usize, usize)); 5] {
-    let long = b"\x09yljkjljkj\x01a\x07example\x00";
-    let mixed = b"\x09yljkjljkj\x01A\x07exAmple\x00";
-    let other = b"\x09yljkjljkj\x01z\x07example\x00";
-    [
-        (long, mixed, (21, 21)),
-        (long, other, (11, 9)),
-        (mixed, other, (11, 9)),
-        (b"a\x00", other, (0, 1)),
-        (b"", long, (0, 0)),
-    ]
-}
+/// A name in lowercase.
+const LOWERCASE: &[u8] = b"\x09yljkjljkj\x01a\x07example\x00";
+
+/// The same name with two capitals.
+const MIXED: &[u8] = b"\x09yljkjljkj\x01A\x07exAmple\x00";
+
+/// A name with another second label.
+const OTHER: &[u8] = b"\x09yljkjljkj\x01z\x07example\x00";
+
+/// Octets, and how many agree from the first on, and from the last back.
+const AGREEMENTS: &[(&str, &[u8], &[u8], (usize, usize))] = &[
+    ("case", LOWERCASE, MIXED, (21, 21)),
+    ("a label", LOWERCASE, OTHER, (11, 9)),
+    ("a label and case", MIXED, OTHER, (11, 9)),
+    ("one label", b"a\x00", OTHER, (0, 1)),
+    ("nothing", b"", LOWERCASE, (0, 0)),
+];
 
 #[test]
 fn octets_agree_up_to_the_first_that_differ(rt: HostRuntime) {
-    for (one, other, wanted) in agreements() {
-        assert!(rt; agreement(one, other) == wanted, "{one:?} and {other:?}");
+    for (what, one, other, wanted) in AGREEMENTS {
+        assert!(rt; agreement(one, other) == *wanted, "{what}");
     }
 }
 
 /// Octets that are less than others in lowercase.
-fn lesser_octets() -> [(&'static [u8], &'static [u8]); 2] {
-    let mixed = b"\x09yljkjljkj\x01A\x07exAmple\x00";
-    let other = b"\x09yljkjljkj\x01z\x07example\x00";
-    [(b"[", b"a"), (mixed, other)]
-}
+const LESSER: &[(&str, &[u8], &[u8])] = &[("a bracket", b"[", b"a"), ("a label", MIXED, OTHER)];
 
 #[test]
 fn octets_are_compared_in_lowercase(rt: HostRuntime) {
-    for (one, other) in lesser_octets() {
+    for (what, one, other) in LESSER {
         let is_less = compare_lowercase(one, other) == Ordering::Less;
-        assert!(rt; is_less, "{one:?} and {other:?}");
+        assert!(rt; is_less, "{what}");
     }
 }

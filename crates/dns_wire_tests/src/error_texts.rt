@@ -6,54 +6,50 @@ use dns_label::{LabelParseError, LabelSplitError};
 use dns_wire::{ParseError, TruncationError};
 
 /// The errors of reading a whole text, and what they print.
-fn parse_errors() -> [(LabelParseError, &'static str); 4] {
-    [
-        (LabelParseError::Overlong, "the label was too large"),
-        (
-            LabelParseError::InvalidChar,
-            "the label contained an invalid character",
-        ),
-        (
-            LabelParseError::PartialEscape,
-            "the label contained an incomplete escape",
-        ),
-        (
-            LabelParseError::InvalidEscape,
-            "the label contained an invalid escape",
-        ),
-    ]
-}
+const PARSE_ERRORS: &[(LabelParseError, &str)] = &[
+    (LabelParseError::Overlong, "the label was too large"),
+    (
+        LabelParseError::InvalidChar,
+        "the label contained an invalid character",
+    ),
+    (
+        LabelParseError::PartialEscape,
+        "the label contained an incomplete escape",
+    ),
+    (
+        LabelParseError::InvalidEscape,
+        "the label contained an invalid escape",
+    ),
+];
 
 #[test]
 fn errors_of_reading_a_whole_text_are_shown(rt: HostRuntime) {
-    for (error, text) in parse_errors() {
-        assert!(rt; prints(rt.alloc(), &error, text), "{text}");
+    for (error, text) in PARSE_ERRORS {
+        assert!(rt; prints(rt.alloc(), error, text), "{text}");
     }
 }
 
 /// The errors of reading the start of a text, and what they print.
-fn split_errors() -> [(LabelSplitError, &'static str); 4] {
-    [
-        (LabelSplitError::Overlong, "the label was too large"),
-        (
-            LabelSplitError::InvalidChar,
-            "the label contained an invalid character",
-        ),
-        (
-            LabelSplitError::InvalidEscape,
-            "the label contained an invalid escape",
-        ),
-        (
-            LabelSplitError::ShortInput,
-            "the input was too short to parse the label",
-        ),
-    ]
-}
+const SPLIT_ERRORS: &[(LabelSplitError, &str)] = &[
+    (LabelSplitError::Overlong, "the label was too large"),
+    (
+        LabelSplitError::InvalidChar,
+        "the label contained an invalid character",
+    ),
+    (
+        LabelSplitError::InvalidEscape,
+        "the label contained an invalid escape",
+    ),
+    (
+        LabelSplitError::ShortInput,
+        "the input was too short to parse the label",
+    ),
+];
 
 #[test]
 fn errors_of_reading_a_prefix_are_shown(rt: HostRuntime) {
-    for (error, text) in split_errors() {
-        assert!(rt; prints(rt.alloc(), &error, text), "{text}");
+    for (error, text) in SPLIT_ERRORS {
+        assert!(rt; prints(rt.alloc(), error, text), "{text}");
     }
 }
 

@@ -1,7 +1,7 @@
 //! Lists of values, and text.
 
 use crate::holds::all_hold;
-use dns_wire::{ListError, ParseBytes, ParseMessageBytes, split_list};
+use dns_wire::{ListError, ParseBytes, split_list};
 use std::alloc::Global;
 
 /// Three pairs of octets and another octet.
@@ -17,12 +17,12 @@ fn lists_pairs(alloc: Global) -> bool {
     }
 }
 
-/// Whether a fourth pair and an eighth octet are no values, and memory is not what is missing.
+/// Whether a fourth pair is no value, and memory is not what is missing.
 fn refuses_more(alloc: Global) -> bool {
     matches!(
         split_list::<[u8; 2]>(alloc, OCTETS, 4),
         Err(ListError::Parse)
-    ) && matches!(split_list::<u8>(alloc, OCTETS, 8), Err(ListError::Parse))
+    )
 }
 
 /// Whether 65,535 octets are read as a list, the most that a length of two octets counts.
@@ -51,39 +51,24 @@ fn text_of(octets: &[u8]) -> Option<&str> {
     <&str>::parse_bytes(octets).ok()
 }
 
-/// The text that the octets from the offset on are.
-fn text_at(contents: &[u8], start: usize) -> Option<&str> {
-    <&str>::parse_message_bytes(contents, start).ok()
-}
+/// Octets, and the text that they are. The first text is one of RFC 3629 section 7. No text has an octet too many for
+/// its character, a surrogate, a character cut short, or an octet of 255 (section 3).
+const TEXTS: &[(&str, &[u8], Option<&str>)] = &[
+    (
+        "three characters and a dot",
+        b"A\xe2\x89\xa2\xce\x91.",
+        Some("A\u{2262}\u{391}."),
+    ),
+    ("nothing", b"", Some("")),
+    ("an octet too many", b"\xc0\x80", None),
+    ("a surrogate", b"a\xed\xa0\x80", None),
+    ("a character cut short", b"\xe2\x89", None),
+    ("an octet of 255", b"\xff", None),
+];
 
-/// Octets, and the text that they are.
-fn texts() -> [(&'static [u8], Option<&'static str>); 6] {
-    [
-        (b"A\xe2\x89\xa2\xce\x91.", Some("A\u{2262}\u{391}.")),
-        (b"", Some("")),
-        (b"\xc0\x80", None),
-        (b"a\xed\xa0\x80", None),
-        (b"\xe2\x89", None),
-        (b"\xff", None),
-    ]
-}
-
-/// The first text is one of RFC 3629 section 7. No text has an octet too many for its character, a surrogate, a
-/// character cut short, or an octet of 255 (section 3).
 #[test]
 fn text_is_read_where_it_is_utf8(rt: HostRuntime) {
-    for (octets, wanted) in texts() {
-        assert!(rt; text_of(octets) == wanted, "{octets:?}");
+    for (what, octets, wanted) in TEXTS {
+        assert!(rt; text_of(octets) == *wanted, "{what}");
     }
-}
-
-#[test]
-fn text_is_read_at_offsets(rt: HostRuntime) {
-    all_hold(
-        &rt,
-        &[
-            ("abc", text_at(b"\xffabc", 1) == Some("abc")),
-            ("after the end", text_at(b"abc", 4).is_none()),
-        ],
-    );
 }

@@ -1,50 +1,35 @@
 //! Labels, roots and pointers at an offset. Offsets of contents count from the end of the header, and those
 //! in pointers from its start.
 
-use crate::holds::all_hold;
 use dns_wire::{LabelType, read_label_type};
 
 /// The label `a`, a root, and pointers to 0 and into the header, then an octet that begins nothing.
 const CONTENTS: &[u8] = b"\x01a\0\xc0\x0c\xc0\x0b\x40";
 
-/// Whether a label of this size is at the offset.
-fn is_label(start: usize, at: usize, size: usize) -> bool {
+/// What is at the offset of a name that begins at `start`: its kind, and a label's size or where a pointer leads.
+fn label_type(start: usize, at: usize) -> Option<(&'static str, usize)> {
     match read_label_type(CONTENTS, start, at) {
-        Ok(LabelType::Label(found)) => found == size,
-        _ => false,
+        Ok(LabelType::Label(size)) => Some(("label", size)),
+        Ok(LabelType::Root) => Some(("root", 0)),
+        Ok(LabelType::Pointer(target)) => Some(("pointer", target)),
+        Err(_) => None,
     }
 }
 
-/// Whether the root is at the offset.
-fn is_root(start: usize, at: usize) -> bool {
-    matches!(read_label_type(CONTENTS, start, at), Ok(LabelType::Root))
-}
-
-/// Whether a pointer to the other offset is at the offset.
-fn is_pointer(start: usize, at: usize, target: usize) -> bool {
-    match read_label_type(CONTENTS, start, at) {
-        Ok(LabelType::Pointer(found)) => found == target,
-        _ => false,
-    }
-}
-
-/// Whether what is at the offset is refused.
-fn is_refused(start: usize, at: usize) -> bool {
-    read_label_type(CONTENTS, start, at).is_err()
-}
+/// Where a name begins, an offset in it, and what is there.
+const LABEL_TYPES: &[(&str, usize, usize, Option<(&str, usize)>)] = &[
+    ("label", 0, 0, Some(("label", 1))),
+    ("root", 0, 2, Some(("root", 0))),
+    ("pointer before its name", 1, 3, Some(("pointer", 0))),
+    ("pointer to its own name", 0, 3, None),
+    ("pointer into the header", 5, 5, None),
+    ("octet 64", 7, 7, None),
+    ("end", 8, 8, None),
+];
 
 #[test]
 fn labels_roots_and_pointers_are_read(rt: HostRuntime) {
-    all_hold(
-        &rt,
-        &[
-            ("label", is_label(0, 0, 1)),
-            ("root", is_root(0, 2)),
-            ("pointer before its name", is_pointer(1, 3, 0)),
-            ("pointer to its own name", is_refused(0, 3)),
-            ("pointer into the header", is_refused(5, 5)),
-            ("octet 64", is_refused(7, 7)),
-            ("end", is_refused(8, 8)),
-        ],
-    );
+    for (what, start, at, wanted) in LABEL_TYPES {
+        assert!(rt; label_type(*start, *at) == *wanted, "{what}");
+    }
 }
