@@ -4,7 +4,7 @@
 //! for the adapters the tests show it, with a reader and writer that fails.
 
 use crate::holds::all_hold;
-use dns_wire::{Failed, ReadSource, Sink, Source, WriteSink};
+use dns_wire::{ReadSource, Sink, Source, WriteSink};
 use std::io::{self, ErrorKind, Read, Write};
 
 /// Gives and takes one octet at a call, and fails at the calls whose numbers, from 0, it was given.
@@ -69,21 +69,21 @@ fn failing_at(failing: &[u64]) -> Halting<'_> {
 fn reader_is_passed_on() -> bool {
     let mut into = [0u8; 2];
     let mut source = ReadSource::new(b"abc".as_slice());
-    let first = source.read(&mut into) == Ok(2) && into == *b"ab";
-    let second = source.read(&mut into) == Ok(1) && into == *b"cb";
-    first && second && source.read(&mut into) == Ok(0)
+    let first = matches!(source.read(&mut into), Ok(2)) && into == *b"ab";
+    let second = matches!(source.read(&mut into), Ok(1)) && into == *b"cb";
+    first && second && matches!(source.read(&mut into), Ok(0))
 }
 
 /// Whether octets and a flush reach a writer.
 fn writer_is_passed_on() -> bool {
     let mut sink = WriteSink::new(io::sink());
-    sink.write(b"abc") == Ok(3) && sink.flush() == Ok(())
+    matches!(sink.write(b"abc"), Ok(3)) && sink.flush().is_ok()
 }
 
 /// Whether a piece of 65,537 octets, more than a pipe holds, reaches a writer whole.
 fn long_piece_is_passed_on() -> bool {
     let piece = [0u8; 65_537];
-    WriteSink::new(io::sink()).write(&piece) == Ok(65_537)
+    matches!(WriteSink::new(io::sink()).write(&piece), Ok(65_537))
 }
 
 /// Whether a reader that fails at its first and third calls is called three times, and its one octet comes.
@@ -91,9 +91,9 @@ fn reader_fails() -> bool {
     let mut into = *b"...";
     let mut reader = failing_at(&[0, 2]);
     let mut source = ReadSource::new(&mut reader);
-    let first = source.read(&mut into) == Err(Failed) && into == *b"...";
-    let second = source.read(&mut into) == Ok(1) && into == *b"x..";
-    let third = source.read(&mut into) == Err(Failed);
+    let first = source.read(&mut into).is_err() && into == *b"...";
+    let second = matches!(source.read(&mut into), Ok(1)) && into == *b"x..";
+    let third = source.read(&mut into).is_err();
     first && second && third && reader.calls == 3
 }
 
@@ -101,9 +101,9 @@ fn reader_fails() -> bool {
 fn writer_fails() -> bool {
     let mut writer = failing_at(&[1, 2]);
     let mut sink = WriteSink::new(&mut writer);
-    let first = sink.write(b"ab") == Ok(1);
-    let second = sink.write(b"b") == Err(Failed);
-    let third = sink.flush() == Err(Failed);
+    let first = matches!(sink.write(b"ab"), Ok(1));
+    let second = sink.write(b"b").is_err();
+    let third = sink.flush().is_err();
     first && second && third && writer.calls == 3 && writer.flushes == 0
 }
 
@@ -111,9 +111,9 @@ fn writer_fails() -> bool {
 fn flush_fails() -> bool {
     let mut writer = failing_at(&[1]);
     let mut sink = WriteSink::new(&mut writer);
-    let first = sink.flush() == Ok(());
-    let second = sink.flush() == Err(Failed);
-    let third = sink.write(b"") == Ok(0);
+    let first = sink.flush().is_ok();
+    let second = sink.flush().is_err();
+    let third = matches!(sink.write(b""), Ok(0));
     first && second && third && writer.calls == 3 && writer.flushes == 1
 }
 
@@ -121,14 +121,14 @@ fn flush_fails() -> bool {
 fn reads_nothing() -> bool {
     let mut reader = failing_at(&[]);
     let mut source = ReadSource::new(&mut reader);
-    source.read(&mut []) == Ok(0) && reader.calls == 1
+    matches!(source.read(&mut []), Ok(0)) && reader.calls == 1
 }
 
 /// Whether a write of nothing is no fault if a write of an octet is one.
 fn writes_nothing() -> bool {
     let mut buffer = [0u8; 1];
     let mut sink = WriteSink::new(&mut buffer[..0]);
-    sink.write(b"") == Ok(0) && sink.write(b"a") == Err(Failed)
+    matches!(sink.write(b""), Ok(0)) && sink.write(b"a").is_err()
 }
 
 #[test]

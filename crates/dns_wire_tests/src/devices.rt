@@ -1,15 +1,15 @@
 //! Sources and sinks in memory, which fail at the calls that they are given.
 
 use crate::holds::all_hold;
-use dns_wire::{Failed, Sink, Source, TextSink, TextSource};
+use dns_wire::{Sink, Source, TextSink, TextSource};
 
 /// Whether a source of three octets a read fails at its second and fourth reads, and loses nothing.
 fn source_fails_where_set() -> bool {
     let mut into = [0u8; 4];
     let mut source = TextSource::new(b"abcdef", 3, &[1, 3]);
-    let first = source.read(&mut into) == Ok(3) && source.read(&mut into) == Err(Failed);
-    let second = source.read(&mut into) == Ok(3) && into == *b"def\0";
-    let last = source.read(&mut into) == Err(Failed) && source.read(&mut into) == Ok(0);
+    let first = matches!(source.read(&mut into), Ok(3)) && source.read(&mut into).is_err();
+    let second = matches!(source.read(&mut into), Ok(3)) && into == *b"def\0";
+    let last = source.read(&mut into).is_err() && matches!(source.read(&mut into), Ok(0));
     first && second && last
 }
 
@@ -17,8 +17,8 @@ fn source_fails_where_set() -> bool {
 fn sink_keeps_what_it_took() -> bool {
     let mut buffer = [0u8; 4];
     let mut sink = TextSink::new(&mut buffer, 3, &[1, 5]);
-    let first = sink.write(b"abcdef") == Ok(3) && sink.flush() == Err(Failed);
-    let second = !sink.flushed() && sink.write(b"def") == Ok(1);
+    let first = matches!(sink.write(b"abcdef"), Ok(3)) && sink.flush().is_err();
+    let second = !sink.flushed() && matches!(sink.write(b"def"), Ok(1));
     first && second && sink.written() == b"abcd".as_slice()
 }
 
