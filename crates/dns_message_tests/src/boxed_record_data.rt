@@ -1,7 +1,8 @@
 //! Record data in memory that they own.
 
 use crate::assertions::holds;
-use dns_rdata::BoxedRecordData;
+use crate::record_data::Data;
+use dns_rdata::{BoxedRecordData, UnknownRecordData};
 use dns_record::RType;
 use std::alloc::Global;
 
@@ -21,10 +22,21 @@ fn is_copied(alloc: Global, number: u16, octets: &[u8]) -> bool {
     }
 }
 
+/// Whether unknown octets under the number of a type are boxed as data of this type.
+fn is_made(alloc: Global, number: u16, octets: &[u8]) -> bool {
+    let unknown = Data::Unknown(RType::from(number), UnknownRecordData { octets });
+    match BoxedRecordData::make(alloc, &unknown) {
+        Ok(data) => u16::from(data.rtype()) == number && data.bytes() == octets,
+        Err(_) => false,
+    }
+}
+
 #[test]
 fn octets_are_boxed_under_a_type(rt: HostRuntime) {
     let address = is_copied(rt.alloc(), 1, b"\xc0\0\x02\x01");
     holds(&rt, address, "an address");
     let most = is_copied(rt.alloc(), 65_280, &[7; 65_535]);
     holds(&rt, most, "the most octets");
+    let made = is_made(rt.alloc(), 1, b"\xc0\0\x02\x01");
+    holds(&rt, made, "unknown octets");
 }
