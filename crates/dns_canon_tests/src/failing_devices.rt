@@ -170,20 +170,17 @@ fn reads_of_two_messages_in_long_pieces_fail_in_turn(rt: HostRuntime) {
     );
 }
 
+/// The call at which a sink fails, and what it took before.
+const CUT_WORDS: &[(u64, &[u8])] = &[(0, b""), (1, b"sa"), (2, b"same"), (3, b"same\n")];
+
 /// Five octets in pieces of two take three writes, and another call flushes.
 #[test]
 fn writes_of_a_word_in_short_pieces_fail_in_turn(rt: HostRuntime) {
-    let cases: [(u64, &[u8]); 4] = [(0, b""), (1, b"sa"), (2, b"same"), (3, b"same\n")];
-    for (call, written) in cases {
-        let devices = Devices::failing_at([4096, 2, 64], [NEVER, call, NEVER]);
+    for (call, written) in CUT_WORDS {
+        let devices = Devices::failing_at([4096, 2, 64], [NEVER, *call, NEVER]);
+        let wanted: Wanted<'_> = (Status::WriteFault, *written, b"write fault\n");
         assert!(rt;
-            answers(
-                rt.alloc(),
-                "same",
-                ALIKE,
-                devices,
-                (Status::WriteFault, written, b"write fault\n")
-            ),
+            answers(rt.alloc(), "same", ALIKE, devices, wanted),
             "{call}"
         );
     }
@@ -200,17 +197,19 @@ fn writes_of_a_word_in_short_pieces_fail_in_turn(rt: HostRuntime) {
     );
 }
 
+/// A word and a text, the call at which the notes fail, the message that is short, and the line on the notes.
+const CUT_NOTES: &[(&str, &str, u64, u8, &[u8])] = &[
+    ("canon", "", 0, 0, b""),
+    ("same", HEADER, 0, 1, b""),
+    ("same", HEADER, 1, 1, b"sho"),
+];
+
 /// A fault of the notes changes no answer.
 #[test]
 fn notes_that_fail_change_no_answer(rt: HostRuntime) {
-    let cases: [(&str, &str, u64, u8, &[u8]); 3] = [
-        ("canon", "", 0, 0, b""),
-        ("same", HEADER, 0, 1, b""),
-        ("same", HEADER, 1, 1, b"sho"),
-    ];
-    for (line, text, call, message, note) in cases {
-        let devices = Devices::failing_at([4096, 64, 3], [NEVER, NEVER, call]);
-        let wanted: Wanted<'_> = (Status::Short { message }, b"", note);
+    for (line, text, call, message, note) in CUT_NOTES {
+        let devices = Devices::failing_at([4096, 64, 3], [NEVER, NEVER, *call]);
+        let wanted: Wanted<'_> = (Status::Short { message: *message }, b"", *note);
         assert!(rt;
             answers(rt.alloc(), line, text, devices, wanted),
             "{line} {call}"
@@ -218,35 +217,43 @@ fn notes_that_fail_change_no_answer(rt: HostRuntime) {
     }
 }
 
-/// Cases of devices: nothing to write and a fault at the flush, a fault at the second write, a sink that is full
-/// after ten octets, and a fault at the first read.
+/// A name and a text, the calls at which the source and the sink fail, the room of the sink, and how many octets are written.
+type Case = (&'static str, &'static str, u64, u64, usize, usize);
+
+/// Nothing to write and a fault at the flush, a fault at the second write, a sink that is full after ten octets, and a
+/// fault at the first read.
+const CASES: &[Case] = &[
+    ("write-fault-at-flush", HEADER, NEVER, 0, 200, 0),
+    ("write-fault-at-1", ORDINARY_REPLY, NEVER, 1, 200, 8),
+    ("sink-of-ten-octets", ORDINARY_REPLY, NEVER, NEVER, 10, 10),
+    ("read-fault-at-0", ORDINARY_REPLY, 0, NEVER, 200, 0),
+];
+
+/// Whether `canon` ends as the case says.
+fn ends_as_wanted(alloc: Global, case: &Case) -> bool {
+    let (_, text, read, write, room, written) = *case;
+    let devices = Devices {
+        pieces: [4096, 8, 64],
+        failing: [read, write, NEVER],
+        room,
+    };
+    let lines = ORDINARY_REPLY_LINES.as_bytes();
+    let wanted: Wanted<'_> = if read == 0 {
+        (Status::ReadFault, b"", b"read fault\n")
+    } else {
+        (
+            Status::WriteFault,
+            &lines[..written.min(lines.len())],
+            b"write fault\n",
+        )
+    };
+    answers(alloc, "canon", text, devices, wanted)
+}
+
 #[test]
 fn device_cases(rt: HostRuntime) {
-    let lines = ORDINARY_REPLY_LINES.as_bytes();
-    let cases: [(&str, &str, u64, u64, usize, usize); 4] = [
-        ("write-fault-at-flush", HEADER, NEVER, 0, 200, 0),
-        ("write-fault-at-1", ORDINARY_REPLY, NEVER, 1, 200, 8),
-        ("sink-of-ten-octets", ORDINARY_REPLY, NEVER, NEVER, 10, 10),
-        ("read-fault-at-0", ORDINARY_REPLY, 0, NEVER, 200, 0),
-    ];
-    for (name, text, read, write, room, written) in cases {
-        let devices = Devices {
-            pieces: [4096, 8, 64],
-            failing: [read, write, NEVER],
-            room,
-        };
-        let wanted: Wanted<'_> = if read == 0 {
-            (Status::ReadFault, b"", b"read fault\n")
-        } else {
-            (
-                Status::WriteFault,
-                &lines[..written.min(lines.len())],
-                b"write fault\n",
-            )
-        };
-        assert!(rt;
-            answers(rt.alloc(), "canon", text, devices, wanted),
-            "{name}"
-        );
+    for case in CASES {
+        let name = case.0;
+        assert!(rt; ends_as_wanted(rt.alloc(), case), "{name}");
     }
 }

@@ -4,29 +4,30 @@ use crate::answers::words_of;
 use dns_canon::{Command, LIMIT_OF_TWO, MESSAGE_TEXT_LIMIT, MOST_RECORDS, READ_CHUNK, Status};
 use std::alloc::Global;
 
+/// Statuses, and their codes.
+const CODES: &[(Status, u8)] = &[
+    (Status::Done, 0),
+    (Status::Short { message: 0 }, 1),
+    (
+        Status::Item {
+            message: 0,
+            section: 0,
+            index: 0,
+        },
+        2,
+    ),
+    (Status::BadHex, 3),
+    (Status::TooLong, 4),
+    (Status::Usage, 5),
+    (Status::ReadFault, 6),
+    (Status::WriteFault, 7),
+    (Status::Memory, 8),
+];
+
 #[test]
 fn ends_with_a_code(rt: HostRuntime) {
-    let (message, section, index) = (0, 0, 0);
-    let cases = [
-        (Status::Done, 0),
-        (Status::Short { message }, 1),
-        (
-            Status::Item {
-                message,
-                section,
-                index,
-            },
-            2,
-        ),
-        (Status::BadHex, 3),
-        (Status::TooLong, 4),
-        (Status::Usage, 5),
-        (Status::ReadFault, 6),
-        (Status::WriteFault, 7),
-        (Status::Memory, 8),
-    ];
-    for (status, code) in cases {
-        assert!(rt; status.code() == code, "{code}");
+    for (status, code) in CODES {
+        assert!(rt; status.code() == *code, "{code}");
     }
 }
 
@@ -38,16 +39,18 @@ fn command_of(alloc: Global, line: &str) -> Option<Command> {
     }
 }
 
+/// Lines of words, and the commands that they name.
+const COMMANDS: &[(&str, Option<Command>)] = &[
+    ("canon", Some(Command::Canon)),
+    ("same", Some(Command::Same)),
+    ("make 1000", Some(Command::Make { count: 1000 })),
+    ("canonical", None),
+];
+
 #[test]
 fn words_name_commands(rt: HostRuntime) {
-    let cases = [
-        ("canon", Some(Command::Canon)),
-        ("same", Some(Command::Same)),
-        ("make 1000", Some(Command::Make { count: 1000 })),
-        ("canonical", None),
-    ];
-    for (line, command) in cases {
-        assert!(rt; command_of(rt.alloc(), line) == command, "{line}");
+    for (line, command) in COMMANDS {
+        assert!(rt; command_of(rt.alloc(), line) == *command, "{line}");
     }
 }
 
