@@ -212,7 +212,7 @@ fn notes_that_fail_change_no_answer(rt: HostRuntime) {
         let wanted: Wanted<'_> = (Status::Short { message: *message }, b"", *note);
         assert!(rt;
             answers(rt.alloc(), line, text, devices, wanted),
-            "{line} {call}"
+            "notes-fault-at-{call}: {line}"
         );
     }
 }

@@ -73,7 +73,7 @@ g::=
 #[test]
 fn long_addresses_are_printed(rt: HostRuntime) {
     for row in LONG.split('\n') {
-        assert!(rt; prints_long_row(rt.alloc(), row), "{row}");
+        assert!(rt; prints_long_row(rt.alloc(), row), "address-texts: {row}");
     }
 }
 
@@ -114,7 +114,7 @@ const SHORT: &str = "0.0.0.0=0.0.0.0
 #[test]
 fn addresses_are_printed(rt: HostRuntime) {
     for row in SHORT.split('\n') {
-        assert!(rt; prints_row(rt.alloc(), row), "{row}");
+        assert!(rt; prints_row(rt.alloc(), row), "address-texts: {row}");
     }
 }
 
@@ -147,6 +147,6 @@ fn octets_of_addresses(rt: HostRuntime) {
         ),
     ];
     for (text, octets) in cases {
-        assert!(rt; has_octets(text, octets), "{text}");
+        assert!(rt; has_octets(text, octets), "address-texts: {text}");
     }
 }

@@ -32,7 +32,7 @@ type Row = (&'static str, &'static [u8], &'static [u16]);
 /// The bitmap of RFC 4034 section 4.3, that of the apex in RFC 5155 appendix A, and what dnspython writes of the types of
 /// the others.
 const ROWS: [Row; 7] = [
-    ("RFC 4034", FIVE_TYPES, &[1, 15, 46, 47, 1234]),
+    ("five-types-in-a-bitmap", FIVE_TYPES, &[1, 15, 46, 47, 1234]),
     (
         "RFC 5155",
         b"\0\x07\x22\x01\0\0\0\x02\x90",

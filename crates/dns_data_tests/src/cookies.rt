@@ -1,8 +1,10 @@
 //! Cookies, as servers give and take them.
 
+ghost use Rattle.std.specs.Prelude.{◌≡◌, ◌∷◌, []};
+
 use crate::assertions::holds;
 use crate::sip_hash::SipHash;
-use dns_edns::{Address, ClientCookie, Cookie};
+use dns_edns::{Address, ClientCookie, Cookie, KeyedHash};
 use dns_record::Serial;
 use dns_wire::ParseBytes;
 
@@ -197,4 +199,51 @@ fn cookies_have_their_parts(rt: HostRuntime) {
     let octets = b"\x24\x64\xc4\xab\xcf\x10\xc9\x57\x02\0\0\0\x5c\xf7\x9f\x11";
     let wanted = Some((CLIENT, 2, 1_559_731_985));
     holds(&rt, parts(octets) == wanted, "parts");
+}
+
+/// A hash that is zero whatever the octets.
+struct Zeros;
+
+impl KeyedHash for Zeros {
+    ghost keyed = { λ _ _ _. 0 ∷ 0 ∷ 0 ∷ 0 ∷ 0 ∷ 0 ∷ 0 ∷ 0 ∷ [] };
+
+    fn hash(&self, _secret: &[u8; 16], _input: &[u8]) -> [u8; 8] {
+        [0; 8]
+    }
+}
+
+/// The moment of the cookie of RFC 9018 appendix A.1.
+const MOMENT: u32 = 1_559_731_985;
+
+/// The cookie that is given at that moment if the hash is zero.
+const OF_ZEROS: &[u8] =
+    b"\x24\x64\xc4\xab\xcf\x10\xc9\x57\x01\0\0\0\x5c\xf7\x9f\x11\0\0\0\0\0\0\0\0";
+
+/// Whether that cookie is given into the octets.
+fn responds_with_zeros(octets: &mut [u8]) -> bool {
+    ClientCookie::from(CLIENT)
+        .respond_into(HERE, &SECRET, Serial::new(MOMENT), &Zeros, octets)
+        .is_ok()
+}
+
+/// Whether that cookie is taken from its moment up to another.
+fn takes_zeros(until: u32) -> bool {
+    let (from, until) = (Serial::new(MOMENT), Serial::new(until));
+    match Cookie::parse_bytes(OF_ZEROS) {
+        Ok(cookie) => cookie.verify(HERE, &SECRET, from, until, &Zeros).is_ok(),
+        Err(_) => false,
+    }
+}
+
+#[test]
+fn cookie_of_eight_zeros(rt: HostRuntime) {
+    let mut octets = [0; 24];
+    let is_given = responds_with_zeros(&mut octets) && octets == OF_ZEROS;
+    holds(&rt, is_given, "cookie-of-eight-zeros: 24 octets");
+    let is_refused = !responds_with_zeros(&mut octets[..23]);
+    holds(&rt, is_refused, "cookie-of-eight-zeros: 23 octets");
+    let is_taken = takes_zeros(MOMENT + 1);
+    holds(&rt, is_taken, "cookie-of-eight-zeros: in time");
+    let is_refused = !takes_zeros(MOMENT);
+    holds(&rt, is_refused, "cookie-of-eight-zeros: too late");
 }

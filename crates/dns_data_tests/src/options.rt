@@ -46,8 +46,8 @@ const ROWS: [Row; 19] = [
     ("no octets", b"\0\0\0\0", b"o"),
     ("another code", b"\0\x0c\0\x04\0\0\0\0", b"o"),
     (
-        "a cookie that does not suit in the middle",
-        b"\0\x0a\0\x0812345678\0\x0a\0\x01\0\0\x0f\0\x03\0\0A",
+        "three-options",
+        b"\0\x0a\0\x08\x24\x64\xc4\xab\xcf\x10\xc9\x57\0\x0a\0\x01\0\0\x0f\0\x03\0\0A",
         b"c-e",
     ),
     (

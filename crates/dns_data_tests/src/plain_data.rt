@@ -1,8 +1,11 @@
-//! The fields of HINFO, SRV and TXT data. `to_wire` of dnspython 2.3.0 wrote the octets.
+//! The fields of HINFO, SRV and TXT data, whose octets `to_wire` of dnspython 2.3.0 wrote, and the canonical order of SRV
+//! data.
 
 use crate::assertions::holds;
 use dns_plain::{HInfo, Srv, Txt};
+use dns_record::CanonicalRecordData;
 use dns_wire::ParseBytes;
+use std::cmp::Ordering;
 
 /// "VAX-11/780" "Unix"
 const HOST: &[u8] = b"\x0aVAX-11/780\x04Unix";
@@ -53,4 +56,22 @@ fn data_have_their_fields(rt: HostRuntime) {
     holds(&rt, numbers == Some((10, 60, 5060)), "SRV");
     holds(&rt, is_host(HOST, b"VAX-11/780", b"Unix"), "HINFO");
     holds(&rt, goes_over(TEXTS, [b"Some Text", b"", b"B"]), "TXT");
+}
+
+/// How SRV data compare in canonical order.
+fn order_of_services(one: &[u8], other: &[u8]) -> Option<Ordering> {
+    match (Srv::parse_bytes(one), Srv::parse_bytes(other)) {
+        (Ok(one), Ok(other)) => Some(one.cmp_canonical(&other)),
+        _ => None,
+    }
+}
+
+/// The hosts `b.a.` and `a.b.`: in label order the first would come before the second.
+#[test]
+fn targets_are_compared_by_their_octets(rt: HostRuntime) {
+    let order = order_of_services(
+        b"\0\x01\0\x02\0\x03\x01b\x01a\0",
+        b"\0\x01\0\x02\0\x03\x01a\x01b\0",
+    );
+    holds(&rt, order == Some(Ordering::Greater), "srv-order");
 }

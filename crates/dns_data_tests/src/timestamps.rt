@@ -12,11 +12,13 @@ fn moment(stamp: u32, reference: u64) -> Option<u64> {
     Some(Timestamp::from(stamp).to_system_time(reference))
 }
 
-/// The moment of this number, from 1970 on, that is nearest to the reference.
+/// The moments of these numbers, from 1970 on, that are nearest to the reference.
 #[test]
 fn moments_are_near_their_reference(rt: HostRuntime) {
     let nearest = moment(5, 4_294_967_295);
     holds(&rt, nearest == Some(4_294_967_301), "5 at 4294967295");
+    let nearest = moment(4_294_967_295, 5);
+    holds(&rt, nearest == Some(4_294_967_295), "stamp-last-value");
 }
 
 /// How two timestamps compare.

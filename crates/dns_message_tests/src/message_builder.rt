@@ -1,4 +1,4 @@
-//! Messages that are built, as dnspython 2.3.0 writes them, and the text of each refusal.
+//! Messages that are built, as dnspython 2.3.0 writes them, and each refusal.
 
 use crate::assertions::holds;
 use crate::record_data::{Data, read};
@@ -147,6 +147,39 @@ fn is_answer_built(wanted: &[u8]) -> bool {
 #[test]
 fn an_answer_with_records_in_three_sections(rt: HostRuntime) {
     holds(&rt, is_answer_built(ANSWER), "the answer");
+}
+
+/// Why an address and a question after it are refused in a buffer, and how many octets the message has then.
+fn push_two(buffer: &mut [u8]) -> Option<(Option<Refusal>, Refusal, usize)> {
+    if buffer.len() < 12 {
+        return None;
+    }
+    let mut names = NameCompressor::new();
+    let (id, flags) = (U16::new(7), HeaderFlags::from_bits(0x8400));
+    let mut builder = MessageBuilder::new(buffer, &mut names, id, flags);
+    let address = push_record(&mut builder, ('a', WWW, 1, 42, b"\x7f\0\0\x01"));
+    let question = push_question(&mut builder, b"\0", QType::NS);
+    Some((address, question, builder.message().as_bytes().len()))
+}
+
+/// An address takes 31 octets, and a question of the root 5.
+#[test]
+fn an_item_fits_exactly_or_is_refused(rt: HostRuntime) {
+    let wanted =
+        b"\0\x07\x84\0\0\0\0\x01\0\0\0\0\x03www\x07example\x03org\0\0\x01\0\x01\0\0\0\x2a\0\x04\x7f\0\0\x01";
+    let mut buffer = [0; 43];
+    let pushed = push_two(&mut buffer);
+    let answers = Some((Some(None), Some(MessageBuildError::Misplaced), 43));
+    holds(&rt, pushed == answers, "builder-over-43-octets: refusals");
+    let is_message = buffer.as_slice() == wanted.as_slice();
+    holds(&rt, is_message, "builder-over-43-octets: contents");
+    let mut buffer = [0; 42];
+    let pushed = push_two(&mut buffer);
+    let question = Some((Some(Some(MessageBuildError::Truncated)), None, 17));
+    holds(&rt, pushed == question, "builder-over-43-octets: over 42");
+    let wanted = b"\0\x07\x84\0\0\x01\0\0\0\0\0\0\0\0\x02\0\x01";
+    let is_question = buffer.starts_with(wanted);
+    holds(&rt, is_question, "builder-over-43-octets: a question alone");
 }
 
 /// Whether this is the text of the error.

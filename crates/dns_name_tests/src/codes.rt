@@ -1,5 +1,6 @@
 //! Types and classes of records: their printed text, and the types whose names are in lowercase in canonical form.
 
+use crate::assertion::holds;
 use crate::printing::prints;
 use dns_record::{RClass, RType};
 
@@ -29,7 +30,6 @@ const TYPES: &[(u16, &str)] = &[
     (63, "ZONEMD"),
     (250, "TSIG"),
     (0, "TYPE0"),
-    (265, "TYPE265"),
     (65535, "TYPE65535"),
 ];
 
@@ -47,7 +47,6 @@ const CLASSES: &[(u16, &str)] = &[
     (1, "IN"),
     (3, "CH"),
     (2, "CLASS2"),
-    (42, "CLASS42"),
     (65535, "CLASS65535"),
 ];
 
@@ -56,6 +55,15 @@ fn prints_classes(rt: HostRuntime) {
     for (number, text) in CLASSES {
         assert!(rt; prints(rt.alloc(), &RClass::from(*number), text), "{text}");
     }
+}
+
+/// Numbers without a name.
+#[test]
+fn unknown_codes_are_shown(rt: HostRuntime) {
+    let rtype = prints(rt.alloc(), &RType::from(265), "TYPE265");
+    holds(&rt, rtype, "unknown-codes-shown: a type");
+    let rclass = prints(rt.alloc(), &RClass::from(42), "CLASS42");
+    holds(&rt, rclass, "unknown-codes-shown: a class");
 }
 
 /// Whether names in data of the type are in lowercase in canonical form.

@@ -64,6 +64,25 @@ fn compresses_names_as_other_software_does(rt: HostRuntime) {
     holds(&rt, is_written, "contents and places");
 }
 
+/// Whether two names are written one after the other as these octets.
+fn writes_two(one: &[u8], other: &[u8], octets: &[u8; 23], places: &[u16]) -> bool {
+    let mut contents = [0; 23];
+    let end = end_in_message(&(name(one), name(other)), &mut contents, places);
+    end == Some(23) && &contents == octets
+}
+
+/// The second name ends as the first does, except for case.
+#[test]
+fn two_names_are_compressed(rt: HostRuntime) {
+    let is_written = writes_two(
+        b"\x07example\x03org\0",
+        b"\x07unequal\x03ORG\0",
+        b"\x07example\x03org\0\x07unequal\xc0\x14",
+        &[0, 8, 13],
+    );
+    holds(&rt, is_written, "two-names-compressed");
+}
+
 /// Where the name ends that begins at the offset, if it is this one, except for case.
 fn end_of_equal_name(contents: &[u8], offset: usize, octets: &[u8]) -> Option<usize> {
     match NameBuf::split_message_bytes(contents, offset) {

@@ -1,15 +1,56 @@
-//! Readings that count their steps. No program sees the count: only clauses speak of it. So a test
+//! Comparisons and readings that count their steps. No program sees the count: only clauses speak of it. So a test
 //! goes over the name's label types and counts those. It is proved that a reading raises the count by that number.
 
 ghost use Rattle.std.specs.Prelude.{◌≡◌, ◌+◌, ◌<◌, ℕ, List, IfSome};
 ghost use Rattle.dns_wire.specs.Pointers.{NameAt, label_type_count};
 
 use crate::assertion::holds;
+use crate::names::name;
 use crate::pointers::{CHAIN, end_of_name};
-use dns_name::{NameBuf, Steps};
+use dns_name::{Name, NameBuf, Steps};
 use dns_wire::{LabelType, NameCursor};
+use std::cmp::Ordering;
 use std::marker::Brand;
 use std::sync::ledger::{Blank, Ledger};
+
+/// The order of the names, whose steps are counted.
+fn compared<L: Ledger>(one: &Name<'_>, other: &Name<'_>, blank: Blank) -> Ordering
+    requires name { blank.name ≡ L.name }
+    requires parts { blank.parts ≡ L.parts }
+    requires some { 0 < blank.parts }
+{
+    let mut steps: Steps<L> = Steps::new(blank);
+    one.cmp_counted(other, &mut steps)
+}
+
+/// The order of the names, by a count that begins here.
+fn order(one: &[u8], other: &[u8]) -> Ordering {
+    compared::<Brand>(&name(one), &name(other), Blank::new(1))
+}
+
+/// Pairs of names, and their order.
+const ORDERED: &[(&str, &[u8], &[u8], Ordering)] = &[
+    (
+        "label-order-inside",
+        b"\x01a\0",
+        b"\x03!\x01a\0",
+        Ordering::Greater,
+    ),
+    ("root-before-all", b"\0", b"\x01a\0", Ordering::Less),
+    (
+        "equal-but-for-case",
+        b"\x01A\x01b\0",
+        b"\x01a\x01B\0",
+        Ordering::Equal,
+    ),
+];
+
+#[test]
+fn a_counted_comparison_gives_the_same_order(rt: HostRuntime) {
+    for (what, one, other, wanted) in ORDERED {
+        assert!(rt; order(one, other) == *wanted, "{what}");
+    }
+}
 
 /// How many label types a reading from the offset goes over: one for each label and each pointer, and one for the
 /// root. `None` if no root is among the first 10,000.

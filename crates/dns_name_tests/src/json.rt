@@ -2,8 +2,11 @@
 
 use crate::assertion::holds;
 use crate::printing::prints;
-use dns_label::label_of;
-use dns_name::{NameBuf, RevNameBuf, label_to_json};
+use dns_label::{LabelParseError, label_of};
+use dns_name::{
+    JsonLabelError, JsonNameError, NameBuf, NameParseError, RevNameBuf, label_from_json,
+    label_to_json,
+};
 use serde_json::Value;
 use std::alloc::Global;
 
@@ -117,4 +120,41 @@ fn reads_json(rt: HostRuntime) {
         spells_name(rt.alloc(), "\"a\\\\.b.\\\\000\\\\255.\"", escapes),
         "a name with escapes",
     );
+}
+
+/// Why the value is no name.
+fn name_error(value: &Value) -> Option<JsonNameError> {
+    NameBuf::from_json(value).err()
+}
+
+/// Why the JSON text spells no name.
+fn name_error_of(alloc: Global, json: &str) -> Option<JsonNameError> {
+    match Value::from_str(alloc, json) {
+        Ok(value) => name_error(&value),
+        Err(_) => None,
+    }
+}
+
+/// Why the JSON text spells no label.
+fn label_error_of(alloc: Global, json: &str) -> Option<JsonLabelError> {
+    match Value::from_str(alloc, json) {
+        Ok(value) => label_from_json(&value).err(),
+        Err(_) => None,
+    }
+}
+
+#[test]
+fn refuses_json(rt: HostRuntime) {
+    let error = name_error_of(rt.alloc(), "1");
+    holds(
+        &rt,
+        error == Some(JsonNameError::NotText),
+        "names-as-json: a number",
+    );
+    let error = name_error_of(rt.alloc(), "\"a\"");
+    let wanted = JsonNameError::Name(NameParseError::Relative);
+    holds(&rt, error == Some(wanted), "names-as-json: a letter");
+    let error = label_error_of(rt.alloc(), "\"\\\\\"");
+    let wanted = JsonLabelError::Label(LabelParseError::PartialEscape);
+    holds(&rt, error == Some(wanted), "names-as-json: a backslash");
 }

@@ -36,20 +36,62 @@ fn reads_and_prints_names(rt: HostRuntime) {
     }
 }
 
-/// Why the text is no name, and why none is at its start.
-fn errors(text: &[u8]) -> (Option<NameParseError>, Option<NameSplitError>) {
-    let split = match NameBuf::split_str(text) {
-        Ok(_) => None,
-        Err(error) => Some(error),
-    };
-    (NameBuf::parse_str(text).err(), split)
+/// Why the text is no name.
+fn parse_error(text: &[u8]) -> Option<NameParseError> {
+    NameBuf::parse_str(text).err()
 }
+
+/// A label of 64 octets.
+const LONG: &[u8] = &[b'a'; 64];
+
+/// Texts that are no names, and why.
+const REFUSED: &[(&str, &[u8], NameParseError)] = &[
+    ("a dot", b".", NameParseError::EmptyLabel),
+    ("no dot", b"a", NameParseError::Relative),
+    ("two dots", b"a..", NameParseError::EmptyLabel),
+    ("half an escape", b"\\2", NameParseError::PartialEscape),
+    ("256", b"\\256.", NameParseError::InvalidEscape),
+    ("64 letters", LONG, NameParseError::OverlongLabel),
+    ("a space", b"a b.", NameParseError::InvalidChar),
+];
 
 #[test]
 fn refuses_texts(rt: HostRuntime) {
-    let wanted = (
-        Some(NameParseError::OverlongLabel),
-        Some(NameSplitError::OverlongLabel),
+    for (what, text, error) in REFUSED {
+        assert!(rt; parse_error(text) == Some(*error), "name-texts: {what}");
+    }
+}
+
+/// Whether the text begins with the name of these octets, and the rest follows.
+fn splits_str(text: &[u8], octets: &[u8], rest: &[u8]) -> bool {
+    match NameBuf::split_str(text) {
+        Ok((name, left)) => name.as_name().as_bytes() == octets && left == rest,
+        Err(_) => false,
+    }
+}
+
+/// Why no name is before other text.
+fn split_error(text: &[u8]) -> Option<NameSplitError> {
+    NameBuf::split_str(text).err()
+}
+
+#[test]
+fn reads_names_before_other_text(rt: HostRuntime) {
+    holds(
+        &rt,
+        splits_str(b"a. x", b"\x01a\0", b" x"),
+        "name-texts: a name before a space",
     );
-    holds(&rt, errors(&[b'a'; 64]) == wanted, "64 octets");
+    let error = split_error(b"a.");
+    holds(
+        &rt,
+        error == Some(NameSplitError::ShortInput),
+        "name-texts: a name alone",
+    );
+    let error = split_error(LONG);
+    holds(
+        &rt,
+        error == Some(NameSplitError::OverlongLabel),
+        "name-texts: 64 letters",
+    );
 }

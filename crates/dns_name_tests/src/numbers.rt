@@ -33,7 +33,7 @@ const COMPARED: &[(u32, u32, Option<Ordering>)] = &[
 fn serial_numbers_compare(rt: HostRuntime) {
     for (one, other, wanted) in COMPARED {
         let found = compared(*one, *other);
-        assert!(rt; found == *wanted, "{one} and {other}");
+        assert!(rt; found == *wanted, "serial-cases: {one} and {other}");
     }
 }
 
@@ -48,7 +48,7 @@ const INCREMENTED: &[(u32, i32, u32)] = &[
 fn serial_numbers_are_incremented(rt: HostRuntime) {
     for (serial, count, wanted) in INCREMENTED {
         let found = incremented(*serial, *count);
-        assert!(rt; found == Some(*wanted), "{serial} by {count}");
+        assert!(rt; found == Some(*wanted), "serial-cases: {serial} by {count}");
     }
 }
 

@@ -22,6 +22,23 @@ fn sink_keeps_what_it_took() -> bool {
     first && second && sink.written() == b"abcd".as_slice()
 }
 
+/// Whether a full sink refuses octets but not nothing.
+fn full_sink_fails() -> bool {
+    let mut buffer = [0u8; 4];
+    let mut sink = TextSink::new(&mut buffer, 8, &[]);
+    let is_full = matches!(sink.write(b"abcdef"), Ok(4)) && sink.write(b"ef").is_err();
+    is_full && matches!(sink.write(b""), Ok(0)) && sink.written() == b"abcd".as_slice()
+}
+
+/// Whether a sink is flushed at the first flush that does not fail.
+fn flush_fails_once() -> bool {
+    let mut buffer = [0u8; 4];
+    let mut sink = TextSink::new(&mut buffer, 8, &[1]);
+    let is_taken = matches!(sink.write(b"abcd"), Ok(4));
+    let is_flushed = sink.flush().is_err() && sink.flush().is_ok();
+    is_taken && is_flushed && sink.flushed()
+}
+
 #[test]
 fn devices_fail_where_they_are_set(rt: HostRuntime) {
     all_hold(
@@ -29,6 +46,8 @@ fn devices_fail_where_they_are_set(rt: HostRuntime) {
         &[
             ("a source", source_fails_where_set()),
             ("a sink", sink_keeps_what_it_took()),
+            ("a full sink", full_sink_fails()),
+            ("a flush", flush_fails_once()),
         ],
     );
 }

@@ -57,7 +57,10 @@ fn labels_are_printed(rt: HostRuntime) {
     all_hold(
         &rt,
         &[
-            ("codes", label_prints(alloc, b"\x2e\0A", "\\.\\000A")),
+            (
+                "unknown-codes-shown: a label",
+                label_prints(alloc, b"\x2e\0A", "\\.\\000A"),
+            ),
             ("a dot and a line feed", is_printed),
             ("the root", prints(alloc, &Label::root(), "")),
             ("a view", prints(alloc, &Label::wildcard(), "*")),

@@ -1,7 +1,20 @@
-//! Labels one after another.
+//! Labels that are too long, and labels one after another.
 
 use crate::holds::all_hold;
-use dns_label::LabelIter;
+use dns_label::{Label, LabelIter};
+use dns_wire::SplitBytes;
+
+/// Whether the octets begin with no label.
+fn is_no_label(octets: &[u8]) -> bool {
+    Label::split_bytes(octets).is_err()
+}
+
+#[test]
+fn labels_of_64_octets_are_refused(rt: HostRuntime) {
+    let mut octets = [b'a'; 65];
+    octets[0] = 64;
+    all_hold(&rt, &[("label-64-refused", is_no_label(&octets))]);
+}
 
 /// The lengths of the labels, a digit each.
 fn lengths(labels: LabelIter<'_>) -> u64 {

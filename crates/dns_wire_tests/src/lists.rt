@@ -1,26 +1,28 @@
 //! Lists of values, and text.
 
 use crate::holds::all_hold;
+use dns_num::U16;
 use dns_wire::{ListError, ParseBytes, split_list};
 use std::alloc::Global;
 
-/// Three pairs of octets and another octet.
+/// Three numbers of two octets and another octet.
 const OCTETS: &[u8] = b"\x00\x01\x00\x02\x00\x03\xff";
 
-/// Whether the three pairs are read, and an octet is left.
-fn lists_pairs(alloc: Global) -> bool {
-    match split_list::<[u8; 2]>(alloc, OCTETS, 3) {
-        Ok((pairs, rest)) => {
-            pairs.as_slice() == [[0, 1], [0, 2], [0, 3]].as_slice() && rest == b"\xff".as_slice()
+/// Whether the three numbers are read, and an octet is left.
+fn lists_numbers(alloc: Global) -> bool {
+    let wanted = [U16::new(1), U16::new(2), U16::new(3)];
+    match split_list::<U16>(alloc, OCTETS, 3) {
+        Ok((numbers, rest)) => {
+            numbers.as_slice() == wanted.as_slice() && rest == b"\xff".as_slice()
         }
         Err(_) => false,
     }
 }
 
-/// Whether a fourth pair is no value, and memory is not what is missing.
+/// Whether a fourth number is missing, and memory is not.
 fn refuses_more(alloc: Global) -> bool {
     matches!(
-        split_list::<[u8; 2]>(alloc, OCTETS, 4),
+        split_list::<U16>(alloc, OCTETS, 4),
         Err(ListError::Parse)
     )
 }
@@ -39,8 +41,8 @@ fn lists_are_read_value_by_value(rt: HostRuntime) {
     all_hold(
         &rt,
         &[
-            ("three pairs", lists_pairs(rt.alloc())),
-            ("too many", refuses_more(rt.alloc())),
+            ("split-list-u16, three", lists_numbers(rt.alloc())),
+            ("split-list-u16, four", refuses_more(rt.alloc())),
             ("the most octets", lists_most(rt.alloc())),
         ],
     );
