@@ -14,7 +14,7 @@ use Rattle.dns_record.specs.Records.{octets_of_parts}
 use Rattle.dns_record.specs.Types.{is_lowercased, opt_number}
 use Rattle.dns_record.proofs.Sizes.{data_short, lowercased_long}
 use Rattle.dns_rdata.specs.Compressible.{is_compressible_type}
-use Rattle.dns_rdata.specs.FormatLemmas.{data_spelled}
+use Rattle.dns_rdata.proofs.FormatLemmas.{data_spelled}
 use Rattle.dns_rdata.proofs.UncompressedData.{compressible_placed}
 use Rattle.dns_name.specs.Order.{key}
 use Rattle.dns_message.specs.Canonical.{canonical_wire, is_not_opt}

@@ -2,9 +2,10 @@
 
 use crate::assertions::holds;
 use crate::record_data::Data;
+use dns_boxed::{BoxError, BoxedRecordData};
 use dns_name::Name;
 use dns_nsec::{Nsec, TypeBitmaps};
-use dns_rdata::{BoxError, BoxedRecordData, UnknownRecordData};
+use dns_rdata::UnknownRecordData;
 use dns_record::RType;
 use dns_wire::ParseBytes;
 use std::alloc::Global;

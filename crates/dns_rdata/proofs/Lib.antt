@@ -1,6 +1,7 @@
 -- The crate's own lemmas.
-pub mod AlikeContent
+pub mod AlikeStrings
 pub mod Canonical
+pub mod FormatLemmas
 pub mod Forms
 pub mod UncompressedData
 pub mod CompressedData

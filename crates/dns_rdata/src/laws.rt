@@ -1,25 +1,14 @@
 //! The definitions of this crate in other words.
 
-ghost use Rattle.std.specs.Prelude.{◌≡◌, ◌&&◌, nat_eq, ◌↔◌, IsTrue};
+ghost use Rattle.std.specs.Prelude.{◌≡◌, ◌&&◌, nat_eq};
 ghost use Rattle.std.specs.Cmp.Lexicographic.{pointwise};
 ghost use Rattle.std.specs.Hash.{slice, u8};
 ghost use Rattle.dns_edns.specs.Flags.{flag_bits};
-ghost use Rattle.dns_name.specs.declared.name.Name.{Name};
 ghost use Rattle.dns_rdata.specs.Alike.{content_of, same_content, content_writes};
-ghost use Rattle.dns_rdata.specs.Boxed.{AreReadAs};
-ghost use Rattle.dns_rdata.specs.BoxedValue.{boxed_type, boxed_octets};
-ghost use Rattle.dns_rdata.specs.declared.boxed_record_data.BoxedRecordData.{BoxedRecordData};
-ghost use Rattle.dns_rdata.specs.declared.record_data.RecordData.{RecordData};
-ghost use Rattle.dns_wire.specs.Octets.{Octets, Places};
 
-use crate::box_error::BoxError;
-use crate::boxed_record_data::BoxedRecordData;
 use crate::edns_record::EdnsRecord;
 use crate::record_data::RecordData;
 use crate::unknown::UnknownRecordData;
-use dns_name::Name;
-use dns_record::CanonicalRecordData;
-use dns_wire::BuildInMessage;
 use std::hash::Hash;
 
 /// Data are equal if they are of the same type, both read as it says or both unknown octets, and all their fields are
@@ -45,29 +34,4 @@ pub fn edns_records_are_equal_by_fields<D: PartialEq>()
 pub fn unknown_data_are_compared_by_octets()
     ensures equal { (a b : _) → ⟦<UnknownRecordData<'static> as PartialEq>⟧.eq a b ≡ pointwise nat_eq a.octets.now b.octets.now }
     ensures fed { (v : _) → ⟦<UnknownRecordData<'static> as Hash>⟧.hash_input v ≡ slice u8 v.octets.now }
-{}
-
-/// Boxed data are, for each trait, as the data that are read from them, which `get` gives: their canonical octets and their rank,
-/// by which they compare (RFC 4034 sections 6.2 and 6.3), what they are equal to, what they feed a hasher, and what they write in a
-/// message (RFC 1035 section 4.1.4).
-pub fn boxed_data_are_as_read()
-    ensures canonical { (boxed : BoxedRecordData) (read : RecordData Name) → AreReadAs (boxed_type boxed) (boxed_octets boxed) read →
-        ⟦<BoxedRecordData as CanonicalRecordData>⟧.canonical boxed ≡ ⟦<RecordData<'static, Name<'static>> as CanonicalRecordData>⟧.canonical read }
-    ensures rank { (boxed : BoxedRecordData) (read : RecordData Name) → AreReadAs (boxed_type boxed) (boxed_octets boxed) read →
-        ⟦<BoxedRecordData as CanonicalRecordData>⟧.rank boxed ≡ ⟦<RecordData<'static, Name<'static>> as CanonicalRecordData>⟧.rank read }
-    ensures equal { (boxed other : BoxedRecordData) (read also : RecordData Name) →
-        AreReadAs (boxed_type boxed) (boxed_octets boxed) read → AreReadAs (boxed_type other) (boxed_octets other) also →
-        ⟦<BoxedRecordData as PartialEq>⟧.eq boxed other ≡ ⟦<RecordData<'static, Name<'static>> as PartialEq>⟧.eq read also }
-    ensures fed { (boxed : BoxedRecordData) (read : RecordData Name) → AreReadAs (boxed_type boxed) (boxed_octets boxed) read →
-        ⟦<BoxedRecordData as Hash>⟧.hash_input boxed ≡ ⟦<RecordData<'static, Name<'static>> as Hash>⟧.hash_input read }
-    ensures built { (boxed : BoxedRecordData) (read : RecordData Name) (contents : Octets) (places : Places) → AreReadAs (boxed_type boxed) (boxed_octets boxed) read →
-        ⟦<BoxedRecordData as BuildInMessage>⟧.writes boxed contents places ≡ ⟦<RecordData<'static, Name<'static>> as BuildInMessage>⟧.writes read contents places }
-{
-    data_of_any_type_are_equal_by_fields::<Name<'_>>();
-    data_of_any_type_are_hashed_by_fields::<Name<'_>>();
-}
-
-/// Errors are equal exactly if they are the same.
-pub fn equal_errors()
-    ensures boxed { (a b : _) → IsTrue (⟦<BoxError as PartialEq>⟧.eq a b) ↔ (a ≡ b) }
 {}

@@ -1,8 +1,6 @@
-//! Record data of any type in one value, in their own memory, and EDNS records.
+//! Record data of any type in one value, and EDNS records.
 #![tactic(auto)]
 
-mod box_error;
-mod boxed_record_data;
 mod edns_conversion;
 mod edns_laws;
 mod edns_record;
@@ -12,15 +10,12 @@ mod record_data;
 mod typed_record;
 mod unknown;
 
-pub use box_error::BoxError;
-pub use boxed_record_data::BoxedRecordData;
 pub use edns_laws::edns_records_come_back;
 pub use edns_record::EdnsRecord;
 pub use laws::{
-    boxed_data_are_as_read, data_of_any_type_are_equal_by_fields,
-    data_of_any_type_are_hashed_by_fields, edns_records_are_equal_by_fields, equal_errors,
-    unknown_data_are_compared_by_octets,
+    data_of_any_type_are_equal_by_fields, data_of_any_type_are_hashed_by_fields,
+    edns_records_are_equal_by_fields, unknown_data_are_compared_by_octets,
 };
 pub use record_data::RecordData;
-pub use typed_record::{old_new, old_new_box};
+pub use typed_record::old_new;
 pub use unknown::UnknownRecordData;

@@ -2,9 +2,7 @@
 
 ghost use Rattle.std.specs.Prelude.{◌≡◌};
 ghost use Rattle.dns_rdata.specs.Data.{type_number};
-ghost use Rattle.dns_rdata.specs.BoxedValue.{boxed_type};
 
-use crate::boxed_record_data::BoxedRecordData;
 use crate::record_data::RecordData;
 use dns_record::{RClass, Record, TTL};
 
@@ -20,17 +18,4 @@ pub fn old_new<'a, N>(
 {
     let rtype = rdata.rtype();
     Record::new(rname, rtype, rclass, ttl, rdata)
-}
-
-/// The record of these parts, whose type is that of its data.
-pub fn old_new_box<N>(
-    rname: N,
-    rclass: RClass,
-    ttl: TTL,
-    rdata: BoxedRecordData,
-) -> Record<N, BoxedRecordData>
-    ensures typed { result.rtype.code.value ≡ boxed_type rdata }
-    ensures unchanged { (result.rname ≡ rname) × (result.rclass ≡ rclass) × (result.ttl ≡ ttl) × (result.rdata ≡ rdata) }
-{
-    Record::new(rname, rdata.rtype(), rclass, ttl, rdata)
 }

@@ -2,7 +2,7 @@ use Rattle.std.proofs.Common.{refl}
 use Rattle.std.proofs.Math.Bool.{and-true, and_assoc}
 use Rattle.dns_rdata.specs.declared.record_data.RecordData.TheVariants.{A, Ns, CName, Soa, Ptr, HInfo, Mx, Txt, Rp, Srv, Aaaa, DName, Opt, Ds, Rrsig, Nsec, DNSKey, Nsec3, Nsec3Param, Cds, CDNSKey, ZoneMD, Unknown}
 use Rattle.dns_plain.specs.Strings.{strings_in}
-use Rattle.dns_rdata.proofs.AlikeContent.{strings_compared}
+use Rattle.dns_rdata.proofs.AlikeStrings.{strings_compared}
 use Rattle.dns_rdata.proofs.laws.data_of_any_type_are_equal_by_fields.Goals as goal
 
 pub returns : goal.returns

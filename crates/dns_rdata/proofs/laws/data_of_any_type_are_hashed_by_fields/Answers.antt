@@ -3,7 +3,7 @@ use Rattle.std.proofs.lemmas.List.{append-nil}
 use Rattle.dns_rdata.specs.declared.record_data.RecordData.TheVariants.{A, Ns, CName, Soa, Ptr, HInfo, Mx, Txt, Rp, Srv, Aaaa, DName, Opt, Ds, Rrsig, Nsec, DNSKey, Nsec3, Nsec3Param, Cds, CDNSKey, ZoneMD, Unknown}
 use Rattle.std.specs.Hash.{le_bytes}
 use Rattle.dns_plain.specs.Strings.{strings_in}
-use Rattle.dns_rdata.proofs.AlikeContent.{strings_fed}
+use Rattle.dns_rdata.proofs.AlikeStrings.{strings_fed}
 use Rattle.dns_rdata.proofs.laws.data_of_any_type_are_hashed_by_fields.Goals as goal
 
 pub returns : goal.returns

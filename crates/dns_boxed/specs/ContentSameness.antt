@@ -21,8 +21,8 @@ use Rattle.dns_record.specs.Fields.FieldOf.{Compressible, Uncompressed, Raw, Siz
 use Rattle.dns_record.specs.Formats.{rdata_format, has_rdata_format}
 use Rattle.dns_plain.specs.Strings.{strings_in}
 use Rattle.dns_rdata.specs.Alike.{Content, each_string, compared, is_hashed, same_name, same_sized, same_fields, same_content, sized_writes, type_writes, content_writes}
-use Rattle.dns_rdata.specs.Boxed.{is_readable, spelled_fields, spelled_content}
-use Rattle.dns_rdata.specs.FieldShapes.{OfKinds, spelled_shaped, SameWidth, SameWidths, widths_of_format, widths_of_strings, txt_shaped}
+use Rattle.dns_boxed.specs.Boxed.{is_readable, spelled_fields, spelled_content}
+use Rattle.dns_boxed.specs.FieldShapes.{OfKinds, spelled_shaped, SameWidth, SameWidths, widths_of_format, widths_of_strings, txt_shaped}
 
 -- ---- an equivalence
 

@@ -4,9 +4,9 @@ use Rattle.dns_name.specs.declared.name.Name.{Name}
 use Rattle.dns_record.specs.Data.{data_as}
 use Rattle.dns_record.specs.Fields.{named_by}
 use Rattle.dns_rdata.specs.Data.{data_fields}
-use Rattle.dns_rdata.specs.FormatLemmas.{data_spelled}
+use Rattle.dns_rdata.proofs.FormatLemmas.{data_spelled}
 use Rattle.dns_rdata.specs.CanonicalSizes.{fields_written}
-use Rattle.dns_rdata.proofs.boxed_record_data.BoxedRecordData.get.Goals as goal
+use Rattle.dns_boxed.proofs.boxed_record_data.BoxedRecordData.get.Goals as goal
 
 pub returns-clause-written : goal.returns-clause-written
 returns-clause-written c =

@@ -2,9 +2,9 @@ use Rattle.std.proofs.Common.{ℕ, List, refl, ap, ◌∙◌}
 use Rattle.dns_wire.specs.Names.{name_labels}
 use Rattle.dns_name.specs.declared.name.Name.{Name}
 use Rattle.dns_rdata.specs.Alike.{Content, content_of, same_name, same_content}
-use Rattle.dns_rdata.specs.Boxed.{spelled_content}
-use Rattle.dns_rdata.proofs.AlikeContent.{content_named, content_spelled, same_named}
-use Rattle.dns_rdata.proofs.boxed_record_data.BoxedRecordDataPartialEq.eq.Goals as goal
+use Rattle.dns_boxed.specs.Boxed.{spelled_content}
+use Rattle.dns_boxed.proofs.AlikeContent.{content_named, content_spelled, same_named}
+use Rattle.dns_boxed.proofs.boxed_record_data.BoxedRecordDataPartialEq.eq.Goals as goal
 
 abbrev labels : Name → List (List ℕ)
 labels name = name_labels name.slice.now

@@ -1,36 +1,22 @@
--- Content that is compared or fed to a hasher with names of any type is so with their labels.
+-- Content that is compared or fed to a hasher with names of any type is so with their labels, and octets spell the content of what is read of them.
 use Rattle.std.proofs.Common.{◌≡◌, ℕ, Bool, true, false, cond, List, [], ◌∷◌, ◌++◌, Option, Some, refl, sym, ap, ◌∙◌}
 use Rattle.std.proofs.Math.Bool.{beq}
 use Rattle.std.proofs.lemmas.List.{map-append}
 use Rattle.std.specs.Prelude.{map, nat_eq, ◌==◌, ◌&&◌, unwrap_or}
 use Rattle.std.specs.List.{flat_map}
-use Rattle.std.specs.Str.{str_to_ascii_lowercase}
 use Rattle.dns_name.specs.Hashing.{name_writes}
 use Rattle.dns_wire.specs.Names.{plain_name}
 use Rattle.dns_record.specs.Data.{data_as}
-use Rattle.dns_record.specs.CharStrHashing.{charstr_writes}
-use Rattle.dns_record.specs.CharStrs.{charstr_wire, same_charstr}
-use Rattle.dns_record.specs.FieldOrder.{field_eq, fields_eq, field_writes, fields_writes}
+use Rattle.dns_record.specs.FieldOrder.{field_eq, field_writes, fields_writes}
 use Rattle.dns_record.specs.Fields.{Field, FieldOf, named_by}
 use Rattle.dns_record.specs.Fields.FieldOf.{Compressible, Uncompressed, Raw, Sized, Byte, Number}
 use Rattle.dns_record.specs.Formats.{has_rdata_format}
-use Rattle.dns_plain.specs.Strings.{strings_in, same_strings, strings_writes}
+use Rattle.dns_plain.specs.Strings.{strings_in}
 use Rattle.dns_rdata.specs.Alike.{Content, content_of, is_known, each_string, compared, same_name, same_sized, same_fields, same_content, sized_writes, type_writes, content_writes}
-use Rattle.dns_rdata.specs.Boxed.{spelled_fields, spelled_content}
+use Rattle.dns_boxed.specs.Boxed.{spelled_fields, spelled_content}
 use Rattle.dns_rdata.specs.Data.{data_fields, type_number, IsProper, IsDataOf}
 use Rattle.dns_rdata.specs.declared.record_data.RecordData.{RecordData}
 use Rattle.dns_rdata.specs.declared.record_data.RecordData.TheVariants.{Unknown}
-
--- ---- strings are compared and fed one by one
-
-pub strings_compared : {N : Type 0} (names : N → N → Bool) (a b : List (List ℕ)) → same_strings a b ≡ fields_eq names same_name same_charstr (map Sized a ++ []) (map Sized b ++ [])
-strings_compared names [] [] = refl
-strings_compared names (x ∷ a) (y ∷ b) = ap (λ (t : Bool). same_charstr x y && t) (strings_compared names a b)
-strings_compared names a b = refl
-
-pub strings_fed : {N : Type 0} (names : N → List (List ℕ)) (strings : List (List ℕ)) → strings_writes strings ≡ fields_writes names name_writes charstr_writes (map Sized strings ++ [])
-strings_fed names [] = refl
-strings_fed names (found ∷ others) = ap (λ (l : List (List ℕ)). charstr_wire (str_to_ascii_lowercase found) ∷ l) (strings_fed names others)
 
 -- ---- names are seen as their labels
 

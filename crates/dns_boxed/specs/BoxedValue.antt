@@ -1,7 +1,7 @@
 -- What is seen of data that are kept in their own memory.
 use Rattle.std.specs.Prelude.{ℕ}
 use Rattle.dns_wire.specs.Octets.{Octets}
-use Rattle.dns_rdata.specs.declared.boxed_record_data.BoxedRecordData.{BoxedRecordData}
+use Rattle.dns_boxed.specs.declared.boxed_record_data.BoxedRecordData.{BoxedRecordData}
 
 -- the number of their type
 abbrev pub boxed_type : BoxedRecordData → ℕ

@@ -1,6 +1,6 @@
 -- What the RDATA format of a type reads of octets is written as the same octets.
 use Rattle.std.proofs.Common.{◌≡◌, ℕ, ◌+◌, ◌<◌, Bool, true, false, cond, ltb, List, [], ◌∷◌, ◌++◌, length, take, drop, get_or, Option, Some, None, refl, sym, ap, subst, ◌∙◌, arith, append_assoc}
-use Rattle.std.specs.Prelude.{◌&&◌, is_some}
+use Rattle.std.specs.Prelude.{◌&&◌}
 use Rattle.std.specs.Cmp.{first_so, second_so}
 use Rattle.std.specs.Int.{Width, w16, w32, byte_len, from_be_bytes, to_be_bytes}
 use Rattle.std.proofs.lemmas.Bool.{ltb-false}
@@ -14,7 +14,7 @@ use Rattle.dns_wire.proofs.NamesLemmas.{plain_name_leaves}
 use Rattle.dns_wire.proofs.Spelled.{plain_name_takes}
 use Rattle.dns_num.proofs.CountedData.{octets_prefix}
 use Rattle.dns_record.specs.Data.{data_as}
-use Rattle.dns_record.specs.Fields.{Field, field_octets, fields_octets, canonical_octets}
+use Rattle.dns_record.specs.Fields.{Field, field_octets, fields_octets}
 use Rattle.dns_record.specs.Fields.FieldOf.{Compressible, Uncompressed, Raw, Sized, Byte, Number}
 use Rattle.dns_record.specs.Kinds.{Kind, field_of, fields_of}
 use Rattle.dns_record.specs.Kinds.Kind.{OneByte, OneNumber, SoMany, CompressibleName, UncompressedName, CharacterString, CharacterStrings, Options, TypeBitMaps, NonEmptyTypeBitMaps, Rest}
@@ -25,9 +25,7 @@ use Rattle.dns_record.specs.CharacterStrings.{character_string, character_string
 use Rattle.dns_record.specs.TypeBitMaps.{bitmap, some_bitmap, is_bitmap}
 use Rattle.dns_record.proofs.EachFormat.{of_each_format}
 use Rattle.dns_record.proofs.Places.{octet_spelled, octets_spelled, text_spelled}
-use Rattle.dns_record.proofs.Sizes.{canonical_long}
 use Rattle.dns_record.proofs.Stepped.{stepped}
-use Rattle.dns_rdata.specs.Boxed.{is_readable, spelled_fields}
 
 -- numbers of two octets or of four
 abbrev is_usual : Kind → Bool
@@ -129,14 +127,3 @@ data_spelled rtype bytes fields are e = by (fields_of plain_name (rdata_format r
       let same : found ≡ fields = cc in
       ap fields_octets (sym same) ∙ sym (append-nil (fields_octets found)) ∙ sym (fields_spelled (rdata_format rtype) bytes found [] (of_each_format all_usual refl rtype) are is)
   by (Some (found, x ∷ rest)) is h = absurd cc
-
--- the fields that readable octets spell
-pub spelled_is : (rtype : ℕ) (bytes : List ℕ) → is_readable rtype bytes ≡ true → data_as plain_name rtype bytes ≡ Some (spelled_fields rtype bytes)
-spelled_is rtype bytes e = by (data_as plain_name rtype bytes) refl e where
-  by : (read : Option (List Field)) → data_as plain_name rtype bytes ≡ read → is_some read ≡ true → data_as plain_name rtype bytes ≡ Some (spelled_fields rtype bytes)
-  by None is h = absurd cc
-  by (Some fields) is h = rw is refl
-
--- the canonical octets are as many as those that are kept
-pub spelled_long : (rtype : ℕ) (bytes : List ℕ) → AreOctets bytes → is_readable rtype bytes ≡ true → length (canonical_octets rtype (spelled_fields rtype bytes)) ≡ length bytes
-spelled_long rtype bytes are e = canonical_long rtype (spelled_fields rtype bytes) ∙ ap length (data_spelled rtype bytes (spelled_fields rtype bytes) are (spelled_is rtype bytes e))

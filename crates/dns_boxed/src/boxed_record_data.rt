@@ -6,13 +6,14 @@ ghost use Rattle.dns_wire.specs.Names.{plain_name, name_labels, wire};
 ghost use Rattle.dns_wire.specs.Reading.{AreOctets};
 ghost use Rattle.dns_record.specs.Data.{data_as};
 ghost use Rattle.dns_record.specs.Fields.{named_by, canonical_octets};
-ghost use Rattle.dns_rdata.specs.Boxed.{is_readable, spelled_fields, IsWhy};
+ghost use Rattle.dns_boxed.specs.Boxed.{is_readable, spelled_fields, IsWhy};
 ghost use Rattle.dns_rdata.specs.Data.{data_fields, type_number, written_fields, IsDataOf, NamesFit};
 
 use crate::box_error::BoxError;
-use crate::laws::{data_of_any_type_are_equal_by_fields, data_of_any_type_are_hashed_by_fields};
-use crate::record_data::RecordData;
 use dns_name::Name;
+use dns_rdata::{
+    RecordData, data_of_any_type_are_equal_by_fields, data_of_any_type_are_hashed_by_fields,
+};
 use dns_record::{CanonicalRecordData, ParseRecordDataBytes, RType};
 use dns_wire::{BuildBytes, BuildInMessage, NameCompressor, TruncationError, put};
 use std::alloc::{AllocError, Global};
@@ -50,7 +51,7 @@ pub struct BoxedRecordData {
 }
 
 impl BoxedRecordData {
-    ghost use Rattle.dns_rdata.specs.BoxedValue.{boxed_type, boxed_octets};
+    ghost use Rattle.dns_boxed.specs.BoxedValue.{boxed_type, boxed_octets};
 
     /// Keeps the octets of these data, names whole. `TooLong` comes exactly above 65,535 octets, before memory is taken.
     /// `Unreadable` comes if the RDATA format of the type doesn't read the octets, as those of NSEC without a type (RFC 4034 section
@@ -157,7 +158,7 @@ impl BuildInMessage for BoxedRecordData {
     ghost use Rattle.dns_wire.specs.LayoutLemmas.{part_matches};
     ghost use Rattle.dns_record.specs.InMessage.{fields_write, fields_layout};
     ghost use Rattle.dns_record.proofs.FieldLayoutLemmas.{fields_match};
-    ghost use Rattle.dns_rdata.specs.Boxed.{spelled_fields};
+    ghost use Rattle.dns_boxed.specs.Boxed.{spelled_fields};
 
     ghost writes = { λ v. fields_write compressed_name_writes (spelled_fields v.rtype.code.value v.octets.items) };
 
@@ -177,7 +178,7 @@ impl BuildInMessage for BoxedRecordData {
 
 /// Those of the fields that the octets spell, by the type.
 impl CanonicalRecordData for BoxedRecordData {
-    ghost use Rattle.dns_rdata.specs.FormatLemmas.{spelled_long};
+    ghost use Rattle.dns_boxed.specs.ReadableOctets.{spelled_long};
 
     ghost canonical = { λ v. canonical_octets v.rtype.code.value (spelled_fields v.rtype.code.value v.octets.items) };
 
@@ -199,8 +200,8 @@ impl PartialEq for BoxedRecordData {
     ghost use Rattle.std.specs.Cmp.{partial_equiv_from_equiv, on_equiv};
     ghost use Rattle.std.specs.Ordering.{on};
     ghost use Rattle.dns_rdata.specs.Alike.{same_name, same_content};
-    ghost use Rattle.dns_rdata.specs.Boxed.{spelled_content};
-    ghost use Rattle.dns_rdata.specs.ContentSameness.{content_equiv};
+    ghost use Rattle.dns_boxed.specs.Boxed.{spelled_content};
+    ghost use Rattle.dns_boxed.specs.ContentSameness.{content_equiv};
 
     ghost eq = { on (λ v. spelled_content v.rtype.code.value v.octets.items) (same_content same_name) };
 
@@ -214,8 +215,8 @@ impl PartialEq for BoxedRecordData {
 
 impl Eq for BoxedRecordData {
     ghost use Rattle.std.specs.Cmp.{on_equiv};
-    ghost use Rattle.dns_rdata.specs.Boxed.{spelled_content};
-    ghost use Rattle.dns_rdata.specs.ContentSameness.{content_equiv};
+    ghost use Rattle.dns_boxed.specs.Boxed.{spelled_content};
+    ghost use Rattle.dns_boxed.specs.ContentSameness.{content_equiv};
 
     ghost laws = { on_equiv (λ v. spelled_content v.rtype.code.value v.octets.items) content_equiv };
 }
@@ -224,8 +225,8 @@ impl Eq for BoxedRecordData {
 impl Hash for BoxedRecordData {
     ghost use Rattle.dns_name.specs.Hashing.{name_writes};
     ghost use Rattle.dns_rdata.specs.Alike.{content_writes};
-    ghost use Rattle.dns_rdata.specs.Boxed.{spelled_content};
-    ghost use Rattle.dns_rdata.specs.ContentSameness.{spelled_alike};
+    ghost use Rattle.dns_boxed.specs.Boxed.{spelled_content};
+    ghost use Rattle.dns_boxed.specs.ContentSameness.{spelled_alike};
 
     ghost hash_input = { λ v. content_writes name_writes (spelled_content v.rtype.code.value v.octets.items) };
 

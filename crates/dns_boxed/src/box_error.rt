@@ -16,7 +16,7 @@ pub enum BoxError {
 }
 
 impl From<AllocError> for BoxError {
-    ghost use Rattle.dns_rdata.specs.declared.box_error.BoxError.TheVariants.{Memory};
+    ghost use Rattle.dns_boxed.specs.declared.box_error.BoxError.TheVariants.{Memory};
 
     ghost from_gives = { λ _ e. e ≡ Memory };
 

@@ -14,8 +14,9 @@ use Rattle.dns_record.specs.Formats.{rdata_format, format_txt}
 use Rattle.dns_record.specs.CharacterStrings.{character_string, character_strings}
 use Rattle.dns_record.specs.TypeBitMaps.{bitmap, some_bitmap}
 use Rattle.dns_record.proofs.Stepped.{stepped}
-use Rattle.dns_rdata.specs.Boxed.{is_readable, spelled_fields}
-use Rattle.dns_rdata.specs.FormatLemmas.{put_in, spelled_is}
+use Rattle.dns_boxed.specs.Boxed.{is_readable, spelled_fields}
+use Rattle.dns_rdata.proofs.FormatLemmas.{put_in}
+use Rattle.dns_boxed.specs.ReadableOctets.{spelled_is}
 
 -- a field that is read for a kind
 abbrev pub OfKind : Kind → Field → Type 0

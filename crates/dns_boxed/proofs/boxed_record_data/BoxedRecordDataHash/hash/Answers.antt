@@ -4,8 +4,8 @@ use Rattle.dns_wire.specs.Names.{name_labels}
 use Rattle.dns_name.specs.Hashing.{name_writes}
 use Rattle.dns_name.specs.declared.name.Name.{Name}
 use Rattle.dns_rdata.specs.Alike.{content_of, content_writes}
-use Rattle.dns_rdata.proofs.AlikeContent.{content_spelled, fed_named}
-use Rattle.dns_rdata.proofs.boxed_record_data.BoxedRecordDataHash.hash.Goals as goal
+use Rattle.dns_boxed.proofs.AlikeContent.{content_spelled, fed_named}
+use Rattle.dns_boxed.proofs.boxed_record_data.BoxedRecordDataHash.hash.Goals as goal
 
 abbrev labels : Name → List (List ℕ)
 labels name = name_labels name.slice.now

@@ -7,11 +7,11 @@ use Rattle.dns_name.specs.declared.name.Name.{Name}
 use Rattle.dns_record.specs.Fields.{Field, named_by, canonical_octets}
 use Rattle.dns_record.specs.InMessage.{fields_write}
 use Rattle.dns_rdata.specs.Alike.{Content, content_of, same_name, same_content, content_writes}
-use Rattle.dns_rdata.specs.Boxed.{spelled_content}
+use Rattle.dns_boxed.specs.Boxed.{spelled_content}
 use Rattle.dns_rdata.specs.Data.{data_fields}
-use Rattle.dns_rdata.proofs.AlikeContent.{content_named, content_spelled, same_named, fed_named}
+use Rattle.dns_boxed.proofs.AlikeContent.{content_named, content_spelled, same_named, fed_named}
 use Rattle.dns_rdata.proofs.CompressedData.{compressible_writes}
-use Rattle.dns_rdata.proofs.laws.boxed_data_are_as_read.Goals as goal
+use Rattle.dns_boxed.proofs.laws.boxed_data_are_as_read.Goals as goal
 
 abbrev labels : Name → List (List ℕ)
 labels name = name_labels name.slice.now

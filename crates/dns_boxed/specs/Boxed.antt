@@ -8,8 +8,8 @@ use Rattle.dns_record.specs.Fields.{Field, named_by}
 use Rattle.dns_record.specs.Formats.{has_rdata_format}
 use Rattle.dns_rdata.specs.Alike.{Content}
 use Rattle.dns_rdata.specs.Data.{data_fields, IsDataOf}
-use Rattle.dns_rdata.specs.declared.box_error.BoxError.{BoxError}
-use Rattle.dns_rdata.specs.declared.box_error.BoxError.TheVariants.{TooLong, Unreadable, Memory}
+use Rattle.dns_boxed.specs.declared.box_error.BoxError.{BoxError}
+use Rattle.dns_boxed.specs.declared.box_error.BoxError.TheVariants.{TooLong, Unreadable, Memory}
 use Rattle.dns_rdata.specs.declared.record_data.RecordData.{RecordData}
 
 -- the RDATA format of the type reads all the octets

@@ -1,0 +1,2 @@
+-- The crate's own lemmas.
+pub mod AlikeContent
