@@ -238,7 +238,7 @@ fn takes_zeros(until: u32) -> bool {
 #[test]
 fn cookie_of_eight_zeros(rt: HostRuntime) {
     let mut octets = [0; 24];
-    let is_given = responds_with_zeros(&mut octets) && octets == OF_ZEROS;
+    let is_given = responds_with_zeros(&mut octets) && octets.as_slice() == OF_ZEROS;
     holds(&rt, is_given, "cookie-of-eight-zeros: 24 octets");
     let is_refused = !responds_with_zeros(&mut octets[..23]);
     holds(&rt, is_refused, "cookie-of-eight-zeros: 23 octets");

@@ -17,11 +17,7 @@ fn splits(octets: &[u8], string: &[u8], rest: &[u8]) -> bool {
 
 #[test]
 fn reads_strings(rt: HostRuntime) {
-    holds(
-        &rt,
-        splits(b"\x05Hello!", b"Hello", b"!"),
-        "charstr-hello",
-    );
+    holds(&rt, splits(b"\x05Hello!", b"Hello", b"!"), "charstr-hello");
 }
 
 /// Whether the text is read as the string with these octets, the length octet first.

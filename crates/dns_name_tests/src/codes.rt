@@ -43,12 +43,7 @@ fn prints_types(rt: HostRuntime) {
 }
 
 /// Classes by their numbers, and what they print.
-const CLASSES: &[(u16, &str)] = &[
-    (1, "IN"),
-    (3, "CH"),
-    (2, "CLASS2"),
-    (65535, "CLASS65535"),
-];
+const CLASSES: &[(u16, &str)] = &[(1, "IN"), (3, "CH"), (2, "CLASS2"), (65535, "CLASS65535")];
 
 #[test]
 fn prints_classes(rt: HostRuntime) {

@@ -21,10 +21,7 @@ fn lists_numbers(alloc: Global) -> bool {
 
 /// Whether a fourth number is missing, and memory is not.
 fn refuses_more(alloc: Global) -> bool {
-    matches!(
-        split_list::<U16>(alloc, OCTETS, 4),
-        Err(ListError::Parse)
-    )
+    matches!(split_list::<U16>(alloc, OCTETS, 4), Err(ListError::Parse))
 }
 
 /// Whether 65,535 octets are read as a list, the most that a length of two octets counts.
