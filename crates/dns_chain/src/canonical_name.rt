@@ -47,10 +47,9 @@ pub fn read_unchained_name(contents: &[u8], start: usize, buffer: &mut [u8]) -> 
             Err(_) => return None,
             Ok(LabelType::Root) => {
                 put_root(buffer, size);
-                let end = cursor.end.unwrap_or(at + 1);
                 return Some(NameSpan {
                     size: size + 1,
-                    end,
+                    end: cursor.end.unwrap(),
                 });
             }
             Ok(LabelType::Label(label)) => {

@@ -22,13 +22,13 @@ pub struct FinalTargets<'a> {
 
 impl<'a> Model for FinalTargets<'a> {
     ghost use Rattle.dns_wire.specs.Octets.{Octets};
-    ghost use Rattle.dns_chain.specs.Chains.{AreFinal};
+    ghost use Rattle.dns_chain.specs.Chains.{AreFinalTargets};
 
     ghost Value = { Octets };
 
     ghost view = { λ t. t.contents.now };
 
-    ghost invariant = { λ t. AreFinal t.contents.now t.targets.items };
+    ghost invariant = { λ t. AreFinalTargets t.contents.now t.targets.items };
 }
 
 /// The final target of a place, after the places whose final targets these are.
@@ -67,9 +67,10 @@ impl<'a> FinalTargets<'a> {
         self.contents
     }
 
-    /// Where a pointer to the place leads in the end.
+    /// Where a pointer to the place leads in the end. To a place after the contents or after the last one there is no pointer.
     fn final_target(&self, place: usize) -> usize
-        ensures { Leads self.now place result }
+        ensures reached { Leads self.now place result }
+        ensures last { place < length self.now → place ≤ LAST_PLACE → IsFinal self.now place result }
     {
         match self.targets.get(place) {
             Some(target) => usize::from(*target),
@@ -94,7 +95,7 @@ impl<'a> FinalTargets<'a> {
                 LabelType::Root => {
                     copy_at(&[0], &mut buffer, size);
                     let name = NameBuf::from_buffer(buffer, size + 1);
-                    return Ok((name, cursor.end.unwrap_or(at + 1)));
+                    return Ok((name, cursor.end.unwrap()));
                 }
                 LabelType::Label(label) => {
                     if size + 1 + label >= Name::MAX_SIZE {

@@ -11,5 +11,5 @@ mod unchained;
 
 pub use canonical_name::{NameSpan, read_unchained_name};
 pub use final_targets::FinalTargets;
-pub use laws::unchained_names_take_few_steps;
+pub use laws::{equal_spans, unchained_names_take_few_steps};
 pub use unchained::{has_chained_name, unchained_end};

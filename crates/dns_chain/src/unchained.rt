@@ -1,9 +1,10 @@
 //! A first look at a name in a message.
 
-ghost use Rattle.std.specs.Prelude.{◌≡◌, ◌⊎◌, ℕ, IfSome, IfNone, OnSome, IsFalse};
+ghost use Rattle.std.specs.Prelude.{◌≡◌, ◌⊎◌, ◌↔◌, ℕ, IfSome, IfNone, OnSome, IsFalse};
 ghost use Rattle.dns_wire.specs.Octets.{Labels};
 ghost use Rattle.dns_wire.specs.Pointers.{NameAt};
-ghost use Rattle.dns_chain.specs.Chains.{ChainedFrom};
+ghost use Rattle.dns_record.specs.Formats.{rdata_format};
+ghost use Rattle.dns_chain.specs.Chains.{AreUnchained, ChainedFrom, HasUnchainedNames};
 
 use dns_name::Name;
 use dns_record::RType;
@@ -19,10 +20,9 @@ pub fn unchained_end(contents: &[u8], start: usize) -> Option<usize>
     let mut size = 1;
     let mut cursor = NameCursor::new(start);
     loop {
-        let at = cursor.at;
         match cursor.next_label_type(contents) {
             Err(_) => return None,
-            Ok(LabelType::Root) => return Some(cursor.end.unwrap_or(at + 1)),
+            Ok(LabelType::Root) => return Some(cursor.end.unwrap()),
             Ok(LabelType::Label(label)) => {
                 size += 1 + label;
                 if size > Name::MAX_SIZE {
@@ -38,11 +38,13 @@ pub fn unchained_end(contents: &[u8], start: usize) -> Option<usize>
     }
 }
 
-/// Whether a name in the data of this type that begin at a place goes through a chain of pointers, or is not read.
-fn has_chained_data(contents: &[u8], start: usize, rtype: RType) -> bool {
+/// Whether a name that may have pointers, in the data of this type that begin at a place, goes through a chain of pointers, or is not read.
+fn has_chained_data(contents: &[u8], start: usize, rtype: RType) -> bool
+    ensures { IsFalse result ↔ AreUnchained (rdata_format rtype.code.value) contents.now start }
+{
     match rtype {
         RType::NS | RType::CNAME | RType::PTR => unchained_end(contents, start).is_none(),
-        RType::MX => start < contents.len() && unchained_end(contents, start + 2).is_none(),
+        RType::MX => start >= contents.len() || unchained_end(contents, start + 2).is_none(),
         RType::SOA | RType::RP => match unchained_end(contents, start) {
             Some(second) => unchained_end(contents, second).is_none(),
             None => true,
@@ -51,11 +53,9 @@ fn has_chained_data(contents: &[u8], start: usize, rtype: RType) -> bool {
     }
 }
 
-/// Whether a name of the record at a place, its owner or one in its data, goes through a chain of pointers, or is not read. Only its owner is in the
-/// contract: where this is false, the owner is a name, and none of its pointers leads to another pointer.
+/// Whether a name of the record at a place, its owner or one in its data that may have pointers, goes through a chain of pointers, or is not read.
 pub fn has_chained_name(contents: &[u8], start: usize) -> bool
-    ensures name { IsFalse result → (labels : Labels) × (end : ℕ) × NameAt contents.now start labels end }
-    ensures unchained { IsFalse result → ¬ ChainedFrom contents.now start start }
+    ensures { IsFalse result ↔ HasUnchainedNames contents.now start }
 {
     match unchained_end(contents, start) {
         Some(end) => match RType::split_message_bytes(contents, end) {

@@ -7,11 +7,14 @@ use Rattle.dns_wire.proofs.Lowered.{lower_wire}
 use Rattle.dns_wire.proofs.Spelled.{name_octets}
 use Rattle.dns_name.proofs.Followed.{followed_bad, followed_none, followed_root, followed_label, followed_long, followed_pointer}
 use Rattle.dns_chain.specs.Chains.ChainedFrom.{at_label, at_pointer, to_pointer}
-use Rattle.dns_chain.proofs.Chaining.{chained_label, chained_pointer, chained_root}
+use Rattle.dns_chain.proofs.Chaining.{chained_label, chained_pointer, chained_root, root_end, root_ends}
 use Rattle.dns_chain.proofs.canonical_name.read_unchained_name.Goals as goal
 
 pub loop-buffer-init : goal.loop-buffer-init
 loop-buffer-init c = record { long = c.requires.room; room = omega arith; begun = rw c.new-cursor.ensures (omega arith); followed = rw c.new-cursor.ensures (followed_none _ _); back = rw c.new-cursor.ensures (λ chained. chained); on = rw c.new-cursor.ensures (λ chained. chained) }
+
+pub unwrap-requires : goal.unwrap-requires
+unwrap-requires c = root_ends c.loop-buffer.cursor c.next_label_type.new.self (rw c.in-Ok-Root.field-0-is at c.in-Ok-Root.ensures.moves)
 
 pub returns-in-Ok-Root-clause-read : goal.returns-in-Ok-Root-clause-read
 returns-in-Ok-Root-clause-read c =
@@ -20,7 +23,7 @@ returns-in-Ok-Root-clause-read c =
     let name = name_octets octets (name_labels octets) found.whole in
     let long : length octets ≡ c.loop-buffer.size + 1 = omega (arith, length-append (take c.loop-buffer.size c.loop-buffer.buffer) (0 ∷ []), length-take c.loop-buffer.size c.loop-buffer.buffer, c.loop-buffer.invariant.long, c.loop-buffer.invariant.room) in (
       name_labels octets,
-      rw (c.unwrap_or-end.ensures, rw c.in-Ok-Root.field-0-is at c.in-Ok-Root.ensures.moves) found.reads,
+      rw (root_end c.loop-buffer.cursor c.next_label_type.new.self c.unwrap.result (rw c.in-Ok-Root.field-0-is at c.in-Ok-Root.ensures.moves) c.unwrap.ensures) found.reads,
       name.0,
       omega (arith, long, ap length name.1),
       c.put_root.ensures.name ∙ ap str_to_ascii_lowercase name.1 ∙ lower_wire (name_labels octets) name.0.sizes,

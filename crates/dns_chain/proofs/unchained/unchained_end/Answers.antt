@@ -5,7 +5,7 @@ use Rattle.dns_wire.proofs.Following.{name_at_is}
 use Rattle.dns_wire.specs.Names.{name_labels}
 use Rattle.dns_name.proofs.Followed.{followed_none, followed_bad, followed_root, followed_label, followed_long, followed_pointer, nothing_follows}
 use Rattle.dns_chain.specs.Chains.ChainedFrom.{at_label, at_pointer, to_pointer}
-use Rattle.dns_chain.proofs.Chaining.{chained_label, chained_pointer, chained_root}
+use Rattle.dns_chain.proofs.Chaining.{chained_label, chained_pointer, chained_root, root_end, root_ends}
 use Rattle.dns_chain.proofs.unchained.unchained_end.Goals as goal
 
 pub loop-label-init : goal.loop-label-init
@@ -16,11 +16,14 @@ returns-in-Err-clause-none c =
     let f = c.loop-label.invariant.followed in
     inr (nothing_follows _ _ (followed_bad _ _ _ _ _ _ f.2 c.in-Err.ensures.exact))
 
+pub unwrap-requires : goal.unwrap-requires
+unwrap-requires c = root_ends c.loop-label.cursor c.next_label_type.new.self (rw c.in-Ok-Root.field-0-is at c.in-Ok-Root.ensures.moves)
+
 pub returns-in-Ok-Root-clause-some : goal.returns-in-Ok-Root-clause-some
 returns-in-Ok-Root-clause-some c =
     let f = c.loop-label.invariant.followed in
     let found = followed_root _ _ _ _ _ _ f.2 (rw c.in-Ok-Root.field-0-is at c.in-Ok-Root.ensures.exact) (rw c.in-Ok-Root.field-0-is at c.in-Ok-Root.ensures.fits) in
-    (name_labels (f.0 ++ 0 ∷ []), rw (c.unwrap_or.ensures, rw c.in-Ok-Root.field-0-is at c.in-Ok-Root.ensures.moves) (name_at_is _ _ _ _ found.reads))
+    (name_labels (f.0 ++ 0 ∷ []), rw (root_end c.loop-label.cursor c.next_label_type.new.self c.unwrap.result (rw c.in-Ok-Root.field-0-is at c.in-Ok-Root.ensures.moves) c.unwrap.ensures) (name_at_is _ _ _ _ found.reads))
 
 pub returns-then-size-gt-MAX_SIZE-clause-none : goal.returns-then-size-gt-MAX_SIZE-clause-none
 returns-then-size-gt-MAX_SIZE-clause-none c =

@@ -3,7 +3,7 @@ use Rattle.std.specs.Prelude.{unwrap_or, slice_range}
 use Rattle.std.proofs.lemmas.Result.{err_from_is_err_and}
 use Rattle.std.proofs.lemmas.List.{length-take, length-drop}
 use Rattle.dns_name.proofs.Followed.{Reads, followed_none, followed_bad, followed_root, followed_label, followed_long, followed_pointer}
-use Rattle.dns_chain.proofs.Chaining.{leads_within, leads_back, followed_final}
+use Rattle.dns_chain.proofs.Chaining.{leads_within, leads_back, followed_final, root_end, root_ends}
 use Rattle.dns_chain.proofs.final_targets.FinalTargets.split_name.Goals as goal
 use Rattle.dns_chain.proofs.final_targets.FinalTargets.split_name.Goals.{In-Root}
 
@@ -24,10 +24,13 @@ from_buffer-name-requires-clause-name c =
     let f = found (goal.at.from_buffer-name-requires-clause-name c).In-Root in
     rw c.copy_at.ensures.prefix f.whole
 
+pub unwrap-requires : goal.unwrap-requires
+unwrap-requires c = root_ends c.loop-buffer.cursor c.next_label_type.new.self (rw c.in-Root.is at c.in_ok-next_label_type.ensures.moves)
+
 pub returns-in-Root-clause-exact : goal.returns-in-Root-clause-exact
 returns-in-Root-clause-exact c =
     let f = found (goal.at.returns-in-Root-clause-exact c).In-Root in
-    rw (c.unwrap_or.ensures, rw c.in-Root.is at c.in_ok-next_label_type.ensures.moves, c.from_buffer-name.ensures, c.copy_at.ensures.prefix) (rw c.self.view_is at f.reads)
+    rw (root_end c.loop-buffer.cursor c.next_label_type.new.self c.unwrap.result (rw c.in-Root.is at c.in_ok-next_label_type.ensures.moves) c.unwrap.ensures, c.from_buffer-name.ensures, c.copy_at.ensures.prefix) (rw c.self.view_is at f.reads)
 
 pub returns-then-size-label-ge-MAX_SIZE-clause-exact : goal.returns-then-size-label-ge-MAX_SIZE-clause-exact
 returns-then-size-label-ge-MAX_SIZE-clause-exact c =
@@ -50,14 +53,14 @@ loop-buffer-preserved-in-Label c =
 pub loop-buffer-smaller : goal.loop-buffer-smaller
 loop-buffer-smaller c =
     let fits = rw c.in-Pointer.is at c.in_ok-next_label_type.ensures.fits in
-    omega (arith, fits.1, leads_back _ _ _ c.final_target-place.ensures)
+    omega (arith, fits.1, leads_back _ _ _ c.final_target-place.ensures.reached)
 
 pub loop-buffer-preserved : goal.loop-buffer-preserved
 loop-buffer-preserved c =
     let fits = rw c.in-Pointer.is at c.in_ok-next_label_type.ensures.fits in
     let moves = rw c.in-Pointer.is at c.in_ok-next_label_type.ensures.moves in
     let exact = rw c.in-Pointer.is at c.in_ok-next_label_type.ensures.exact in
-    let led = rw (← c.self.view_is) at c.final_target-place.ensures in
+    let led = rw (← c.self.view_is) at c.final_target-place.ensures.reached in
     let within = rw (← c.self.view_is) at c.requires in
     let room : c.in-Pointer.target + 2 ≤ c.args.end = omega (arith, fits.0, fits.1, c.loop-buffer.invariant.begun, length-take c.args.end c.self.inside.contents.now) in
     record {
