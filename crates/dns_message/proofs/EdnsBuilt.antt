@@ -100,7 +100,7 @@ lowercase_exact there r alike root unchanged =
     λ i. record { owner = owner i; rtype = rtype i; class = class i; ttl = ttl i; content = content i }
 
 -- the record that an EDNS record of options is
-edns_well : (e : EdnsOf (List ℕ)) → e.payload < 2 ^ 16 → e.ext_rcode < 2 ^ 8 → e.version < 2 ^ 8 → e.flags < 2 ^ 16 → AreOctets e.content → is_option_data e.content ≡ true → WellFormed (edns_value e)
+pub edns_well : (e : EdnsOf (List ℕ)) → e.payload < 2 ^ 16 → e.ext_rcode < 2 ^ 8 → e.version < 2 ^ 8 → e.flags < 2 ^ 16 → AreOctets e.content → is_option_data e.content ≡ true → WellFormed (edns_value e)
 edns_well e payload ext version flags are options =
     let whole : e.content ++ [] ≡ e.content = append-nil e.content in
     record {

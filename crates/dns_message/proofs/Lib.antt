@@ -40,6 +40,7 @@ pub mod SortedRecords
 pub mod Sound
 pub mod ItemLemmas
 pub mod KindLemmas
+pub mod Streamed
 pub mod Surviving
 pub mod ListTexts
 pub mod TextLemmas

@@ -77,6 +77,9 @@ lines_one (x ∷ xs) (y ∷ ys) are also e =
     let others = lines_one xs ys are.1 also.1 parts.1 in
     λ i. first i ∷ others i
 
+pub lists_one : (ls ks : List (List ℕ)) → All AreOctets ls → All AreOctets ks → (lines ls ≡ lines ks) ↔ (ls ≡ ks)
+lists_one ls ks are also = (lines_one ls ks (recursion_from_All AreOctets ls are) (recursion_from_All AreOctets ks also), λ e. ap lines e)
+
 -- ---- canonical lists
 
 canonical_list_octets : (rs : List RecordValue) → All WellFormed rs → AllByRecursion AreOctets (canonical_list rs)

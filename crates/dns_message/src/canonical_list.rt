@@ -16,13 +16,21 @@ pub fn collapse<'a>(
     mut records: Vec<CanonicalRecord<'a>>,
 ) -> Result<Vec<CanonicalRecord<'a>>, AllocError>
     ensures octets { IfOk result (λ not_opt. map canonical_wire not_opt.items ≡ map canonical_wire (collapsed records.entry.items)) }
-
-    // A record that `CanonicalRecord::of` gave is of another type than OPT.
-    ensures canonical_list { IfOk result (λ not_opt. All (λ r. is_not_opt r ≡ true) records.entry.items → map canonical_wire not_opt.items ≡ canonical_list records.entry.items) }
+    ensures canonical_list { IfOk result (λ not_opt. map canonical_wire not_opt.items ≡ canonical_list records.entry.items) }
 {
+    none_is_opt(&records);
     records.sort_unstable();
     records.dedup_by(|later, first| later.alike(first));
     Ok(records)
+}
+
+/// Each record is of another type than OPT, as its type says.
+fn none_is_opt(records: &[CanonicalRecord<'_>])
+    ensures { All (λ r. is_not_opt r ≡ true) records.now }
+{
+    for record in records {
+        let _ = record.rtype();
+    }
 }
 
 /// References to the records, in the order and as often as `collapse` gives them. The records stay where they are, since each takes
@@ -33,7 +41,9 @@ pub fn collapsed<'r, 'a>(
 ) -> Result<Vec<&'r CanonicalRecord<'a>>, AllocError>
     ensures keys { IfOk result (λ not_opt. map (λ r. sort_key r.now) not_opt.items ≡ map sort_key (collapsed records.now)) }
     ensures octets { IfOk result (λ not_opt. map (λ r. canonical_wire r.now) not_opt.items ≡ map canonical_wire (collapsed records.now)) }
+    ensures canonical_list { IfOk result (λ not_opt. map (λ r. canonical_wire r.now) not_opt.items ≡ canonical_list records.now) }
 {
+    none_is_opt(records);
     let keys = owner_keys(alloc, records)?;
     let keyed = with_keys(alloc, records, &keys)?;
     let order = collapse_keyed(keyed);

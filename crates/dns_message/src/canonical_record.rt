@@ -40,7 +40,7 @@ impl<'a> Model for CanonicalRecord<'a> {
 
     ghost view = { λ r. record_value r.found };
 
-    ghost invariant = { λ r. AreSound r.found };
+    ghost invariant = { λ r. (r.found.rtype.code.value ≢ opt_number) × AreSound r.found };
 }
 
 impl<'a> CanonicalRecord<'a> {

@@ -3,7 +3,7 @@
 ghost use Rattle.std.specs.Prelude.{◌≡◌, ◌≤◌, ◌<◌, ◌⊎◌, ◌↔◌, ℕ, List, [], false, Some, None, Ok, Err, length, map, nat_eq, IsTrue, ◌&&◌};
 ghost use Rattle.std.specs.Cmp.{IsTotalOrder};
 ghost use Rattle.std.specs.Hash.{u16};
-ghost use Rattle.std.specs.List.{All, Contains};
+ghost use Rattle.std.specs.List.{All, Contains, concat};
 ghost use Rattle.std.specs.List.Sorted.{IsPermutation};
 ghost use Rattle.std.specs.declared.cmp.Ordering.TheVariants.{Equal};
 ghost use Rattle.dns_wire.specs.Hexadecimal.{lines};
@@ -153,12 +153,22 @@ pub fn equal_outputs()
         (canonical_list rs ≡ canonical_list ss) ↔ Same rs ss }
 {}
 
-/// Canonical lists have one text only if they are one (RFC 4648 section 8). So the texts of two valid messages are equal
+/// Lists of octets have one text only if they are one (RFC 4648 section 8). So the texts of two valid messages are equal
 /// exactly if their records are the same.
 pub fn canonical_texts()
+    ensures lists { (ls ks : List Octets) → All AreOctets ls → All AreOctets ks → (lines ls ≡ lines ks) ↔ (ls ≡ ks) }
     ensures one { (rs ss : List RecordValue) → All WellFormed rs → All WellFormed ss → (lines (canonical_list rs) ≡ lines (canonical_list ss)) ↔ (canonical_list rs ≡ canonical_list ss) }
     ensures messages { (m n : Octets) (rs ss : List RecordValue) → AreOctets m → AreOctets n → Valid m rs → Valid n ss →
         (lines (canonical_list rs) ≡ lines (canonical_list ss)) ↔ Same rs ss }
+{}
+
+/// Canonical octets one after another are those of one list alone, though nothing stands between two records (RFC 8976 section 3.3.1.2).
+/// So the canonical octets of two valid messages, one after another, are equal exactly if their records are the same.
+pub fn canonical_streams()
+    ensures one { (rs ss : List RecordValue) → All WellFormed rs → All WellFormed ss → (concat (canonical_list rs) ≡ concat (canonical_list ss)) ↔ (canonical_list rs ≡ canonical_list ss) }
+    ensures records { (rs ss : List RecordValue) → All WellFormed rs → All WellFormed ss → (concat (canonical_list rs) ≡ concat (canonical_list ss)) ↔ Same rs ss }
+    ensures messages { (m n : Octets) (rs ss : List RecordValue) → AreOctets m → AreOctets n → Valid m rs → Valid n ss →
+        (concat (canonical_list rs) ≡ concat (canonical_list ss)) ↔ Same rs ss }
 {}
 
 /// The items that a parser gives are those of its message, in order: one that was just made has the whole message ahead; an item

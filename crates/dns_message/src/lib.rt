@@ -46,18 +46,19 @@ pub use header::{Header, HeaderFlags, SectionCounts};
 pub use item::{MessageItem, ParsedMessageItem};
 pub use laws::{
     alike_records, canonical_lists, canonical_octets_are_read_back,
-    canonical_records_are_split_back, canonical_texts, counted_items, equal_canonical_octets,
-    equal_errors, equal_outputs, equal_positions, header_flags, items_in_words, limits,
-    order_of_records, owners_in_either_layout, parsers_read_messages, readings_in_words,
-    records_that_are_read_are_well_formed, same_records, three_kinds_of_messages,
+    canonical_records_are_split_back, canonical_streams, canonical_texts, counted_items,
+    equal_canonical_octets, equal_errors, equal_outputs, equal_positions, header_flags,
+    items_in_words, limits, order_of_records, owners_in_either_layout, parsers_read_messages,
+    readings_in_words, records_that_are_read_are_well_formed, same_records,
+    three_kinds_of_messages,
 };
 pub use message::{MAX_MESSAGE_SIZE, Message};
 pub use parser::{ItemPosition, MessageParser};
 pub use push_laws::{lists_of_pushes_are_read, results_of_pushes};
 pub use read_again::{
     built_questions_are_read, built_records_are_no_longer, built_records_are_read,
-    edns_records_are_built, layouts_are_read, prefixed_layouts_are_read, records_are_built,
-    records_with_layouts_are_built,
+    edns_records_are_built, edns_records_are_well_formed, layouts_are_read,
+    prefixed_layouts_are_read, records_are_built, records_with_layouts_are_built,
 };
 pub use records::{put_canonical, read_records};
 pub use several_laws::first_refusals_in_words;

@@ -1,6 +1,6 @@
 //! Messages.
 
-ghost use Rattle.std.specs.Prelude.{◌≡◌, ◌+◌, ◌*◌, ◌≤◌, ℕ, List, length, drop, slice_index};
+ghost use Rattle.std.specs.Prelude.{◌≡◌, ◌+◌, ◌*◌, ◌≤◌, ℕ, List, length, drop, slice_index, sum};
 ghost use Rattle.dns_wire.specs.ReadingLemmas.{plain_ends};
 ghost use Rattle.dns_wire.specs.declared.sizes.TheConstants.{HEADER_SIZE};
 ghost use Rattle.dns_wire.specs.Reading.{plain_at};
@@ -26,6 +26,7 @@ pub struct Message<'a> {
 
 impl<'a> Message<'a> {
     ghost use Rattle.dns_message.specs.Headers.{IsHeaderOf};
+    ghost use Rattle.dns_message.specs.Messages.{counts_of};
 
     /// The header.
     pub fn header(&self) -> Header
@@ -51,7 +52,10 @@ impl<'a> Message<'a> {
     }
 
     /// No fewer than its records: those that the header counts, and no more than the contents can hold.
-    pub(crate) fn most_records(&self) -> usize {
+    pub(crate) fn most_records(&self) -> usize
+        ensures counted { result ≤ sum (drop 1 (counts_of self.now.slice.now)) }
+        ensures held { FEWEST_OCTETS * result ≤ length (drop HEADER_SIZE self.now.slice.now) }
+    {
         let [_, answers, authorities, additional] = self.header().counts.as_array();
         let counted = usize::from(answers) + usize::from(authorities) + usize::from(additional);
         counted.min(self.contents().len() / FEWEST_OCTETS)

@@ -29,7 +29,7 @@ pub struct ItemPosition {
 ///     }
 /// }
 /// ```
-#[derive(Drop)]
+#[derive(Debug, Drop)]
 pub struct MessageParser<'a> {
     message: Message<'a>,
     given: usize,

@@ -1,6 +1,6 @@
 //! What is built in a message is read again.
 
-ghost use Rattle.std.specs.Prelude.{◌≡◌, ◌+◌, ◌<◌, ◌≤◌, ◌^◌, ◌++◌, ℕ, List, [], ◌∷◌, Some, length, map};
+ghost use Rattle.std.specs.Prelude.{◌≡◌, ◌+◌, ◌<◌, ◌≤◌, ◌^◌, ◌++◌, ℕ, IsTrue, List, [], ◌∷◌, Some, length, map};
 ghost use Rattle.dns_wire.specs.Compression.{FitsIn, compressed_name_writes};
 ghost use Rattle.dns_wire.specs.Names.{IsName};
 ghost use Rattle.std.specs.Int.{to_be_bytes};
@@ -24,6 +24,8 @@ ghost use Rattle.dns_message.specs.Messages.{RecordValue};
 ghost use Rattle.dns_message.specs.Seen.{edns_value};
 ghost use Rattle.dns_message.specs.WellFormed.{WellFormed};
 ghost use Rattle.dns_wire.specs.Octets.{Octets, Labels, Places};
+ghost use Rattle.dns_wire.specs.Reading.{AreOctets};
+ghost use Rattle.dns_record.specs.Options.{is_option_data};
 
 use dns_num::SizePrefix;
 use dns_wire::BuildInMessage;
@@ -69,6 +71,14 @@ pub fn edns_records_are_built<D>()
     ensures { (r : EdnsRecord D) (octets contents : Octets) (places : Places) →
         length places ≤ 128 → r.ext_rcode < 2 ^ 8 → r.version < 2 ^ 8 → flag_bits r.flags < 2 ^ 16 →
         octets_writes (edns_octets r octets) contents places ≡ built (edns_value (edns_seen (λ _. octets) r)) contents places }
+{}
+
+/// The record that an EDNS record is, if its data are options, is well formed; so a push of it is one of such a record (RFC 6891
+/// section 6.1.2).
+pub fn edns_records_are_well_formed<D>()
+    ensures { (r : EdnsRecord D) (octets : Octets) →
+        r.max_udp_payload.value < 2 ^ 16 → r.ext_rcode < 2 ^ 8 → r.version < 2 ^ 8 → flag_bits r.flags < 2 ^ 16 →
+        AreOctets octets → IsTrue (is_option_data octets) → WellFormed (edns_value (edns_seen (λ _. octets) r)) }
 {}
 
 /// A well formed record that was built in a message is read again where it is, whatever is written

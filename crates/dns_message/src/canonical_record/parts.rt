@@ -1,7 +1,8 @@
 //! The parts of a record, as they were read.
 
-ghost use Rattle.std.specs.Prelude.{◌≡◌, ◌<◌, ◌^◌};
+ghost use Rattle.std.specs.Prelude.{◌≡◌, ◌<◌, ◌^◌, true};
 ghost use Rattle.dns_rdata.specs.Data.{IsDataOf};
+ghost use Rattle.dns_message.specs.Canonical.{is_not_opt};
 ghost use Rattle.dns_message.specs.Seen.{data_seen};
 
 use crate::canonical_record::CanonicalRecord;
@@ -17,9 +18,10 @@ impl<'a> CanonicalRecord<'a> {
         &self.found.rname
     }
 
-    /// The type (RFC 1035 section 3.2.2).
+    /// The type (RFC 1035 section 3.2.2), another than OPT.
     pub fn rtype(&self) -> RType
-        ensures { result.code.value ≡ self.now.rtype }
+        ensures value { result.code.value ≡ self.now.rtype }
+        ensures not_opt { is_not_opt self.now ≡ true }
     {
         self.found.rtype
     }

@@ -1,6 +1,7 @@
-use Rattle.std.proofs.Common.{◌∙◌, ap, sym, map, List, rules}
+use Rattle.std.proofs.Common.{◌≡◌, ◌∙◌, ap, sym, subst, true, map, List, rules}
+use Rattle.std.specs.List.{All}
 use Rattle.std.proofs.lemmas.Fn.{dedup_same}
-use Rattle.dns_message.specs.Canonical.{canonical_wire}
+use Rattle.dns_message.specs.Canonical.{canonical_wire, is_not_opt}
 use Rattle.dns_message.specs.Messages.{RecordValue}
 use Rattle.dns_message.specs.Order.{are_alike, collapsed}
 use Rattle.dns_message.proofs.Collapsing.{collapsed_sorted, octets_alike, all_not_opt}
@@ -13,5 +14,5 @@ returns-clause-octets c =
     ap (map canonical_wire) left ∙ octets_alike _ (collapsed c.args.records.items) keys
 
 pub returns-clause-canonical_list : goal.returns-clause-canonical_list
-returns-clause-canonical_list c = λ not_opt.
-    returns-clause-octets c ∙ ap (λ (rs : List RecordValue). map canonical_wire (collapsed rs)) (sym (all_not_opt c.args.records.items not_opt))
+returns-clause-canonical_list c =
+    returns-clause-octets c ∙ ap (λ (rs : List RecordValue). map canonical_wire (collapsed rs)) (sym (all_not_opt c.args.records.items (subst (All (λ (r : RecordValue). is_not_opt r ≡ true)) c.deref.ensures.value c.none_is_opt.ensures)))
