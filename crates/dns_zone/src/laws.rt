@@ -1,17 +1,20 @@
 //! What follows from the definitions.
 
 ghost use Rattle.std.specs.Prelude.{◌≡◌, ◌≤◌, ◌<◌, ◌↔◌, ℕ, true, List, [], ◌∷◌, Some, None, Ok, codes, length, IsTrue};
-ghost use Rattle.std.specs.List.{Any};
+ghost use Rattle.std.specs.List.{All, Any};
 ghost use Rattle.dns_wire.specs.Hexadecimal.{SpellsNothing};
 ghost use Rattle.dns_name.specs.Text.{parsed_name};
 ghost use Rattle.dns_message.specs.Messages.{RecordValue};
 ghost use Rattle.dns_message.specs.Same.{Same};
+ghost use Rattle.dns_message.specs.WellFormed.{WellFormed};
 ghost use Rattle.dns_message.specs.declared.canon_error.CanonError.TheVariants as canon;
 ghost use Rattle.dns_wire.specs.Octets.{Octets, Labels};
 ghost use Rattle.dns_zone.specs.Texts.{HasRecords, PrintsZone, RefusesMessage, apex_of, outcome_of, texts_in, zone_outcome};
-ghost use Rattle.dns_zone.specs.Zone.{HasSoa, IsInZone, has_soa, in_zone, is_in_zone, zone_text};
+ghost use Rattle.dns_zone.specs.Zone.{HasSoa, IsInZone, has_soa, in_zone, is_in_zone, stream, zone_text};
 ghost use Rattle.dns_zone.specs.declared.refusal.TheConstants.{ZONE_TEXT_LIMIT};
 
+use crate::digest::ZoneDigest;
+use crate::refusal::Refusal;
 use crate::status::ZoneStatus;
 
 /// A record is a member exactly if it is in the zone: of class IN, of another type than OPT, and at the apex or below it, and at the
@@ -41,6 +44,13 @@ pub fn same_zones()
         PrintsZone apex t printed → PrintsZone apex u other → printed ≡ other }
 {}
 
+/// What a digest is taken of tells the records in the zone, though nothing stands between two records: two lists of well formed
+/// records, and so two inputs, have the same octets to be digested exactly if they have the same records in the zone (RFC 8976 section 3.3.1.2).
+pub fn equal_streams()
+    ensures records { (apex : Labels) (rs ss : List RecordValue) → All WellFormed rs → All WellFormed ss → (stream apex rs ≡ stream apex ss) ↔ Same (in_zone apex rs) (in_zone apex ss) }
+    ensures texts { (apex : Labels) (t u : Octets) (rs ss : List RecordValue) → HasRecords t rs → HasRecords u ss → (stream apex rs ≡ stream apex ss) ↔ Same (in_zone apex rs) (in_zone apex ss) }
+{}
+
 /// The words of the command are `zone` and the text of a name, and no others.
 pub fn words_of_zones()
     ensures { (words : List Octets) (apex : Labels) → (apex_of words ≡ Some apex) ↔ ((text : Octets) × (words ≡ codes "zone" ∷ text ∷ []) × (parsed_name text ≡ Ok apex)) }
@@ -63,9 +73,11 @@ pub fn zone_statuses_in_words()
     ensures usage { (t : Octets) → zone_outcome None t ≡ outcome_of ZoneStatus.Usage }
 {}
 
-/// Statuses are equal exactly if they are the same.
+/// Statuses are equal exactly if they are the same, and so are refusals and digests.
 pub fn equal_statuses()
-    ensures { (a b : _) → IsTrue (⟦<ZoneStatus as PartialEq>⟧.eq a b) ↔ (a ≡ b) }
+    ensures status { (a b : _) → IsTrue (⟦<ZoneStatus as PartialEq>⟧.eq a b) ↔ (a ≡ b) }
+    ensures refusal { (a b : _) → IsTrue (⟦<Refusal as PartialEq>⟧.eq a b) ↔ (a ≡ b) }
+    ensures digest { (a b : _) → IsTrue (⟦<ZoneDigest as PartialEq>⟧.eq a b) ↔ (a ≡ b) }
 {}
 
 /// The text of a zone has at most 4,194,304 octets.

@@ -12,8 +12,8 @@ mod status;
 pub use command::run_zone;
 pub use digest::{ZoneDigest, digest_of, zone_digest};
 pub use laws::{
-    apex_soas, equal_statuses, equal_zones, limits, members_in_words, same_zones, words_of_zones,
-    zone_statuses_in_words,
+    apex_soas, equal_statuses, equal_streams, equal_zones, limits, members_in_words, same_zones,
+    words_of_zones, zone_statuses_in_words,
 };
 pub use refusal::{Refusal, ZONE_TEXT_LIMIT};
 pub use status::ZoneStatus;
