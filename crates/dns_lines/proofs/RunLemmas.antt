@@ -1,5 +1,5 @@
 -- How a run over lines ends.
-use Rattle.std.proofs.Common.{◌≡◌, ◌≢◌, ℕ, ◌-◌, ◌^◌, ◌≤◌, Bool, true, false, List, [], ◌++◌, length, take, take_all, Option, Some, None, IfSome, IsSome, Result, Ok, Err, is_err, OnOk, OnErr, refl, sym, ap, subst, ◌∙◌, append-nil, arith}
+use Rattle.std.proofs.Common.{◌≡◌, ◌≢◌, ℕ, ◌-◌, ◌^◌, ◌≤◌, Bool, true, false, List, [], ◌++◌, length, take, take_all, Option, Some, None, IfSome, IsSome, Result, Ok, Err, is_err, OnOk, OnErr, inl, inr, refl, sym, ap, subst, ◌∙◌, append-nil, arith}
 use Rattle.std.specs.Io.KnownBytes.{Appends, Consumes, IsAtEnd}
 use Rattle.std.proofs.KnownBytes.{Appends-nil, Consumes-trans}
 use Rattle.dns_wire.specs.Outside.{BecomesFlag, HasCause, Puts, Rose, WritesPrefix}
@@ -8,7 +8,7 @@ use Rattle.dns_wire.specs.declared.io.traits.Sink.{Ghosts as SinkGhosts}
 use Rattle.dns_text.specs.Endings.{Reported}
 use Rattle.dns_lines.specs.Lines.{IsLine}
 use Rattle.dns_lines.specs.Pieces.{AnswersFront, AnswersPiece, EndsWith}
-use Rattle.dns_lines.specs.Runs.{AnswersAll, AnswersEnded, AnswersPrefix, AnswersSome, Ended}
+use Rattle.dns_lines.specs.Runs.{AnswersAll, AnswersEnded, AnswersPrefix, AnswersSome, Ended, Settled}
 use Rattle.dns_lines.specs.declared.command.LineCommand.{LineCommand}
 use Rattle.dns_lines.specs.declared.status.LinesStatus.{LinesStatus}
 use Rattle.dns_lines.specs.declared.status.LinesStatus.TheVariants.{Done, TooLong, Usage, ReadFault, WriteFault, Memory}
@@ -59,19 +59,24 @@ either_front command kept piece old new kept' (Err error) pieces fronts = fronts
 
 -- ---- the flag of a sink
 
-pub flag_same : (a : Option Bool) → IfSome a (λ _. IsSome a)
-flag_same None = tt
-flag_same (Some x) = refl
+flag_known : {K : Type 0} (k : SinkGhosts K) (sink sink' : K) → Settled k sink sink' → IfSome (k.is_flushed sink) (λ _. IsSome (k.is_flushed sink'))
+flag_known k sink sink' settled = elim settled [ inl becomes ↦ by_flag (k.is_flushed sink) (k.is_flushed sink') becomes | inr same ↦ subst (λ x. IfSome (k.is_flushed sink) (λ _. IsSome (k.is_flushed x))) (sym same) (flag_same (k.is_flushed sink)) ] where
+  by_flag : (a b : Option Bool) → BecomesFlag a b true → IfSome a (λ _. IsSome b)
+  by_flag None b becomes = tt
+  by_flag (Some x) b becomes = rw becomes refl
 
-pub flag_more : (a b c : Option Bool) → IfSome a (λ _. IsSome b) → BecomesFlag b c true → IfSome a (λ _. IsSome c)
-flag_more None b c known becomes = tt
-flag_more (Some x) None c known becomes = absurd cc
-flag_more (Some x) (Some y) c known becomes = rw becomes refl
+  flag_same : (a : Option Bool) → IfSome a (λ _. IsSome a)
+  flag_same None = tt
+  flag_same (Some x) = refl
 
-pub flag_becomes : (a b c : Option Bool) → IfSome a (λ _. IsSome b) → BecomesFlag b c true → BecomesFlag a c true
+flag_becomes : (a b c : Option Bool) → IfSome a (λ _. IsSome b) → BecomesFlag b c true → BecomesFlag a c true
 flag_becomes None b c known becomes = tt
 flag_becomes (Some x) None c known becomes = absurd cc
 flag_becomes (Some x) (Some y) c known becomes = becomes
+
+-- what is flushed after what had arrived, or after nothing
+pub flushed_after : {K : Type 0} (k : SinkGhosts K) (sink mid sink' : K) → Settled k sink mid → BecomesFlag (k.is_flushed mid) (k.is_flushed sink') true → BecomesFlag (k.is_flushed sink) (k.is_flushed sink') true
+flushed_after k sink mid sink' settled becomes = flag_becomes (k.is_flushed sink) (k.is_flushed mid) (k.is_flushed sink') (flag_known k sink mid settled) becomes
 
 -- ---- notes
 
@@ -88,13 +93,14 @@ reported n note notes notes' status (Err e) quiet puts cause = record { quiet = 
 -- ---- the end of a run
 
 module _ {S K : Type 0} (s : SourceGhosts S) (k : SinkGhosts K) (command : LineCommand) (source source' : S) (sink sink' : K) (text : List ℕ) (read : Consumes (s.left source) (s.left source') text) where
-  pub out_of_memory : AnswersSome command text (k.written sink) (k.written sink') → s.faults source' ≡ s.faults source → k.faults sink' ≡ k.faults sink → Ended s k command source source' sink sink' Memory
-  out_of_memory written calm still = record {
+  pub out_of_memory : AnswersSome command text (k.written sink) (k.written sink') → s.faults source' ≡ s.faults source → k.faults sink' ≡ k.faults sink → Settled k sink sink' → Ended s k command source source' sink sink' Memory
+  out_of_memory written calm still settled = record {
     text = text;
     read = read;
     written = written;
     emptied = λ e. absurd cc;
     flushed = λ e. absurd cc;
+    settled = λ other. settled;
     read_fault = λ e. absurd cc;
     read_steady = λ other. calm;
     write_fault = λ e. absurd cc;
@@ -103,13 +109,14 @@ module _ {S K : Type 0} (s : SourceGhosts S) (k : SinkGhosts K) (command : LineC
     command_is = λ e. absurd cc;
   }
 
-  pub source_failed : AnswersEnded command text (k.written sink) (k.written sink') → Rose (s.faults source) (s.faults source') → k.faults sink' ≡ k.faults sink → Ended s k command source source' sink sink' ReadFault
-  source_failed written rose still = record {
+  pub source_failed : AnswersEnded command text (k.written sink) (k.written sink') → Rose (s.faults source) (s.faults source') → k.faults sink' ≡ k.faults sink → Settled k sink sink' → Ended s k command source source' sink sink' ReadFault
+  source_failed written rose still settled = record {
     text = text;
     read = read;
     written = written;
     emptied = λ e. absurd cc;
     flushed = λ e. absurd cc;
+    settled = λ other. settled;
     read_fault = λ e. rose;
     read_steady = λ other. absurd (other refl);
     write_fault = λ e. absurd cc;
@@ -125,6 +132,7 @@ module _ {S K : Type 0} (s : SourceGhosts S) (k : SinkGhosts K) (command : LineC
     written = written;
     emptied = λ e. absurd cc;
     flushed = λ e. absurd cc;
+    settled = λ other. absurd (other refl);
     read_fault = λ e. absurd cc;
     read_steady = λ other. calm;
     write_fault = λ e. rose;
@@ -133,13 +141,14 @@ module _ {S K : Type 0} (s : SourceGhosts S) (k : SinkGhosts K) (command : LineC
     command_is = λ e. absurd cc;
   }
 
-  pub never_ended : AnswersEnded command text (k.written sink) (k.written sink') → s.faults source' ≡ s.faults source → k.faults sink' ≡ k.faults sink → 2 ^ 64 - 1 ≤ length text → Ended s k command source source' sink sink' TooLong
-  never_ended written calm still long = record {
+  pub never_ended : AnswersEnded command text (k.written sink) (k.written sink') → s.faults source' ≡ s.faults source → k.faults sink' ≡ k.faults sink → 2 ^ 64 - 1 ≤ length text → Settled k sink sink' → Ended s k command source source' sink sink' TooLong
+  never_ended written calm still long settled = record {
     text = text;
     read = read;
     written = written;
     emptied = λ e. absurd cc;
     flushed = λ e. absurd cc;
+    settled = λ other. settled;
     read_fault = λ e. absurd cc;
     read_steady = λ other. calm;
     write_fault = λ e. absurd cc;
@@ -156,6 +165,7 @@ module _ {S K : Type 0} (s : SourceGhosts S) (k : SinkGhosts K) (command : LineC
     written = written;
     emptied = λ e. end;
     flushed = λ e. flag;
+    settled = λ other. inl flag;
     read_fault = λ e. absurd cc;
     read_steady = λ other. calm;
     write_fault = λ e. absurd cc;
@@ -168,29 +178,29 @@ module _ {S K : Type 0} (s : SourceGhosts S) (k : SinkGhosts K) (command : LineC
 pub nothing_begun : {S K : Type 0} (s : SourceGhosts S) (k : SinkGhosts K) (command : LineCommand) (source : S) (sink : K) → Ended s k command source source sink sink Memory
 nothing_begun s k command source sink =
     let none = progress command (s.left source) (k.written sink) [] refl in
-    out_of_memory s k command source source sink sink none.text none.read (ended_some command (s.left source) (s.left source) (s.left source) (k.written sink) (k.written sink) (k.written sink) [] none (Appends-nil (k.written sink))) refl refl
+    out_of_memory s k command source source sink sink none.text none.read (ended_some command (s.left source) (s.left source) (s.left source) (k.written sink) (k.written sink) (k.written sink) [] none (Appends-nil (k.written sink))) refl refl (inr refl)
 
 module _ {S K : Type 0} (s : SourceGhosts S) (k : SinkGhosts K) (command : LineCommand) (source before source' : S) (sink mid sink' : K) (kept : List ℕ)
     (so-far : Progress command (s.left source) (s.left before) (k.written sink) (k.written mid) kept) where
   -- the last read has given nothing
-  pub ends : (status : LinesStatus) → Consumes (s.left source) (s.left source') so-far.text → IsAtEnd (s.left source') → s.faults source' ≡ s.faults source → k.faults mid ≡ k.faults sink → IfSome (k.is_flushed sink) (λ _. IsSome (k.is_flushed mid))
+  pub ends : (status : LinesStatus) → Consumes (s.left source) (s.left source') so-far.text → IsAtEnd (s.left source') → s.faults source' ≡ s.faults source → k.faults mid ≡ k.faults sink → Settled k sink mid
       → EndsWith command so-far.rest (k.written mid) (k.written sink') status → (status ≡ WriteFault → Rose (k.faults mid) (k.faults sink')) → ((status ≢ WriteFault) → k.faults sink' ≡ k.faults mid)
-      → (status ≡ Done → BecomesFlag (k.is_flushed mid) (k.is_flushed sink') true) → Ended s k command source source' sink sink' status
-  ends Done read end calm still known ended rose steady flushed =
+      → (status ≡ Done → BecomesFlag (k.is_flushed mid) (k.is_flushed sink') true) → (status ≡ Memory → sink' ≡ mid) → Ended s k command source source' sink sink' status
+  ends Done read end calm still settled ended rose steady flushed unchanged =
       all_read s k command source source' sink sink' so-far.text read
       (ended_all command (s.left source) (s.left before) (s.left source') (k.written sink) (k.written mid) (k.written sink') kept so-far ended.0 ended.1 ended.2)
-      calm (steady (λ e. absurd cc) ∙ still) end (flag_becomes (k.is_flushed sink) (k.is_flushed mid) (k.is_flushed sink') known (flushed refl))
-  ends WriteFault read end calm still known ended rose steady flushed =
+      calm (steady (λ e. absurd cc) ∙ still) end (flushed_after k sink mid sink' settled (flushed refl))
+  ends WriteFault read end calm still settled ended rose steady flushed unchanged =
       sink_failed s k command source source' sink sink' so-far.text read
       (ended_prefix command (s.left source) (s.left before) (s.left source') (k.written sink) (k.written mid) (k.written sink') kept so-far ended.0 ended.1 ended.2)
       calm (subst (λ (n : ℕ). Rose n (k.faults sink')) still (rose refl))
-  ends Memory read end calm still known ended rose steady flushed =
+  ends Memory read end calm still settled ended rose steady flushed unchanged =
       out_of_memory s k command source source' sink sink' so-far.text read
       (ended_some command (s.left source) (s.left before) (s.left source') (k.written sink) (k.written mid) (k.written sink') kept so-far ended)
-      calm (steady (λ e. absurd cc) ∙ still)
-  ends TooLong read end calm still known ended rose steady flushed = absurd ended
-  ends Usage read end calm still known ended rose steady flushed = absurd ended
-  ends ReadFault read end calm still known ended rose steady flushed = absurd ended
+      calm (steady (λ e. absurd cc) ∙ still) (subst (Settled k sink) (sym (unchanged refl)) settled)
+  ends TooLong read end calm still settled ended rose steady flushed unchanged = absurd ended
+  ends Usage read end calm still settled ended rose steady flushed unchanged = absurd ended
+  ends ReadFault read end calm still settled ended rose steady flushed unchanged = absurd ended
 
   -- a read of no octets
   pub read_nothing : (count : ℕ) (piece : List ℕ) → count ≡ 0 → Consumes (s.left before) (s.left source') (take count piece) → Consumes (s.left source) (s.left source') so-far.text

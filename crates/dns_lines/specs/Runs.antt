@@ -1,5 +1,5 @@
 -- How a run over lines ends: what it answers, writes and leaves.
-use Rattle.std.specs.Prelude.{◌≡◌, ◌≢◌, ◌≤◌, ◌-◌, ◌^◌, ◌++◌, ℕ, List, [], true, length, Option, Some, None}
+use Rattle.std.specs.Prelude.{◌≡◌, ◌≢◌, ◌≤◌, ◌⊎◌, ◌-◌, ◌^◌, ◌++◌, ℕ, List, [], true, length, Option, Some, None}
 use Rattle.std.specs.List.{concat}
 use Rattle.std.specs.Io.KnownBytes.{Appends, Consumes, IsAtEnd}
 use Rattle.dns_wire.specs.Octets.{Octets}
@@ -59,6 +59,10 @@ WritesFor Memory command text old new = AnswersSome command text old new
 
 -- ---- a command
 
+-- all that the sink took has arrived, or it took nothing
+abbrev pub Settled : {K : Type 0} → SinkGhosts K → K → K → Type 0
+Settled k sink sink' = BecomesFlag (k.is_flushed sink) (k.is_flushed sink') true ⊎ (sink' ≡ sink)
+
 -- How a command ends over a source and a sink, by the octets that they report and their faults, before and after.
 pub record Ended {S K : Type 0} (s : SourceGhosts S) (k : SinkGhosts K) (command : LineCommand) (source source' : S) (sink sink' : K) (status : LinesStatus) : Type 0 where
   -- the text that was read, and what was written for it
@@ -68,6 +72,8 @@ pub record Ended {S K : Type 0} (s : SourceGhosts S) (k : SinkGhosts K) (command
   -- the whole text was read, and has arrived
   pub emptied : status ≡ Done → IsAtEnd (s.left source')
   pub flushed : status ≡ Done → BecomesFlag (k.is_flushed sink) (k.is_flushed sink') true
+  -- what was written before a read that failed, or before memory ran out, has arrived too
+  pub settled : (status ≢ WriteFault) → Settled k sink sink'
   -- a fault is answered exactly if its device has counted one
   pub read_fault : status ≡ ReadFault → Rose (s.faults source) (s.faults source')
   pub read_steady : (status ≢ ReadFault) → s.faults source' ≡ s.faults source

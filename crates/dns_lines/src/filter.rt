@@ -75,6 +75,7 @@ fn end_answers<K: Sink>(
     ensures write_fault { result ≡ LinesStatus.WriteFault → Rose (K.faults sink.old) (K.faults sink.new) }
     ensures write_steady { (result ≢ LinesStatus.WriteFault) → K.faults sink.new ≡ K.faults sink.old }
     ensures flushed { result ≡ LinesStatus.Done → BecomesFlag (K.is_flushed sink.old) (K.is_flushed sink.new) true }
+    ensures unchanged { result ≡ LinesStatus.Memory → sink.new ≡ sink.old }
 {
     let Ok(answer) = last_answer(alloc, command, reader, line) else {
         return LinesStatus::Memory;

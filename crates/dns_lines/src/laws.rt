@@ -1,8 +1,10 @@
 //! What follows from the definitions.
 
 ghost use Rattle.std.specs.Prelude.{◌≡◌, ◌≤◌, ◌↔◌, ◌⊎◌, ◌++◌, ◌∷◌, [], List, Some, None, codes, length, IsTrue};
+ghost use Rattle.std.specs.List.{concat};
 ghost use Rattle.dns_wire.specs.Octets.{Octets};
 ghost use Rattle.dns_message.specs.Messages.{RecordValue};
+ghost use Rattle.dns_message.specs.Order.{canonical_list};
 ghost use Rattle.dns_message.specs.Same.{Same};
 ghost use Rattle.dns_message.specs.Texts.{HasRecords};
 ghost use Rattle.dns_message.specs.declared.message.TheConstants.{MAX_MESSAGE_SIZE};
@@ -48,6 +50,12 @@ pub fn equal_records()
 pub fn different_records()
     ensures { (line other answer : Octets) (rs ss : List RecordValue) → HasRecords line rs → HasRecords other ss → length line ≤ LINE_LIMIT → length other ≤ LINE_LIMIT
         → length (normal_form rs) ≤ MAX_MESSAGE_SIZE → IsAnswer LineCommand.Normal line answer → IsAnswer LineCommand.Normal other answer → Same rs ss }
+{}
+
+/// What `digest` takes the digest of tells the records, though nothing stands between two of them: the canonical octets of the records of
+/// two lines' messages, one after another, are the same exactly if the messages have the same records (RFC 4034 section 6).
+pub fn equal_streams()
+    ensures { (line other : Octets) (rs ss : List RecordValue) → HasRecords line rs → HasRecords other ss → (concat (canonical_list rs) ≡ concat (canonical_list ss)) ↔ Same rs ss }
 {}
 
 /// The words of the commands are `normal` or `digest`, alone.

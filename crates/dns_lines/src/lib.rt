@@ -12,8 +12,8 @@ mod status;
 
 pub use command::{LineCommand, run_lines};
 pub use laws::{
-    answers_are_lines, answers_of_parts, different_records, equal_records, equal_values, limits,
-    lines_of_texts, one_answer, words_of_lines,
+    answers_are_lines, answers_of_parts, different_records, equal_records, equal_streams,
+    equal_values, limits, lines_of_texts, one_answer, words_of_lines,
 };
 pub use line::LINE_LIMIT;
 pub use status::LinesStatus;

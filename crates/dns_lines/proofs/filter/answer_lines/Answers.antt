@@ -1,10 +1,10 @@
-use Rattle.std.proofs.Common.{arith, refl, rules, subst, sym, take, ◌∙◌, ◌≡◌, ℕ}
+use Rattle.std.proofs.Common.{arith, inl, inr, refl, rules, subst, sym, take, ◌∙◌, ◌≡◌, ℕ}
 use Rattle.std.proofs.KnownBytes.{Consumes-kept}
 use Rattle.std.specs.Io.KnownBytes.{Appends}
 use Rattle.dns_wire.specs.Outside.{Rose, WritesPrefix}
 use Rattle.dns_lines.proofs.LineLemmas.{not_none}
 use Rattle.dns_lines.proofs.PieceLemmas.{ended_so_far, piece_read, progress, progress_next, stopped_prefix, stopped_some}
-use Rattle.dns_lines.proofs.RunLemmas.{cause_done, cause_failed, either_front, ends, flag_more, flag_same, fronts_after, holds_if_err, holds_if_ok, never_ended, nothing_begun, out_of_memory, pieces_after, puts_done, puts_failed, read_nothing, sink_failed, source_failed}
+use Rattle.dns_lines.proofs.RunLemmas.{cause_done, cause_failed, either_front, ends, flushed_after, fronts_after, holds_if_err, holds_if_ok, never_ended, nothing_begun, out_of_memory, pieces_after, puts_done, puts_failed, read_nothing, sink_failed, source_failed}
 use Rattle.dns_lines.proofs.filter.answer_lines.Goals as goal
 
 pub returns-in_default : goal.returns-in_default
@@ -18,7 +18,7 @@ loop-read-init g c = record {
   room = search rules;
   read_steady = refl;
   write_steady = refl;
-  flag = flag_same (g.K.Sink.is_flushed c.args.sink.now);
+  settled = inr refl;
 }
 
 pub returns-in_default-read : goal.returns-in_default-read
@@ -27,7 +27,7 @@ returns-in_default-read g c =
     source_failed g.S.Source g.K.Sink c.args.command c.args.source.now c.read.new.self c.args.sink.now c.loop-read.sink so-far.text
     (Consumes-kept (g.S.Source.left c.args.source.now) (g.S.Source.left c.loop-read.source) (g.S.Source.left c.read.new.self) so-far.text so-far.read c.in_default-read.ensures.bytes)
     (ended_so_far c.args.command (g.S.Source.left c.args.source.now) (g.S.Source.left c.loop-read.source) (g.S.Source.left c.read.new.self) (g.K.Sink.written c.args.sink.now) (g.K.Sink.written c.loop-read.sink) (g.K.Sink.written c.loop-read.sink) c.loop-read.line.items so-far)
-    (subst (λ (n : ℕ). Rose n (g.S.Source.faults c.read.new.self)) c.loop-read.invariant.read_steady c.in_default-read.ensures.cause.failed) c.loop-read.invariant.write_steady
+    (subst (λ (n : ℕ). Rose n (g.S.Source.faults c.read.new.self)) c.loop-read.invariant.read_steady c.in_default-read.ensures.cause.failed) c.loop-read.invariant.write_steady c.loop-read.invariant.settled
 
 pub returns-then-count-eq0 : goal.returns-then-count-eq0
 returns-then-count-eq0 g c =
@@ -38,8 +38,8 @@ returns-then-count-eq0 g c =
     ends g.S.Source g.K.Sink c.args.command c.args.source.now c.loop-read.source c.read.new.self c.args.sink.now c.loop-read.sink c.end_answers.new.sink c.loop-read.line.items so-far c.end_answers.result
     (read_nothing g.S.Source g.K.Sink c.args.command c.args.source.now c.loop-read.source c.read.new.self c.args.sink.now c.loop-read.sink c.end_answers.new.sink c.loop-read.line.items so-far c.in-Ok-read.count c.read.new.into none bytes.0)
     (bytes.1 none (omega (arith, c.read.auto.into, c.loop-read.invariant.room)))
-    (c.in-Ok-read.ensures.cause.steady ∙ c.loop-read.invariant.read_steady) c.loop-read.invariant.write_steady c.loop-read.invariant.flag
-    (c.end_answers.ensures.ended so-far.rest kept) c.end_answers.ensures.write_fault c.end_answers.ensures.write_steady c.end_answers.ensures.flushed
+    (c.in-Ok-read.ensures.cause.steady ∙ c.loop-read.invariant.read_steady) c.loop-read.invariant.write_steady c.loop-read.invariant.settled
+    (c.end_answers.ensures.ended so-far.rest kept) c.end_answers.ensures.write_fault c.end_answers.ensures.write_steady c.end_answers.ensures.flushed c.end_answers.ensures.unchanged
 
 pub returns-then-is_err : goal.returns-then-is_err
 returns-then-is_err g c =
@@ -72,6 +72,7 @@ returns-then-is_err-2 g c =
     (stopped_some c.args.command (g.S.Source.left c.args.source.now) (g.S.Source.left c.loop-read.source) (g.S.Source.left c.read.new.self) (g.K.Sink.written c.args.sink.now) (g.K.Sink.written c.loop-read.sink) (g.K.Sink.written c.put_text.new.sink) c.loop-read.line.items so-far piece added c.in-Ok-read.ensures.bytes.0 fronts put)
     (c.in-Ok-read.ensures.cause.steady ∙ c.loop-read.invariant.read_steady)
     (cause_done (g.K.Sink.faults c.loop-read.sink) (g.K.Sink.faults c.put_text.new.sink) c.put_text.result done c.put_text.ensures.cause ∙ c.loop-read.invariant.write_steady)
+    (inl (flushed_after g.K.Sink c.args.sink.now c.loop-read.sink c.put_text.new.sink c.loop-read.invariant.settled (holds_if_ok c.put_text.result done c.put_text.ensures.flushed)))
 
 pub loop-read-preserved : goal.loop-read-preserved
 loop-read-preserved g c =
@@ -91,7 +92,7 @@ loop-read-preserved g c =
       room = c.read.auto.into ∙ c.loop-read.invariant.room;
       read_steady = c.in-Ok-read.ensures.cause.steady ∙ c.loop-read.invariant.read_steady;
       write_steady = cause_done (g.K.Sink.faults c.loop-read.sink) (g.K.Sink.faults c.put_text.new.sink) c.put_text.result done c.put_text.ensures.cause ∙ c.loop-read.invariant.write_steady;
-      flag = flag_more (g.K.Sink.is_flushed c.args.sink.now) (g.K.Sink.is_flushed c.loop-read.sink) (g.K.Sink.is_flushed c.put_text.new.sink) c.loop-read.invariant.flag (holds_if_ok c.put_text.result done c.put_text.ensures.flushed);
+      settled = inl (flushed_after g.K.Sink c.args.sink.now c.loop-read.sink c.put_text.new.sink c.loop-read.invariant.settled (holds_if_ok c.put_text.result done c.put_text.ensures.flushed));
     }
 
 pub returns : goal.returns
@@ -99,4 +100,4 @@ returns g c =
     let so-far = c.loop-read.invariant.progress.0 in
     never_ended g.S.Source g.K.Sink c.args.command c.args.source.now c.loop-read.source c.args.sink.now c.loop-read.sink so-far.text so-far.read
     (ended_so_far c.args.command (g.S.Source.left c.args.source.now) (g.S.Source.left c.loop-read.source) (g.S.Source.left c.loop-read.source) (g.K.Sink.written c.args.sink.now) (g.K.Sink.written c.loop-read.sink) (g.K.Sink.written c.loop-read.sink) c.loop-read.line.items so-far)
-    c.loop-read.invariant.read_steady c.loop-read.invariant.write_steady (omega (arith, c.loop-read.invariant.progress.1, c.loop-read-test.false))
+    c.loop-read.invariant.read_steady c.loop-read.invariant.write_steady (omega (arith, c.loop-read.invariant.progress.1, c.loop-read-test.false)) c.loop-read.invariant.settled
