@@ -15,9 +15,9 @@ use Rattle.dns_text.specs.Outcomes.{RefusesFor}
 use Rattle.dns_text.specs.declared.outcome.PrintError.{PrintError}
 use Rattle.dns_text.specs.declared.outcome.PrintError.TheVariants as print
 use Rattle.nelgvasti.specs.Calls.{AnswersOrMemory, reading_answer}
-use Rattle.nelgvasti.specs.Refused.{answer_of, form_answer, form_place, message_place, place_of}
+use Rattle.nelgvasti.specs.Refused.{answer_of, form_answer, form_position, message_position, position_of}
 use Rattle.nelgvasti.specs.declared.answers.TheConstants.{SHORT, ITEM}
-use Rattle.nelgvasti.specs.declared.place.Place.{Place}
+use Rattle.nelgvasti.specs.declared.item_position.ItemPosition.{ItemPosition}
 
 module _ (answer : List RecordValue → ℕ) (m : List ℕ) where
   pub valid_answer : (rs : List RecordValue) → Valid m rs → reading_answer answer (message_reading m) ≡ answer rs
@@ -34,22 +34,22 @@ module _ (before : List (List ℕ)) (rss : List (List RecordValue)) (m : List �
   first_refusal : (number : ℕ) → number ≡ length before → (error : CanonError) → RefusedAs m error → IsFirstRefused (before ++ m ∷ after) number error
   first_refusal number number-is error refused = record { before = before; message = m; after = after; occurs = refl; place = sym number-is; records = rss; valid = valid; refused = refused }
 
-  -- what the answer to a refusal says of the messages, and the place
-  pub short_refusal : (error : CanonError) (answer : ℕ) (old new : Place) → RefusedOrMemory m error → answer ≡ answer_of error → new ≡ place_of error (length before) old → answer ≡ SHORT
-      → IsFirstRefused (before ++ m ∷ after) new.message Short × (new ≡ message_place new.message)
+  -- what the answer to a refusal says of the messages, and the position
+  pub short_refusal : (error : CanonError) (answer : ℕ) (old new : ItemPosition) → RefusedOrMemory m error → answer ≡ answer_of error → new ≡ position_of error (length before) old → answer ≡ SHORT
+      → IsFirstRefused (before ++ m ∷ after) new.message Short × (new ≡ message_position new.message)
   short_refusal Short answer old new few answer-is new-is is =
-      let number : new.message ≡ length before = ap (λ (p : Place). p.message) new-is in
-      (first_refusal new.message number Short few, new-is ∙ ap message_place (sym number))
+      let number : new.message ≡ length before = ap (λ (p : ItemPosition). p.message) new-is in
+      (first_refusal new.message number Short few, new-is ∙ ap message_position (sym number))
   short_refusal (Item section index) answer old new bad answer-is new-is is = absurd (omega (arith, answer-is, is))
   short_refusal Memory answer old new none answer-is new-is is = absurd (omega (arith, answer-is, is))
 
-  pub item_refusal : (error : CanonError) (answer : ℕ) (old new : Place) → RefusedOrMemory m error → answer ≡ answer_of error → new ≡ place_of error (length before) old → answer ≡ ITEM
+  pub item_refusal : (error : CanonError) (answer : ℕ) (old new : ItemPosition) → RefusedOrMemory m error → answer ≡ answer_of error → new ≡ position_of error (length before) old → answer ≡ ITEM
       → IsFirstRefused (before ++ m ∷ after) new.message (Item new.section new.index)
   item_refusal Short answer old new few answer-is new-is is = absurd (omega (arith, answer-is, is))
   item_refusal (Item section index) answer old new bad answer-is new-is is =
-      let section-is : new.section ≡ section = ap (λ (p : Place). p.section) new-is in
-      let index-is : new.index ≡ index = ap (λ (p : Place). p.index) new-is in
-      first_refusal new.message (ap (λ (p : Place). p.message) new-is) (Item new.section new.index) (rw (section-is, index-is) bad)
+      let section-is : new.section ≡ section = ap (λ (p : ItemPosition). p.section) new-is in
+      let index-is : new.index ≡ index = ap (λ (p : ItemPosition). p.index) new-is in
+      first_refusal new.message (ap (λ (p : ItemPosition). p.message) new-is) (Item new.section new.index) (rw (section-is, index-is) bad)
   item_refusal Memory answer old new none answer-is new-is is = absurd (omega (arith, answer-is, is))
 
 -- ---- normal forms
@@ -86,22 +86,22 @@ bad_form m section index e = by (message_reading m) refl e where
       rw (← section-is, ← index-is) (place, (items, is))
   by (Whole items end) is e = absurd (size _ e)
 
--- what the answer to a refusal says of the message, and the place
-pub form_short : (m : List ℕ) (error : PrintError Refusal) (answer : ℕ) (old new : Place) → RefusesFor (reading_refusal form_refusal (message_reading m)) error → answer ≡ form_answer error → new ≡ form_place error old
-    → answer ≡ SHORT → (length m < 12) × (new ≡ message_place 0)
+-- what the answer to a refusal says of the message, and the position
+pub form_short : (m : List ℕ) (error : PrintError Refusal) (answer : ℕ) (old new : ItemPosition) → RefusesFor (reading_refusal form_refusal (message_reading m)) error → answer ≡ form_answer error → new ≡ form_position error old
+    → answer ≡ SHORT → (length m < 12) × (new ≡ message_position 0)
 form_short m (print.Refused normal.BadHex) answer old new refused answer-is new-is is = absurd (omega (arith, answer-is, is))
 form_short m (print.Refused normal.Short) answer old new refused answer-is new-is is = (short_form m refused, new-is)
 form_short m (print.Refused (normal.Item section index)) answer old new refused answer-is new-is is = absurd (omega (arith, answer-is, is))
 form_short m (print.Refused normal.TooLarge) answer old new refused answer-is new-is is = absurd (omega (arith, answer-is, is))
 form_short m print.Memory answer old new refused answer-is new-is is = absurd (omega (arith, answer-is, is))
 
-pub form_item : (m : List ℕ) (error : PrintError Refusal) (answer : ℕ) (old new : Place) → RefusesFor (reading_refusal form_refusal (message_reading m)) error → answer ≡ form_answer error → new ≡ form_place error old
+pub form_item : (m : List ℕ) (error : PrintError Refusal) (answer : ℕ) (old new : ItemPosition) → RefusesFor (reading_refusal form_refusal (message_reading m)) error → answer ≡ form_answer error → new ≡ form_position error old
     → answer ≡ ITEM → BadAt m new.section new.index × (new.message ≡ 0)
 form_item m (print.Refused normal.BadHex) answer old new refused answer-is new-is is = absurd (omega (arith, answer-is, is))
 form_item m (print.Refused normal.Short) answer old new refused answer-is new-is is = absurd (omega (arith, answer-is, is))
 form_item m (print.Refused (normal.Item section index)) answer old new refused answer-is new-is is =
-    let section-is : new.section ≡ section = ap (λ (p : Place). p.section) new-is in
-    let index-is : new.index ≡ index = ap (λ (p : Place). p.index) new-is in
-    (rw (section-is, index-is) (bad_form m section index refused), ap (λ (p : Place). p.message) new-is)
+    let section-is : new.section ≡ section = ap (λ (p : ItemPosition). p.section) new-is in
+    let index-is : new.index ≡ index = ap (λ (p : ItemPosition). p.index) new-is in
+    (rw (section-is, index-is) (bad_form m section index refused), ap (λ (p : ItemPosition). p.message) new-is)
 form_item m (print.Refused normal.TooLarge) answer old new refused answer-is new-is is = absurd (omega (arith, answer-is, is))
 form_item m print.Memory answer old new refused answer-is new-is is = absurd (omega (arith, answer-is, is))

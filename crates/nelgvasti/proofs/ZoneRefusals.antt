@@ -17,10 +17,10 @@ use Rattle.dns_zone.specs.declared.refusal.Refusal.{Refusal}
 use Rattle.dns_zone.specs.declared.refusal.Refusal.TheVariants.{BadHex, Short, Item, NoSoa}
 use Rattle.dns_zone.proofs.Members.{soa_words}
 use Rattle.nelgvasti.specs.Calls.{AnswersOrMemory, HasName}
-use Rattle.nelgvasti.specs.Refused.{message_place}
-use Rattle.nelgvasti.specs.Zones.{AreCut, error_answer, zone_answer, zone_place}
+use Rattle.nelgvasti.specs.Refused.{message_position}
+use Rattle.nelgvasti.specs.Zones.{AreCut, error_answer, zone_answer, zone_position}
 use Rattle.nelgvasti.specs.declared.answers.TheConstants.{SHORT, ITEM, NO_SOA}
-use Rattle.nelgvasti.specs.declared.place.Place.{Place}
+use Rattle.nelgvasti.specs.declared.item_position.ItemPosition.{ItemPosition}
 use Rattle.nelgvasti.proofs.Cutting.{cut_one}
 
 -- what a refusal says of messages
@@ -61,7 +61,7 @@ expected_for octets lengths bytes apex ms answer named cut expected labels other
     subst (λ (l : Labels). AnswersOrMemory (zone_answer (on_messages l (Some others))) answer) name
     (subst (λ (l : List Octets). AnswersOrMemory (zone_answer (on_messages apex (Some l))) answer) (cut_one octets lengths ms others cut cut-too) expected)
 
--- what the answer to a refusal says of the messages, and the place
+-- what the answer to a refusal says of the messages, and the position
 pub zone_without_soa : (apex : Labels) (ms : List Octets) (error : PrintError Refusal) → RefusesFor (on_messages apex (Some ms)) error → error_answer error ≡ NO_SOA
     → (rss : List (List RecordValue)) × AreValid ms rss × ¬ HasSoa apex (all_records ms)
 zone_without_soa apex ms (print.Refused BadHex) refuses is = absurd (omega (arith, is))
@@ -70,24 +70,24 @@ zone_without_soa apex ms (print.Refused (Item number section index)) refuses is 
 zone_without_soa apex ms (print.Refused NoSoa) refuses is = because apex ms NoSoa refuses
 zone_without_soa apex ms print.Memory refuses is = absurd (omega (arith, is))
 
-pub zone_short : (apex : Labels) (ms : List Octets) (error : PrintError Refusal) (old new : Place) → RefusesFor (on_messages apex (Some ms)) error → new ≡ zone_place error old → error_answer error ≡ SHORT
-    → IsFirstRefused ms new.message canon.Short × (new ≡ message_place new.message)
+pub zone_short : (apex : Labels) (ms : List Octets) (error : PrintError Refusal) (old new : ItemPosition) → RefusesFor (on_messages apex (Some ms)) error → new ≡ zone_position error old → error_answer error ≡ SHORT
+    → IsFirstRefused ms new.message canon.Short × (new ≡ message_position new.message)
 zone_short apex ms (print.Refused BadHex) old new refuses new-is is = absurd (omega (arith, is))
 zone_short apex ms (print.Refused (Short number)) old new refuses new-is is =
-    let number-is : new.message ≡ number = ap (λ (p : Place). p.message) new-is in
-    (rw number-is (because apex ms (Short number) refuses), new-is ∙ ap message_place (sym number-is))
+    let number-is : new.message ≡ number = ap (λ (p : ItemPosition). p.message) new-is in
+    (rw number-is (because apex ms (Short number) refuses), new-is ∙ ap message_position (sym number-is))
 zone_short apex ms (print.Refused (Item number section index)) old new refuses new-is is = absurd (omega (arith, is))
 zone_short apex ms (print.Refused NoSoa) old new refuses new-is is = absurd (omega (arith, is))
 zone_short apex ms print.Memory old new refuses new-is is = absurd (omega (arith, is))
 
-pub zone_item : (apex : Labels) (ms : List Octets) (error : PrintError Refusal) (old new : Place) → RefusesFor (on_messages apex (Some ms)) error → new ≡ zone_place error old → error_answer error ≡ ITEM
+pub zone_item : (apex : Labels) (ms : List Octets) (error : PrintError Refusal) (old new : ItemPosition) → RefusesFor (on_messages apex (Some ms)) error → new ≡ zone_position error old → error_answer error ≡ ITEM
     → IsFirstRefused ms new.message (canon.Item new.section new.index)
 zone_item apex ms (print.Refused BadHex) old new refuses new-is is = absurd (omega (arith, is))
 zone_item apex ms (print.Refused (Short number)) old new refuses new-is is = absurd (omega (arith, is))
 zone_item apex ms (print.Refused (Item number section index)) old new refuses new-is is =
-    let number-is : new.message ≡ number = ap (λ (p : Place). p.message) new-is in
-    let section-is : new.section ≡ section = ap (λ (p : Place). p.section) new-is in
-    let index-is : new.index ≡ index = ap (λ (p : Place). p.index) new-is in
+    let number-is : new.message ≡ number = ap (λ (p : ItemPosition). p.message) new-is in
+    let section-is : new.section ≡ section = ap (λ (p : ItemPosition). p.section) new-is in
+    let index-is : new.index ≡ index = ap (λ (p : ItemPosition). p.index) new-is in
     rw (number-is, section-is, index-is) (because apex ms (Item number section index) refuses)
 zone_item apex ms (print.Refused NoSoa) old new refuses new-is is = absurd (omega (arith, is))
 zone_item apex ms print.Memory old new refuses new-is is = absurd (omega (arith, is))

@@ -1,4 +1,4 @@
--- The answers to what is refused, and the place.
+-- The answers to what is refused, and the position.
 use Rattle.std.specs.Prelude.{ℕ}
 use Rattle.dns_message.specs.declared.canon_error.CanonError.{CanonError}
 use Rattle.dns_message.specs.declared.canon_error.CanonError.TheVariants as canon
@@ -7,7 +7,7 @@ use Rattle.dns_normal.specs.declared.refusal.Refusal.TheVariants as normal
 use Rattle.dns_text.specs.declared.outcome.PrintError.{PrintError}
 use Rattle.dns_text.specs.declared.outcome.PrintError.TheVariants as print
 use Rattle.nelgvasti.specs.declared.answers.TheConstants.{SHORT, ITEM, USAGE, MEMORY, TOO_LARGE}
-use Rattle.nelgvasti.specs.declared.place.Place.{Place}
+use Rattle.nelgvasti.specs.declared.item_position.ItemPosition.{ItemPosition}
 
 -- ---- one message
 
@@ -16,15 +16,15 @@ answer_of canon.Short = SHORT
 answer_of (canon.Item section index) = ITEM
 answer_of canon.Memory = MEMORY
 
--- the place that a message of this number is refused at if it is too short
-abbrev pub message_place : ℕ → Place
-message_place message = record { message = message; section = 0; index = 0 }
+-- the position that a message of this number is refused at if it is too short
+abbrev pub message_position : ℕ → ItemPosition
+message_position message = record { message = message; section = 0; index = 0 }
 
--- the place after the message of a number is refused; out of memory leaves it as it was
-abbrev pub place_of : CanonError → ℕ → Place → Place
-place_of canon.Short message old = message_place message
-place_of (canon.Item section index) message old = record { message = message; section = section; index = index }
-place_of canon.Memory message old = old
+-- the position after the message of a number is refused; out of memory leaves it as it was
+abbrev pub position_of : CanonError → ℕ → ItemPosition → ItemPosition
+position_of canon.Short message old = message_position message
+position_of (canon.Item section index) message old = record { message = message; section = section; index = index }
+position_of canon.Memory message old = old
 
 -- ---- normal forms
 
@@ -35,9 +35,9 @@ form_answer (print.Refused (normal.Item section index)) = ITEM
 form_answer (print.Refused normal.TooLarge) = TOO_LARGE
 form_answer print.Memory = MEMORY
 
-abbrev pub form_place : PrintError Refusal → Place → Place
-form_place (print.Refused normal.BadHex) old = old
-form_place (print.Refused normal.Short) old = message_place 0
-form_place (print.Refused (normal.Item section index)) old = record { message = 0; section = section; index = index }
-form_place (print.Refused normal.TooLarge) old = old
-form_place print.Memory old = old
+abbrev pub form_position : PrintError Refusal → ItemPosition → ItemPosition
+form_position (print.Refused normal.BadHex) old = old
+form_position (print.Refused normal.Short) old = message_position 0
+form_position (print.Refused (normal.Item section index)) old = record { message = 0; section = section; index = index }
+form_position (print.Refused normal.TooLarge) old = old
+form_position print.Memory old = old

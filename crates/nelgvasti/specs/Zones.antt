@@ -7,9 +7,9 @@ use Rattle.dns_text.specs.declared.outcome.PrintError.{PrintError}
 use Rattle.dns_text.specs.declared.outcome.PrintError.TheVariants as print
 use Rattle.dns_zone.specs.declared.refusal.Refusal.{Refusal}
 use Rattle.dns_zone.specs.declared.refusal.Refusal.TheVariants.{BadHex, Short, Item, NoSoa}
-use Rattle.nelgvasti.specs.Refused.{message_place}
+use Rattle.nelgvasti.specs.Refused.{message_position}
 use Rattle.nelgvasti.specs.declared.answers.TheConstants.{DONE, SHORT, ITEM, USAGE, MEMORY, NO_SOA}
-use Rattle.nelgvasti.specs.declared.place.Place.{Place}
+use Rattle.nelgvasti.specs.declared.item_position.ItemPosition.{ItemPosition}
 use Rattle.nelgvasti.specs.declared.zone.ZoneDigest.{ZoneDigest}
 
 -- the messages have these lengths, and one after another they are the octets
@@ -37,9 +37,9 @@ abbrev pub error_answer : PrintError Refusal → ℕ
 error_answer (print.Refused r) = zone_answer (Some r)
 error_answer print.Memory = MEMORY
 
-abbrev pub zone_place : PrintError Refusal → Place → Place
-zone_place (print.Refused BadHex) old = old
-zone_place (print.Refused (Short message)) old = message_place message
-zone_place (print.Refused (Item message section index)) old = record { message = message; section = section; index = index }
-zone_place (print.Refused NoSoa) old = old
-zone_place print.Memory old = old
+abbrev pub zone_position : PrintError Refusal → ItemPosition → ItemPosition
+zone_position (print.Refused BadHex) old = old
+zone_position (print.Refused (Short message)) old = message_position message
+zone_position (print.Refused (Item message section index)) old = record { message = message; section = section; index = index }
+zone_position (print.Refused NoSoa) old = old
+zone_position print.Memory old = old

@@ -9,7 +9,7 @@ use dns_message::CanonError;
 /// Which message is refused, and which of its items can't be read.
 #[repr(C)]
 #[derive(Clone, Copy, Debug, PartialEq, Eq)]
-pub struct Place {
+pub struct ItemPosition {
     /// The number of the message, from 0.
     pub message: u32,
     /// The section of the item: 0 questions, 1 answers, 2 authorities, 3 additional records.
@@ -18,17 +18,17 @@ pub struct Place {
     pub index: u32,
 }
 
-impl Place {
-    ghost use Rattle.nelgvasti.specs.Refused.{answer_of, place_of};
+impl ItemPosition {
+    ghost use Rattle.nelgvasti.specs.Refused.{answer_of, position_of};
 
-    /// The answer to the refusal of the message of this number. The place is written if it is one of the message's, and not for memory.
+    /// The answer to the refusal of the message of this number. The position is written if it is one of the message's, and not for memory.
     pub(crate) fn refuse(&mut self, message: u32, error: CanonError) -> u32
         ensures answer { result ≡ answer_of error }
-        ensures place { self.new ≡ place_of error message self.old }
+        ensures position { self.new ≡ position_of error message self.old }
     {
         match error {
             CanonError::Short => {
-                *self = Place {
+                *self = ItemPosition {
                     message,
                     section: 0,
                     index: 0,
@@ -36,7 +36,7 @@ impl Place {
                 SHORT
             }
             CanonError::Item { section, index } => {
-                *self = Place {
+                *self = ItemPosition {
                     message,
                     section: u32::from(section),
                     index: u32::from(index),

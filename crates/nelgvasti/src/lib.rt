@@ -7,11 +7,12 @@
 
 mod answers;
 mod denial;
+mod item_position;
+mod laws;
 mod message;
 mod names;
 mod normal;
 mod ordered;
-mod place;
 mod records;
 mod room;
 #[cfg(test)]

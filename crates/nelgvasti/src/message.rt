@@ -8,12 +8,12 @@ ghost use Rattle.dns_message.specs.Several.{IsFirstRefused};
 ghost use Rattle.dns_message.specs.declared.canon_error.CanonError.TheVariants as canon;
 ghost use Rattle.dns_wire.specs.declared.sizes.TheConstants.{HEADER_SIZE};
 ghost use Rattle.nelgvasti.specs.Buffers.{Fills, room_answer};
-ghost use Rattle.nelgvasti.specs.Refused.{message_place};
+ghost use Rattle.nelgvasti.specs.Refused.{message_position};
 ghost use Rattle.nelgvasti.specs.Calls.{AnswersOrMemory, SaysWhether, list_octets, reading_answer};
 
 use crate::answers::{DONE, ITEM, MEMORY, SHORT, TOO_SMALL};
+use crate::item_position::ItemPosition;
 use crate::ordered::{are_alike, octets_in, put_forms};
-use crate::place::Place;
 use dns_message::read_forms;
 use std::alloc::Global;
 
@@ -24,7 +24,7 @@ pub extern "C" fn nelgvasti_canonical_size(
     message: &[u8],
     octets: &mut usize,
     records: &mut usize,
-    place: &mut Place,
+    position: &mut ItemPosition,
 ) -> u32
     // What is written.
     ensures done { result ≡ DONE → (rs : List RecordValue) × Valid message.now rs
@@ -32,14 +32,14 @@ pub extern "C" fn nelgvasti_canonical_size(
     ensures unwritten { result ≢ DONE → (octets.new ≡ octets.old) × (records.new ≡ records.old) }
 
     // Why nothing is written. Except for memory, the answer is the one that the message calls for.
-    ensures short { result ≡ SHORT → (length message.now < HEADER_SIZE) × (place.new ≡ message_place 0) }
-    ensures item { result ≡ ITEM → BadAt message.now place.new.section place.new.index × (place.new.message ≡ 0) }
-    ensures place { result ≢ SHORT → result ≢ ITEM → place.new ≡ place.old }
+    ensures short { result ≡ SHORT → (length message.now < HEADER_SIZE) × (position.new ≡ message_position 0) }
+    ensures item { result ≡ ITEM → BadAt message.now position.new.section position.new.index × (position.new.message ≡ 0) }
+    ensures position { result ≢ SHORT → result ≢ ITEM → position.new ≡ position.old }
     ensures expected { AnswersOrMemory (reading_answer (λ rs. DONE) (message_reading message.now)) result }
 {
     let forms = match read_forms(alloc, message) {
         Ok(forms) => forms,
-        Err(error) => return place.refuse(0, error),
+        Err(error) => return position.refuse(0, error),
     };
     let Ok(order) = forms.collapsed(alloc) else {
         return MEMORY;
@@ -57,7 +57,7 @@ pub extern "C" fn nelgvasti_canonical(
     message: &[u8],
     out: &mut [u8],
     out_length: &mut usize,
-    place: &mut Place,
+    position: &mut ItemPosition,
 ) -> u32
     // What is written.
     ensures done { result ≡ DONE → (rs : List RecordValue) × Valid message.now rs
@@ -68,14 +68,14 @@ pub extern "C" fn nelgvasti_canonical(
     ensures length { result ≢ DONE → result ≢ TOO_SMALL → out_length.new ≡ out_length.old }
 
     // Why nothing is written. Except for memory, the answer is the one that the message and the room call for.
-    ensures short { result ≡ SHORT → (length message.now < HEADER_SIZE) × (place.new ≡ message_place 0) }
-    ensures item { result ≡ ITEM → BadAt message.now place.new.section place.new.index × (place.new.message ≡ 0) }
-    ensures place { result ≢ SHORT → result ≢ ITEM → place.new ≡ place.old }
+    ensures short { result ≡ SHORT → (length message.now < HEADER_SIZE) × (position.new ≡ message_position 0) }
+    ensures item { result ≡ ITEM → BadAt message.now position.new.section position.new.index × (position.new.message ≡ 0) }
+    ensures position { result ≢ SHORT → result ≢ ITEM → position.new ≡ position.old }
     ensures expected { AnswersOrMemory (reading_answer (λ rs. room_answer (list_octets rs) (length out.old)) (message_reading message.now)) result }
 {
     let forms = match read_forms(alloc, message) {
         Ok(forms) => forms,
-        Err(error) => return place.refuse(0, error),
+        Err(error) => return position.refuse(0, error),
     };
     let Ok(order) = forms.collapsed(alloc) else {
         return MEMORY;
@@ -97,25 +97,25 @@ pub extern "C" fn nelgvasti_same(
     first: &[u8],
     second: &[u8],
     same: &mut u32,
-    place: &mut Place,
+    position: &mut ItemPosition,
 ) -> u32
     // What is written.
     ensures done { result ≡ DONE → (rs ss : List RecordValue) × Valid first.now rs × Valid second.now ss × SaysWhether (Same rs ss) same.new }
     ensures unwritten { result ≢ DONE → same.new ≡ same.old }
 
     // Why nothing is written. Except for memory, the answer is the one that the messages call for.
-    ensures short { result ≡ SHORT → IsFirstRefused (first.now ∷ second.now ∷ []) place.new.message canon.Short × (place.new ≡ message_place place.new.message) }
-    ensures item { result ≡ ITEM → IsFirstRefused (first.now ∷ second.now ∷ []) place.new.message (canon.Item place.new.section place.new.index) }
-    ensures place { result ≢ SHORT → result ≢ ITEM → place.new ≡ place.old }
+    ensures short { result ≡ SHORT → IsFirstRefused (first.now ∷ second.now ∷ []) position.new.message canon.Short × (position.new ≡ message_position position.new.message) }
+    ensures item { result ≡ ITEM → IsFirstRefused (first.now ∷ second.now ∷ []) position.new.message (canon.Item position.new.section position.new.index) }
+    ensures position { result ≢ SHORT → result ≢ ITEM → position.new ≡ position.old }
     ensures expected { AnswersOrMemory (reading_answer (λ rs. reading_answer (λ ss. DONE) (message_reading second.now)) (message_reading first.now)) result }
 {
     let first_forms = match read_forms(alloc, first) {
         Ok(forms) => forms,
-        Err(error) => return place.refuse(0, error),
+        Err(error) => return position.refuse(0, error),
     };
     let second_forms = match read_forms(alloc, second) {
         Ok(forms) => forms,
-        Err(error) => return place.refuse(1, error),
+        Err(error) => return position.refuse(1, error),
     };
     let Ok(first_order) = first_forms.collapsed(alloc) else {
         return MEMORY;

@@ -7,25 +7,25 @@ ghost use Rattle.dns_normal.specs.Normal.{normal_form};
 ghost use Rattle.dns_wire.specs.declared.sizes.TheConstants.{HEADER_SIZE};
 ghost use Rattle.nelgvasti.specs.Buffers.{Fills};
 ghost use Rattle.nelgvasti.specs.Calls.{AnswersOrMemory, normal_answer, reading_answer};
-ghost use Rattle.nelgvasti.specs.Refused.{form_answer, form_place, message_place};
+ghost use Rattle.nelgvasti.specs.Refused.{form_answer, form_position, message_position};
 
 use crate::answers::{DONE, ITEM, MEMORY, SHORT, TOO_LARGE, TOO_SMALL, USAGE};
-use crate::place::Place;
+use crate::item_position::ItemPosition;
 use crate::room::put_octets;
 use dns_message::CanonError;
 use dns_normal::{Refusal, normal_form};
 use dns_text::PrintError;
 use std::alloc::Global;
 
-/// The answer to a message that has no normal form. The place is written if the message can't be read.
-fn refuse_form(place: &mut Place, error: PrintError<Refusal>) -> u32
+/// The answer to a message that has no normal form. The position is written if the message can't be read.
+fn refuse_form(position: &mut ItemPosition, error: PrintError<Refusal>) -> u32
     ensures answer { result ≡ form_answer error }
-    ensures place { place.new ≡ form_place error place.old }
+    ensures position { position.new ≡ form_position error position.old }
 {
     match error {
-        PrintError::Refused(Refusal::Short) => place.refuse(0, CanonError::Short),
+        PrintError::Refused(Refusal::Short) => position.refuse(0, CanonError::Short),
         PrintError::Refused(Refusal::Item { section, index }) => {
-            place.refuse(0, CanonError::Item { section, index })
+            position.refuse(0, CanonError::Item { section, index })
         }
         PrintError::Refused(Refusal::TooLarge) => TOO_LARGE,
         PrintError::Refused(Refusal::BadHex) => USAGE,
@@ -41,7 +41,7 @@ pub extern "C" fn nelgvasti_normal(
     message: &[u8],
     out: &mut [u8],
     out_length: &mut usize,
-    place: &mut Place,
+    position: &mut ItemPosition,
 ) -> u32
     // What is written.
     ensures done { result ≡ DONE → (rs : List RecordValue) × Valid message.now rs
@@ -53,13 +53,13 @@ pub extern "C" fn nelgvasti_normal(
 
     // Why nothing is written. Except for memory, the answer is the one that the message and the room call for.
     ensures too_large { result ≡ TOO_LARGE → (rs : List RecordValue) × Valid message.now rs × (MAX_MESSAGE_SIZE < length (normal_form rs)) }
-    ensures short { result ≡ SHORT → (length message.now < HEADER_SIZE) × (place.new ≡ message_place 0) }
-    ensures item { result ≡ ITEM → BadAt message.now place.new.section place.new.index × (place.new.message ≡ 0) }
-    ensures place { result ≢ SHORT → result ≢ ITEM → place.new ≡ place.old }
+    ensures short { result ≡ SHORT → (length message.now < HEADER_SIZE) × (position.new ≡ message_position 0) }
+    ensures item { result ≡ ITEM → BadAt message.now position.new.section position.new.index × (position.new.message ≡ 0) }
+    ensures position { result ≢ SHORT → result ≢ ITEM → position.new ≡ position.old }
     ensures expected { AnswersOrMemory (reading_answer (λ rs. normal_answer (normal_form rs) (length out.old)) (message_reading message.now)) result }
 {
     match normal_form(alloc, message) {
         Ok(form) => put_octets(&form, out, out_length),
-        Err(error) => refuse_form(place, error),
+        Err(error) => refuse_form(position, error),
     }
 }

@@ -2,10 +2,10 @@
 
 use crate::answers::{DONE, ITEM, NO_SOA, SHORT, TOO_SMALL, USAGE};
 use crate::denial::{Nsec3Hash, nelgvasti_key_tag, nelgvasti_nsec3_hash};
+use crate::item_position::ItemPosition;
 use crate::message::{nelgvasti_canonical, nelgvasti_canonical_size, nelgvasti_same};
 use crate::names::{nelgvasti_canonical_name, nelgvasti_compare_names};
 use crate::normal::nelgvasti_normal;
-use crate::place::Place;
 use crate::records::nelgvasti_compare_records;
 use crate::version::nelgvasti_version;
 use crate::zone::{ZoneDigest, nelgvasti_zone_digest};
@@ -35,8 +35,8 @@ const SAME_SERVER: &[u8] =
 const LATER_SERVER: &[u8] =
     b"\x124\x81\x80\0\0\0\x01\0\0\0\0\x03com\0\0\x02\0\x01\0\0\0\x2b\0\x05\x03com\0";
 
-/// A place that no call writes.
-const NOWHERE: Place = Place {
+/// A position that no call writes.
+const NOWHERE: ItemPosition = ItemPosition {
     message: 9,
     section: 9,
     index: 9,
@@ -48,11 +48,11 @@ struct Left {
     answer: u32,
     length: usize,
     octets: [u8; 80],
-    place: Place,
+    position: ItemPosition,
 }
 
-/// The answer, the length, the octets at the start of a buffer of sevens, and the place.
-fn leaving(answer: u32, length: usize, written: &[u8], place: Place) -> Left {
+/// The answer, the length, the octets at the start of a buffer of sevens, and the position.
+fn leaving(answer: u32, length: usize, written: &[u8], position: ItemPosition) -> Left {
     let mut octets = [7; 80];
     for (to, from) in octets.iter_mut().zip(written) {
         *to = *from;
@@ -61,13 +61,13 @@ fn leaving(answer: u32, length: usize, written: &[u8], place: Place) -> Left {
         answer,
         length,
         octets,
-        place,
+        position,
     }
 }
 
-/// The place of an item of message 0.
-fn at(section: u32, index: u32) -> Place {
-    Place {
+/// The position of an item of message 0.
+fn at(section: u32, index: u32) -> ItemPosition {
+    ItemPosition {
         message: 0,
         section,
         index,
@@ -77,14 +77,14 @@ fn at(section: u32, index: u32) -> Place {
 fn after_canonical(alloc: Global, message: &[u8], room: usize) -> Left {
     let mut left = leaving(0, 9, &[], NOWHERE);
     let out = &mut left.octets[..room.min(80)];
-    left.answer = nelgvasti_canonical(alloc, message, out, &mut left.length, &mut left.place);
+    left.answer = nelgvasti_canonical(alloc, message, out, &mut left.length, &mut left.position);
     left
 }
 
 fn after_normal(alloc: Global, message: &[u8], room: usize) -> Left {
     let mut left = leaving(0, 9, &[], NOWHERE);
     let out = &mut left.octets[..room.min(80)];
-    left.answer = nelgvasti_normal(alloc, message, out, &mut left.length, &mut left.place);
+    left.answer = nelgvasti_normal(alloc, message, out, &mut left.length, &mut left.position);
     left
 }
 
@@ -144,10 +144,16 @@ fn normal_forms_are_written(rt: HostRuntime) {
 
 #[test]
 fn sizes_are_counted(rt: HostRuntime) {
-    let (mut octets, mut records, mut place) = (9, 9, NOWHERE);
-    let answer = nelgvasti_canonical_size(rt.alloc(), REPLY, &mut octets, &mut records, &mut place);
+    let (mut octets, mut records, mut position) = (9, 9, NOWHERE);
+    let answer = nelgvasti_canonical_size(
+        rt.alloc(),
+        REPLY,
+        &mut octets,
+        &mut records,
+        &mut position,
+    );
     assert!(rt;
-        (answer, octets, records, place) == (DONE, 75, 2, NOWHERE),
+        (answer, octets, records, position) == (DONE, 75, 2, NOWHERE),
         "a reply"
     );
     let answer = nelgvasti_canonical_size(
@@ -155,25 +161,25 @@ fn sizes_are_counted(rt: HostRuntime) {
         &REPLY[..66],
         &mut octets,
         &mut records,
-        &mut place,
+        &mut position,
     );
     assert!(rt;
-        (answer, octets, records, place) == (ITEM, 75, 2, at(1, 1)),
+        (answer, octets, records, position) == (ITEM, 75, 2, at(1, 1)),
         "a record cut"
     );
 }
 
-/// The answer to two messages, whether they are the same, and the place.
-fn after_same(alloc: Global, first: &[u8], second: &[u8]) -> (u32, u32, Place) {
-    let (mut same, mut place) = (9, NOWHERE);
-    let answer = nelgvasti_same(alloc, first, second, &mut same, &mut place);
-    (answer, same, place)
+/// The answer to two messages, whether they are the same, and the position.
+fn after_same(alloc: Global, first: &[u8], second: &[u8]) -> (u32, u32, ItemPosition) {
+    let (mut same, mut position) = (9, NOWHERE);
+    let answer = nelgvasti_same(alloc, first, second, &mut same, &mut position);
+    (answer, same, position)
 }
 
 #[test]
 fn messages_are_compared(rt: HostRuntime) {
     let alloc = rt.alloc();
-    let second = Place {
+    let second = ItemPosition {
         message: 1,
         section: 0,
         index: 0,
@@ -342,16 +348,16 @@ const NO_DIGEST: ZoneDigest = ZoneDigest {
     digest: [9; 48],
 };
 
-/// The answer to messages and an apex, the digest and the place.
+/// The answer to messages and an apex, the digest and the position.
 fn after_zone(
     alloc: Global,
     messages: &[u8],
     lengths: &[usize],
     apex: &[u8],
-) -> (u32, ZoneDigest, Place) {
-    let (mut digest, mut place) = (NO_DIGEST, NOWHERE);
-    let answer = nelgvasti_zone_digest(alloc, messages, lengths, apex, &mut digest, &mut place);
-    (answer, digest, place)
+) -> (u32, ZoneDigest, ItemPosition) {
+    let (mut digest, mut position) = (NO_DIGEST, NOWHERE);
+    let answer = nelgvasti_zone_digest(alloc, messages, lengths, apex, &mut digest, &mut position);
+    (answer, digest, position)
 }
 
 #[test]
@@ -364,7 +370,7 @@ fn zones_are_digested(rt: HostRuntime) {
         octets: 197,
         digest: DIGEST,
     };
-    let second = Place {
+    let second = ItemPosition {
         message: 1,
         section: 0,
         index: 0,

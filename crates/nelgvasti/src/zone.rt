@@ -9,11 +9,11 @@ ghost use Rattle.dns_zone.specs.Digests.{IsDigestOf};
 ghost use Rattle.dns_zone.specs.Zone.{HasSoa, members};
 ghost use Rattle.dns_zone.specs.Texts.{on_messages};
 ghost use Rattle.nelgvasti.specs.Calls.{AnswersOrMemory, HasName, HasNoName};
-ghost use Rattle.nelgvasti.specs.Refused.{message_place};
-ghost use Rattle.nelgvasti.specs.Zones.{AreCut, IsDigest, error_answer, zone_answer, zone_place};
+ghost use Rattle.nelgvasti.specs.Refused.{message_position};
+ghost use Rattle.nelgvasti.specs.Zones.{AreCut, IsDigest, error_answer, zone_answer, zone_position};
 
 use crate::answers::{DONE, ITEM, MEMORY, NO_SOA, SHORT, USAGE};
-use crate::place::Place;
+use crate::item_position::ItemPosition;
 use dns_message::CanonError;
 use dns_name::RevNameBuf;
 use dns_text::PrintError;
@@ -78,14 +78,14 @@ fn cut(alloc: Global, octets: &[u8], lengths: &[usize]) -> Result<Vec<Vec<u8>>, 
     Ok(messages)
 }
 
-/// The answer to messages whose zone has no digest. The place is written if a message can't be read.
-fn refuse_zone(place: &mut Place, error: PrintError<Refusal>) -> u32
+/// The answer to messages whose zone has no digest. The position is written if a message can't be read.
+fn refuse_zone(position: &mut ItemPosition, error: PrintError<Refusal>) -> u32
     ensures answer { result ≡ error_answer error }
-    ensures place { place.new ≡ zone_place error place.old }
+    ensures position { position.new ≡ zone_position error position.old }
 {
     match error {
         PrintError::Refused(Refusal::Short { message }) => {
-            place.refuse(message, CanonError::Short)
+            position.refuse(message, CanonError::Short)
         }
         PrintError::Refused(
             Refusal::Item {
@@ -93,7 +93,7 @@ fn refuse_zone(place: &mut Place, error: PrintError<Refusal>) -> u32
                 section,
                 index,
             },
-        ) => place.refuse(message, CanonError::Item { section, index }),
+        ) => position.refuse(message, CanonError::Item { section, index }),
         PrintError::Refused(Refusal::NoSoa) => NO_SOA,
         PrintError::Refused(Refusal::BadHex) => USAGE,
         PrintError::Memory => MEMORY,
@@ -116,7 +116,7 @@ pub extern "C" fn nelgvasti_zone_digest(
     lengths: &[usize],
     apex: &[u8],
     digest: &mut ZoneDigest,
-    place: &mut Place,
+    position: &mut ItemPosition,
 ) -> u32
     // What is written.
     ensures done { result ≡ DONE → (labels : Labels) × (ms : List Octets) × (rss : List (List RecordValue)) × HasName apex.now labels
@@ -128,11 +128,11 @@ pub extern "C" fn nelgvasti_zone_digest(
     ensures unsuited { HasNoName apex.now ⊎ ((sum lengths.now ≢ length messages.now) ⊎ (2 ^ 32 ≤ length lengths.now)) → result ≡ USAGE }
     ensures no_soa { result ≡ NO_SOA → (labels : Labels) × (ms : List Octets) × (rss : List (List RecordValue)) × HasName apex.now labels
         × AreCut messages.now lengths.now ms × AreValid ms rss × ¬ HasSoa labels (all_records ms) }
-    ensures short { result ≡ SHORT → (ms : List Octets) × AreCut messages.now lengths.now ms × IsFirstRefused ms place.new.message canon.Short
-        × (place.new ≡ message_place place.new.message) }
+    ensures short { result ≡ SHORT → (ms : List Octets) × AreCut messages.now lengths.now ms × IsFirstRefused ms position.new.message canon.Short
+        × (position.new ≡ message_position position.new.message) }
     ensures item { result ≡ ITEM → (ms : List Octets) × AreCut messages.now lengths.now ms
-        × IsFirstRefused ms place.new.message (canon.Item place.new.section place.new.index) }
-    ensures place { result ≢ SHORT → result ≢ ITEM → place.new ≡ place.old }
+        × IsFirstRefused ms position.new.message (canon.Item position.new.section position.new.index) }
+    ensures position { result ≢ SHORT → result ≢ ITEM → position.new ≡ position.old }
     ensures expected { (labels : Labels) (ms : List Octets) → HasName apex.now labels → AreCut messages.now lengths.now ms → length lengths.now < 2 ^ 32
         → AnswersOrMemory (zone_answer (on_messages labels (Some ms))) result }
 {
@@ -150,6 +150,6 @@ pub extern "C" fn nelgvasti_zone_digest(
             *digest = ZoneDigest::of(&found);
             DONE
         }
-        Err(error) => refuse_zone(place, error),
+        Err(error) => refuse_zone(position, error),
     }
 }

@@ -8,10 +8,10 @@ use Rattle.nelgvasti.proofs.Sameness.{says_same}
 use Rattle.nelgvasti.proofs.message.nelgvasti_same.Goals as goal
 
 pub returns-in-Err-clause-short : goal.returns-in-Err-clause-short
-returns-in-Err-clause-short c = short_refusal [] [] c.args.first.now (c.args.second.now ∷ []) tt c.in-Err.error c.refuse.result c.args.place.now c.refuse.new.self c.in-Err.ensures.refused c.refuse.ensures.answer c.refuse.ensures.place
+returns-in-Err-clause-short c = short_refusal [] [] c.args.first.now (c.args.second.now ∷ []) tt c.in-Err.error c.refuse.result c.args.position.now c.refuse.new.self c.in-Err.ensures.refused c.refuse.ensures.answer c.refuse.ensures.position
 
 pub returns-in-Err-clause-item : goal.returns-in-Err-clause-item
-returns-in-Err-clause-item c = item_refusal [] [] c.args.first.now (c.args.second.now ∷ []) tt c.in-Err.error c.refuse.result c.args.place.now c.refuse.new.self c.in-Err.ensures.refused c.refuse.ensures.answer c.refuse.ensures.place
+returns-in-Err-clause-item c = item_refusal [] [] c.args.first.now (c.args.second.now ∷ []) tt c.in-Err.error c.refuse.result c.args.position.now c.refuse.new.self c.in-Err.ensures.refused c.refuse.ensures.answer c.refuse.ensures.position
 
 pub returns-in-Err-clause-expected : goal.returns-in-Err-clause-expected
 returns-in-Err-clause-expected c = rw c.refuse.ensures.answer (refused_answer (λ rs. reading_answer (λ ss. DONE) (message_reading c.args.second.now)) c.args.first.now c.in-Err.error c.in-Err.ensures.refused)
@@ -19,14 +19,14 @@ returns-in-Err-clause-expected c = rw c.refuse.ensures.answer (refused_answer (�
 pub returns-in-Err-read_forms-clause-short : goal.returns-in-Err-read_forms-clause-short
 returns-in-Err-read_forms-clause-short c =
     let read = c.in-Ok.ensures.read in
-    short_refusal (c.args.first.now ∷ []) (read.0 ∷ []) c.args.second.now [] (read.1, tt) c.in-Err-read_forms.error c.refuse-in-Err-read_forms.result c.args.place.now c.refuse-in-Err-read_forms.new.self c.in-Err-read_forms.ensures.refused c.refuse-in-Err-read_forms.ensures.answer
-    c.refuse-in-Err-read_forms.ensures.place
+    short_refusal (c.args.first.now ∷ []) (read.0 ∷ []) c.args.second.now [] (read.1, tt) c.in-Err-read_forms.error c.refuse-in-Err-read_forms.result c.args.position.now c.refuse-in-Err-read_forms.new.self c.in-Err-read_forms.ensures.refused c.refuse-in-Err-read_forms.ensures.answer
+    c.refuse-in-Err-read_forms.ensures.position
 
 pub returns-in-Err-read_forms-clause-item : goal.returns-in-Err-read_forms-clause-item
 returns-in-Err-read_forms-clause-item c =
     let read = c.in-Ok.ensures.read in
-    item_refusal (c.args.first.now ∷ []) (read.0 ∷ []) c.args.second.now [] (read.1, tt) c.in-Err-read_forms.error c.refuse-in-Err-read_forms.result c.args.place.now c.refuse-in-Err-read_forms.new.self c.in-Err-read_forms.ensures.refused c.refuse-in-Err-read_forms.ensures.answer
-    c.refuse-in-Err-read_forms.ensures.place
+    item_refusal (c.args.first.now ∷ []) (read.0 ∷ []) c.args.second.now [] (read.1, tt) c.in-Err-read_forms.error c.refuse-in-Err-read_forms.result c.args.position.now c.refuse-in-Err-read_forms.new.self c.in-Err-read_forms.ensures.refused c.refuse-in-Err-read_forms.ensures.answer
+    c.refuse-in-Err-read_forms.ensures.position
 
 pub returns-in-Err-read_forms-clause-expected : goal.returns-in-Err-read_forms-clause-expected
 returns-in-Err-read_forms-clause-expected c =

@@ -58,14 +58,14 @@ pub returns-clause-short : goal.returns-clause-short
 returns-clause-short c = λ is.
     let ms = map (λ m. m.items) c.deref.result.now in
     let cut = subst (λ l. AreCut c.args.messages.now c.args.lengths.now (map (λ m. m.items) l)) (sym c.deref.ensures.value) c.in-Ok-cut.ensures in
-    let short = zone_short c.in-Ok.apex ms c.in-Err.error c.args.place.now c.refuse_zone.new.place c.in-Err.ensures.refused c.refuse_zone.ensures.place (sym c.refuse_zone.ensures.answer ∙ is) in
+    let short = zone_short c.in-Ok.apex ms c.in-Err.error c.args.position.now c.refuse_zone.new.position c.in-Err.ensures.refused c.refuse_zone.ensures.position (sym c.refuse_zone.ensures.answer ∙ is) in
     (ms, cut, short.0, short.1)
 
 pub returns-clause-item : goal.returns-clause-item
 returns-clause-item c = λ is.
     let ms = map (λ m. m.items) c.deref.result.now in
     let cut = subst (λ l. AreCut c.args.messages.now c.args.lengths.now (map (λ m. m.items) l)) (sym c.deref.ensures.value) c.in-Ok-cut.ensures in
-    (ms, cut, zone_item c.in-Ok.apex ms c.in-Err.error c.args.place.now c.refuse_zone.new.place c.in-Err.ensures.refused c.refuse_zone.ensures.place (sym c.refuse_zone.ensures.answer ∙ is))
+    (ms, cut, zone_item c.in-Ok.apex ms c.in-Err.error c.args.position.now c.refuse_zone.new.position c.in-Err.ensures.refused c.refuse_zone.ensures.position (sym c.refuse_zone.ensures.answer ∙ is))
 
 pub returns-clause-expected : goal.returns-clause-expected
 returns-clause-expected c = λ labels others has other few.
