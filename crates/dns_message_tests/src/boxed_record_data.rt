@@ -69,6 +69,9 @@ fn octets_that_are_no_data_are_refused(rt: HostRuntime) {
     let error = error_of(rt.alloc(), 1, b"\xc0\0\x02");
     let is_unreadable = error == Some(BoxError::Unreadable);
     holds(&rt, is_unreadable, "boxed-data: three octets");
+    let error = error_of(rt.alloc(), 59, b"\0\0\0");
+    let is_unreadable = error == Some(BoxError::Unreadable);
+    holds(&rt, is_unreadable, "boxed-data: three octets of CDS");
     let error = error_of(rt.alloc(), 65_280, TOO_LONG);
     let is_too_long = error == Some(BoxError::TooLong);
     holds(&rt, is_too_long, "boxed-data: 65,536 octets");

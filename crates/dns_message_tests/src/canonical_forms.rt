@@ -8,6 +8,10 @@ use std::alloc::Global;
 const ADDRESSES: &[u8] =
     b"\x12\x34\x81\x80\0\0\0\x04\0\0\0\0\x01A\0\0\x01\0\x01\0\0\0\x3c\0\x04\xc0\0\x02\x01\x01a\0\0\x01\0\x01\0\0\0\x3b\0\x04\xc0\0\x02\x01\x01a\0\0\x01\0\x01\0\0\0\x3d\0\x04\xc0\0\x02\x01\x01a\0\0\x01\0\x01\0\0\0\x3b\0\x04\xc0\0\x02\x02";
 
+/// Three answers: an address of `a.` for 60 seconds, twice, and for 59.
+const THREE: &[u8] =
+    b"\x12\x34\x81\x80\0\0\0\x03\0\0\0\0\x01a\0\0\x01\0\x01\0\0\0\x3c\0\x04\xc0\0\x02\x01\x01a\0\0\x01\0\x01\0\0\0\x3c\0\x04\xc0\0\x02\x01\x01a\0\0\x01\0\x01\0\0\0\x3b\0\x04\xc0\0\x02\x01";
+
 /// The canonical octets of the first address, for 59 seconds.
 const LEAST: &[u8] = b"\x01a\0\0\x01\0\x01\0\0\0\x3b\0\x04\xc0\0\x02\x01";
 
@@ -77,6 +81,8 @@ fn count_left(alloc: Global, message: &[u8]) -> Option<usize> {
 fn alike_records_collapse(rt: HostRuntime) {
     let four = count_left(rt.alloc(), ADDRESSES);
     holds(&rt, four == Some(2), "four addresses");
+    let three = count_left(rt.alloc(), THREE);
+    holds(&rt, three == Some(1), "duplicates-once");
     let most = count_left(rt.alloc(), &most_records());
     holds(&rt, most == Some(5_956), "all classes differ");
 }

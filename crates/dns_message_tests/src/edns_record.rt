@@ -68,6 +68,26 @@ fn fields_and_options_are_read_and_written(rt: HostRuntime) {
     holds(&rt, form == Some((41, 4096, 16_875_520)), "a record");
 }
 
+/// The payload, if the record that the octets are is an EDNS record.
+fn payload_of_form(octets: &[u8]) -> Option<u16> {
+    match Record::<NameBuf, Data<'_>>::parse_bytes(octets) {
+        Ok(form) => match Edns::try_from(form) {
+            Ok(edns) => Some(edns.max_udp_payload.get()),
+            Err(_) => None,
+        },
+        Err(_) => None,
+    }
+}
+
+/// Only a record whose owner is the root is an EDNS record (RFC 6891 section 6.1.2).
+#[test]
+fn records_of_the_root_are_edns_records(rt: HostRuntime) {
+    let root = payload_of_form(ANSWER);
+    holds(&rt, root == Some(4096), "the root");
+    let other = payload_of_form(b"\x01a\0\0\x29\x10\0\x01\x01\x80\0\0\0");
+    holds(&rt, other.is_none(), "another owner");
+}
+
 /// Whether the octets are no EDNS record.
 fn is_refused(octets: &[u8]) -> bool {
     Edns::parse_bytes(octets).is_err()

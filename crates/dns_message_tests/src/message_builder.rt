@@ -182,6 +182,60 @@ fn an_item_fits_exactly_or_is_refused(rt: HostRuntime) {
     holds(&rt, is_question, "builder-over-43-octets: a question alone");
 }
 
+#[test]
+fn a_new_message_is_empty(rt: HostRuntime) {
+    let mut buffer = [1; 12];
+    let mut names = NameCompressor::new();
+    let flags = HeaderFlags::default();
+    let builder = MessageBuilder::new(&mut buffer, &mut names, U16::new(0), flags);
+    let is_empty = builder.message().as_bytes() == [0; 12].as_slice();
+    holds(&rt, is_empty, "twelve octets");
+}
+
+/// A buffer for the most questions of the root, which take 5 octets each, and one for a question fewer.
+const MOST_QUESTIONS: &[(&str, usize, usize, MessageBuildError)] = &[
+    ("the most", 327_687, 65_535, MessageBuildError::TooMany),
+    ("one fewer", 327_682, 65_534, MessageBuildError::Truncated),
+];
+
+/// Whether this many questions of the root are pushed.
+fn are_questions_pushed(builder: &mut MessageBuilder<'_>, count: usize) -> bool {
+    for _index in 0..count {
+        if push_question(builder, b"\0", QType::NS).is_some() {
+            return false;
+        }
+    }
+    true
+}
+
+/// Why a question and an answer are refused after this many questions in a buffer of this size, and how many octets the message has then.
+fn refusals_after(alloc: Global, size: usize, count: usize) -> Option<(Refusal, Refusal, usize)> {
+    let Ok(mut buffer) = vec![in alloc; 0; size] else {
+        return None;
+    };
+    if buffer.len() < 12 {
+        return None;
+    }
+    let mut names = NameCompressor::new();
+    let flags = HeaderFlags::default();
+    let mut builder = MessageBuilder::new(&mut buffer, &mut names, U16::new(7), flags);
+    if !are_questions_pushed(&mut builder, count) {
+        return None;
+    }
+    let question = push_question(&mut builder, b"\0", QType::NS);
+    let answer = push_record(&mut builder, ('a', b"\0", 1, 42, b"\x7f\0\0\x01"))?;
+    Some((question, answer, builder.message().as_bytes().len()))
+}
+
+#[test]
+fn a_section_has_at_most_65535_items(rt: HostRuntime) {
+    for (what, size, count, refusal) in MOST_QUESTIONS {
+        let found = refusals_after(rt.alloc(), *size, *count);
+        let wanted = Some((Some(*refusal), Some(MessageBuildError::Truncated), *size));
+        assert!(rt; found == wanted, "{what}");
+    }
+}
+
 /// Whether this is the text of the error.
 fn has_text(alloc: Global, error: MessageBuildError, text: &str) -> bool {
     match error.to_string(alloc) {

@@ -5,13 +5,14 @@ use crate::boxed_record_data::boxed;
 use crate::message_builder::is_pushed;
 use crate::rdata_by_type::rdata;
 use crate::written::writes_canonical;
+use dns_basic::Mx;
 use dns_boxed::old_new_box;
 use dns_message::{HeaderFlags, MessageBuilder};
 use dns_name::{Name, NameBuf};
 use dns_num::U16;
 use dns_rdata::RecordData;
 use dns_record::{RClass, Record, TTL};
-use dns_wire::{NameCompressor, ParseBytes, SplitMessageBytes};
+use dns_wire::{BuildInMessage, NameCompressor, ParseBytes, SplitMessageBytes};
 use std::alloc::Global;
 
 /// The owner of the records.
@@ -93,6 +94,31 @@ fn are_written(alloc: Global, is_boxed: bool) -> bool {
 fn records_of_each_type_share_names(rt: HostRuntime) {
     holds(&rt, are_written(rt.alloc(), false), "data");
     holds(&rt, are_written(rt.alloc(), true), "boxed data");
+}
+
+/// Whether `b.` and then MX data with the exchange `a.B.` are written as these octets, and which offsets names can then point to.
+fn writes_exchange(wanted: &[u8], places: &[u16]) -> bool {
+    let (Ok(zone), Ok(exchange)) = (
+        Name::parse_bytes(b"\x01b\0"),
+        Name::parse_bytes(b"\x01a\x01B\0"),
+    ) else {
+        return false;
+    };
+    let preference = U16::new(1);
+    let data = Mx {
+        preference,
+        exchange,
+    };
+    let mut contents = [0; 9];
+    let mut names = NameCompressor::new();
+    let end = (zone, data).build_in_message(&mut contents, 0, &mut names);
+    end == Ok(9) && contents.as_slice() == wanted && names.places() == places
+}
+
+#[test]
+fn an_exchange_shares_labels_written_before(rt: HostRuntime) {
+    let is_written = writes_exchange(b"\x01b\0\0\x01\x01a\xc0\x0c", &[0, 5]);
+    holds(&rt, is_written, "exchange-below-a-name");
 }
 
 /// A record with names that are owned.

@@ -3,7 +3,7 @@
 use crate::assertion::holds;
 use crate::names::name;
 use dns_name::CanonicalName;
-use std::cmp::Ordering::{self, Equal, Greater};
+use std::cmp::Ordering::{self, Equal, Greater, Less};
 
 /// The names of RFC 4034 section 6.1, in its order.
 const ORDERED: &[&[u8]] = &[
@@ -29,6 +29,25 @@ fn compares_labels_from_the_root_on(rt: HostRuntime) {
         for (j, other) in ORDERED.iter().enumerate() {
             assert!(rt; order(one, other) == i.cmp(&j), "{i} and {j}");
         }
+    }
+}
+
+/// Pairs of names, and their order: one whose octets end as the other's do, inside a label; the root; and names in another case.
+pub(crate) const PAIRS: &[(&str, &[u8], &[u8], Ordering)] = &[
+    ("label-order-inside", b"\x01a\0", b"\x03!\x01a\0", Greater),
+    ("root-before-all", b"\0", b"\x01a\0", Less),
+    (
+        "equal-but-for-case",
+        b"\x01A\x01b\0",
+        b"\x01a\x01B\0",
+        Equal,
+    ),
+];
+
+#[test]
+fn labels_end_where_their_length_says(rt: HostRuntime) {
+    for (what, one, other, wanted) in PAIRS {
+        assert!(rt; order(one, other) == *wanted, "{what}");
     }
 }
 

@@ -50,6 +50,7 @@ fn prints_classes(rt: HostRuntime) {
     for (number, text) in CLASSES {
         assert!(rt; prints(rt.alloc(), &RClass::from(*number), text), "{text}");
     }
+    holds(&rt, prints(rt.alloc(), &RClass::CH, "CH"), "the constant");
 }
 
 /// Numbers without a name.

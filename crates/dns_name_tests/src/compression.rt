@@ -64,23 +64,59 @@ fn compresses_names_as_other_software_does(rt: HostRuntime) {
     holds(&rt, is_written, "contents and places");
 }
 
-/// Whether two names are written one after the other as these octets.
-fn writes_two(one: &[u8], other: &[u8], octets: &[u8; 23], places: &[u16]) -> bool {
-    let mut contents = [0; 23];
-    let end = end_in_message(&(name(one), name(other)), &mut contents, places);
-    end == Some(23) && &contents == octets
-}
+/// Two names, the octets that they are written as one after the other, and the offsets that names can then point to.
+type Pair = (
+    &'static str,
+    &'static [u8],
+    &'static [u8],
+    &'static [u8],
+    &'static [u16],
+);
 
-/// The second name ends as the first does, except for case.
-#[test]
-fn two_names_are_compressed(rt: HostRuntime) {
-    let is_written = writes_two(
+/// Names with the same last label but for case, one name twice, names with one label in common, and names with none.
+const PAIRS: &[Pair] = &[
+    (
+        "two-names-compressed",
         b"\x07example\x03org\0",
         b"\x07unequal\x03ORG\0",
         b"\x07example\x03org\0\x07unequal\xc0\x14",
         &[0, 8, 13],
-    );
-    holds(&rt, is_written, "two-names-compressed");
+    ),
+    (
+        "name-written-twice",
+        b"\x01a\x01b\0",
+        b"\x01a\x01b\0",
+        b"\x01a\x01b\0\xc0\x0c",
+        &[0, 2],
+    ),
+    (
+        "one label in common",
+        b"\x07example\x03org\0",
+        b"\x07unequal\x03org\0",
+        b"\x07example\x03org\0\x07unequal\xc0\x14",
+        &[0, 8, 13],
+    ),
+    (
+        "no label in common",
+        b"\x07example\x03org\0",
+        b"\x07example\x03com\0",
+        b"\x07example\x03org\0\x07example\x03com\0",
+        &[0, 8, 13, 21],
+    ),
+];
+
+/// Whether two names are written one after the other as these octets.
+fn writes_two(one: &[u8], other: &[u8], octets: &[u8], places: &[u16]) -> bool {
+    let mut contents = [0; 26];
+    let end = end_in_message(&(name(one), name(other)), &mut contents, places);
+    end == Some(octets.len()) && contents.starts_with(octets)
+}
+
+#[test]
+fn two_names_are_compressed(rt: HostRuntime) {
+    for (what, one, other, octets, places) in PAIRS {
+        assert!(rt; writes_two(one, other, octets, places), "{what}");
+    }
 }
 
 /// Where the name ends that begins at the offset, if it is this one, except for case.

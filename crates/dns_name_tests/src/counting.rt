@@ -5,6 +5,7 @@ ghost use Rattle.std.specs.Prelude.{◌≡◌, ◌+◌, ◌<◌, ℕ, List, IfSo
 ghost use Rattle.dns_wire.specs.Pointers.{NameAt, label_type_count};
 
 use crate::assertion::holds;
+use crate::canonical_order::PAIRS;
 use crate::names::name;
 use crate::pointers::{CHAIN, end_of_name};
 use dns_name::{Name, NameBuf, Steps};
@@ -28,26 +29,9 @@ fn order(one: &[u8], other: &[u8]) -> Ordering {
     compared::<Brand>(&name(one), &name(other), Blank::new(1))
 }
 
-/// Pairs of names, and their order.
-const ORDERED: &[(&str, &[u8], &[u8], Ordering)] = &[
-    (
-        "label-order-inside",
-        b"\x01a\0",
-        b"\x03!\x01a\0",
-        Ordering::Greater,
-    ),
-    ("root-before-all", b"\0", b"\x01a\0", Ordering::Less),
-    (
-        "equal-but-for-case",
-        b"\x01A\x01b\0",
-        b"\x01a\x01B\0",
-        Ordering::Equal,
-    ),
-];
-
 #[test]
 fn a_counted_comparison_gives_the_same_order(rt: HostRuntime) {
-    for (what, one, other, wanted) in ORDERED {
+    for (what, one, other, wanted) in PAIRS {
         assert!(rt; order(one, other) == *wanted, "{what}");
     }
 }
