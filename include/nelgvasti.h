@@ -37,8 +37,8 @@ extern "C" {
  * of any other answer of a call that takes memory. Any other answer comes exactly if the arguments call for it. */
 enum {
     NELGVASTI_DONE = 0,       /* everything was written */
-    NELGVASTI_SHORT = 1,      /* a message has fewer than 12 octets; the place says which message */
-    NELGVASTI_ITEM = 2,       /* an item of a message can't be read; the place says which */
+    NELGVASTI_SHORT = 1,      /* a message has fewer than 12 octets; the position says which message */
+    NELGVASTI_ITEM = 2,       /* an item of a message can't be read; the position says which */
     NELGVASTI_USAGE = 5,      /* an argument is not what the call takes */
     NELGVASTI_MEMORY = 8,     /* memory ran out */
     NELGVASTI_NO_SOA = 10,    /* the messages have no SOA record of the apex */
@@ -49,7 +49,7 @@ enum {
 /* Which message is refused, from 0, and which of its items is the first that can't be read: sections are 0 to 3 (question, answer, authority,
  * additional), and items count from 0 in each. It is written if the answer is NELGVASTI_ITEM, or NELGVASTI_SHORT, and then with section and
  * index 0. Else it is as it was. */
-struct nelgvasti_place {
+struct nelgvasti_item_position {
     uint32_t message;
     uint32_t section;
     uint32_t index;
@@ -76,15 +76,15 @@ uint32_t nelgvasti_version(void);
 /* Writes how many octets and how many records the canonical list of a message has.
  *
  *     size_t octets = 0, records = 0;
- *     struct nelgvasti_place place = {0, 0, 0};
- *     uint32_t answer = nelgvasti_canonical_size(message, length, &octets, &records, &place);
+ *     struct nelgvasti_item_position position = {0, 0, 0};
+ *     uint32_t answer = nelgvasti_canonical_size(message, length, &octets, &records, &position);
  *     if (answer == NELGVASTI_DONE) printf("%zu records, %zu octets\n", records, octets);
  *
  * DONE; SHORT, ITEM, MEMORY: the numbers are as they were.
  */
 uint32_t nelgvasti_canonical_size(const uint8_t *message, size_t message_length,
                                   size_t *octets, size_t *records,
-                                  struct nelgvasti_place *place);
+                                  struct nelgvasti_item_position *position);
 
 /* Writes the canonical list of a message to `out`, and the number of its octets to `out_length`: the canonical octets of each record other than
  * OPT, one record after the other in canonical order (RFC 4034 section 6). Records that are alike except for TTL and ASCII case occur once,
@@ -93,42 +93,42 @@ uint32_t nelgvasti_canonical_size(const uint8_t *message, size_t message_length,
  *
  *     uint8_t out[65536] = {0};
  *     size_t written = 0;
- *     uint32_t answer = nelgvasti_canonical(message, length, out, sizeof out, &written, &place);
+ *     uint32_t answer = nelgvasti_canonical(message, length, out, sizeof out, &written, &position);
  *
  * DONE: `out` begins with the list, and is as it was after it. TOO_SMALL: `out_length` is what is needed. SHORT, ITEM, MEMORY: `out_length` is
  * as it was. At all but DONE `out` is as it was.
  */
 uint32_t nelgvasti_canonical(const uint8_t *message, size_t message_length,
                              uint8_t *out, size_t out_capacity, size_t *out_length,
-                             struct nelgvasti_place *place);
+                             struct nelgvasti_item_position *position);
 
 /* Writes 1 to `same` if two messages carry the same records other than OPT, and else 0. Order, sections, duplicates, header and questions do
  * not count, nor does ASCII case in owners and in the names in data of nine types (RFC 4034 section 6.2, RFC 6840 section 5.1). Of records
  * that are alike except for TTL the least TTL counts.
  *
  *     uint32_t same = 0;
- *     uint32_t answer = nelgvasti_same(first, first_length, second, second_length, &same, &place);
+ *     uint32_t answer = nelgvasti_same(first, first_length, second, second_length, &same, &position);
  *     if (answer == NELGVASTI_DONE && same) puts("same");
  *
- * DONE; SHORT, ITEM, MEMORY: `same` is as it was. The place names the first message as 0, the second as 1.
+ * DONE; SHORT, ITEM, MEMORY: `same` is as it was. The position names the first message as 0, the second as 1.
  */
 uint32_t nelgvasti_same(const uint8_t *first, size_t first_length,
                         const uint8_t *second, size_t second_length,
-                        uint32_t *same, struct nelgvasti_place *place);
+                        uint32_t *same, struct nelgvasti_item_position *position);
 
 /* Writes the normal form of a message to `out`, and the number of its octets, at most 65,535, to `out_length`: one message for all messages with
  * the same records. Its id and flags are 0, and its answers are the records of the canonical list, with names that are compressed.
  *
  *     uint8_t out[65535] = {0};
  *     size_t written = 0;
- *     uint32_t answer = nelgvasti_normal(message, length, out, sizeof out, &written, &place);
+ *     uint32_t answer = nelgvasti_normal(message, length, out, sizeof out, &written, &position);
  *
  * DONE: `out` begins with the normal form, and is as it was after it. TOO_SMALL: `out_length` is what is needed. TOO_LARGE, SHORT, ITEM, MEMORY:
  * `out_length` is as it was. At all but DONE `out` is as it was.
  */
 uint32_t nelgvasti_normal(const uint8_t *message, size_t message_length,
                           uint8_t *out, size_t out_capacity, size_t *out_length,
-                          struct nelgvasti_place *place);
+                          struct nelgvasti_item_position *position);
 
 /* Writes the digest of the zone of an apex (RFC 8976, the SIMPLE scheme with SHA-384), for the records of messages, as those of a zone
  * transfer. The octets of the messages are given one after the other, and the length of each in `lengths`; `messages_length` is their sum. The
@@ -137,7 +137,7 @@ uint32_t nelgvasti_normal(const uint8_t *message, size_t message_length,
  *     const size_t lengths[2] = {first_length, second_length};
  *     const uint8_t apex[] = "\7example\3org";
  *     struct nelgvasti_digest digest = {0};
- *     uint32_t answer = nelgvasti_zone_digest(both, first_length + second_length, lengths, 2, apex, sizeof apex, &digest, &place);
+ *     uint32_t answer = nelgvasti_zone_digest(both, first_length + second_length, lengths, 2, apex, sizeof apex, &digest, &position);
  *
  * DONE; USAGE: the apex is no name, the lengths do not add up, or there are more than 4,294,967,295; NO_SOA, SHORT, ITEM, MEMORY. At all but DONE
  * `digest` is as it was. A number of octets past 64 bits is written as the greatest of 64 bits.
@@ -146,7 +146,7 @@ uint32_t nelgvasti_zone_digest(const uint8_t *messages, size_t messages_length,
                                const size_t *lengths, size_t lengths_count,
                                const uint8_t *apex, size_t apex_length,
                                struct nelgvasti_digest *digest,
-                               struct nelgvasti_place *place);
+                               struct nelgvasti_item_position *position);
 
 /* Writes the hash of a name in wire format for NSEC3 (RFC 5155 section 5). It takes no memory.
  *
