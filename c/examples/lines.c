@@ -182,7 +182,7 @@ static uint32_t hash(const char *text, const char *salt_text, const char *iterat
 int main(int count, char **words) {
     static struct messages messages;
     const char *command = count > 1 ? words[1] : "";
-    if (nelgvasti_version() != NELGVASTI_VERSION) return NELGVASTI_USAGE;
+    if (nelgvasti_version() >> 8 != NELGVASTI_VERSION >> 8) return NELGVASTI_USAGE;
     if (count == 5 && !strcmp(command, "hash")) return (int)hash(words[2], words[3], words[4]);
     read_messages(&messages);
     uint32_t answer = NELGVASTI_USAGE;
