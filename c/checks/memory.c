@@ -39,31 +39,31 @@ struct state {
     size_t out_length, records;
     uint32_t same;
     struct nelgvasti_digest digest;
-    struct nelgvasti_place place;
+    struct nelgvasti_item_position position;
 };
 
 static struct state state, before;
 static size_t length;
 
 static uint32_t call_size(void) {
-    return nelgvasti_canonical_size(message, length, &state.out_length, &state.records, &state.place);
+    return nelgvasti_canonical_size(message, length, &state.out_length, &state.records, &state.position);
 }
 
 static uint32_t call_canonical(void) {
-    return nelgvasti_canonical(message, length, state.out, sizeof state.out, &state.out_length, &state.place);
+    return nelgvasti_canonical(message, length, state.out, sizeof state.out, &state.out_length, &state.position);
 }
 
 static uint32_t call_same(void) {
-    return nelgvasti_same(message, length, message, length, &state.same, &state.place);
+    return nelgvasti_same(message, length, message, length, &state.same, &state.position);
 }
 
 static uint32_t call_normal(void) {
-    return nelgvasti_normal(message, length, state.out, sizeof state.out, &state.out_length, &state.place);
+    return nelgvasti_normal(message, length, state.out, sizeof state.out, &state.out_length, &state.position);
 }
 
 static uint32_t call_zone(void) {
     static const uint8_t apex[] = "\7example";
-    return nelgvasti_zone_digest(message, length, &length, 1, apex, sizeof apex, &state.digest, &state.place);
+    return nelgvasti_zone_digest(message, length, &length, 1, apex, sizeof apex, &state.digest, &state.position);
 }
 
 static int check(const char *name, uint32_t (*call)(void)) {

@@ -18,13 +18,13 @@ struct list {
 };
 
 static int fill(struct list *list) {
-    struct nelgvasti_place place = {0, 0, 0};
+    struct nelgvasti_item_position position = {0, 0, 0};
     uint32_t same = 0;
     static const uint8_t apex[] = "\7example";
-    return nelgvasti_zone_digest(message, length, &length, 1, apex, sizeof apex, &list->digest, &place) == NELGVASTI_DONE &&
-           nelgvasti_canonical(message, length, list->octets, ROOM, &list->length, &place) == NELGVASTI_DONE &&
-           nelgvasti_normal(message, length, list->form, sizeof list->form, &list->form_length, &place) == NELGVASTI_DONE &&
-           nelgvasti_same(message, length, list->form, list->form_length, &same, &place) == NELGVASTI_DONE && same == 1;
+    return nelgvasti_zone_digest(message, length, &length, 1, apex, sizeof apex, &list->digest, &position) == NELGVASTI_DONE &&
+           nelgvasti_canonical(message, length, list->octets, ROOM, &list->length, &position) == NELGVASTI_DONE &&
+           nelgvasti_normal(message, length, list->form, sizeof list->form, &list->form_length, &position) == NELGVASTI_DONE &&
+           nelgvasti_same(message, length, list->form, list->form_length, &same, &position) == NELGVASTI_DONE && same == 1;
 }
 
 static struct list alone;

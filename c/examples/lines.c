@@ -84,20 +84,20 @@ static size_t record_size(const uint8_t *octets) {
     return end + 11 + ((size_t)octets[end + 9] << 8 | octets[end + 10]);
 }
 
-static uint32_t refused(uint32_t answer, const struct nelgvasti_place *place) {
-    if (answer == NELGVASTI_SHORT) fprintf(stderr, "short %u\n", place->message);
-    if (answer == NELGVASTI_ITEM) fprintf(stderr, "item %u %u %u\n", place->message, place->section, place->index);
+static uint32_t refused(uint32_t answer, const struct nelgvasti_item_position *position) {
+    if (answer == NELGVASTI_SHORT) fprintf(stderr, "short %u\n", position->message);
+    if (answer == NELGVASTI_ITEM) fprintf(stderr, "item %u %u %u\n", position->message, position->section, position->index);
     return answer;
 }
 
 /* The canonical list of a message, for which memory is taken once. */
 static uint32_t list_of(const struct messages *messages, struct octets *list) {
-    struct nelgvasti_place place = {0, 0, 0};
+    struct nelgvasti_item_position position = {0, 0, 0};
     size_t octets = 0, records = 0;
-    uint32_t answer = nelgvasti_canonical_size(messages->octets.at, messages->octets.length, &octets, &records, &place);
-    if (answer != NELGVASTI_DONE) return refused(answer, &place);
+    uint32_t answer = nelgvasti_canonical_size(messages->octets.at, messages->octets.length, &octets, &records, &position);
+    if (answer != NELGVASTI_DONE) return refused(answer, &position);
     *list = room_for(octets);
-    return refused(nelgvasti_canonical(messages->octets.at, messages->octets.length, list->at, octets, &list->length, &place), &place);
+    return refused(nelgvasti_canonical(messages->octets.at, messages->octets.length, list->at, octets, &list->length, &position), &position);
 }
 
 static uint32_t canon(const struct messages *messages) {
@@ -127,37 +127,37 @@ static uint32_t keytags(const struct messages *messages) {
 }
 
 static uint32_t same(const struct messages *messages) {
-    struct nelgvasti_place place = {0, 0, 0};
+    struct nelgvasti_item_position position = {0, 0, 0};
     uint32_t same = 0;
     size_t first = messages->count > 0 ? messages->lengths[0] : 0;
     const uint8_t *octets = messages->octets.at;
-    uint32_t answer = nelgvasti_same(octets, first, octets + first, messages->octets.length - first, &same, &place);
+    uint32_t answer = nelgvasti_same(octets, first, octets + first, messages->octets.length - first, &same, &position);
     if (answer == NELGVASTI_DONE) puts(same ? "same" : "different");
-    return refused(answer, &place);
+    return refused(answer, &position);
 }
 
 static uint32_t normal(const struct messages *messages) {
     static uint8_t form[65535];
-    struct nelgvasti_place place = {0, 0, 0};
+    struct nelgvasti_item_position position = {0, 0, 0};
     size_t length = 0;
-    uint32_t answer = nelgvasti_normal(messages->octets.at, messages->octets.length, form, sizeof form, &length, &place);
+    uint32_t answer = nelgvasti_normal(messages->octets.at, messages->octets.length, form, sizeof form, &length, &position);
     if (answer == NELGVASTI_DONE) print_line(form, length);
-    return refused(answer, &place);
+    return refused(answer, &position);
 }
 
 static uint32_t zone(const struct messages *messages, const char *apex) {
-    struct nelgvasti_place place = {0, 0, 0};
+    struct nelgvasti_item_position position = {0, 0, 0};
     struct nelgvasti_digest digest;
     memset(&digest, 0, sizeof digest);
     struct octets name = name_of(apex);
     uint32_t answer = nelgvasti_zone_digest(messages->octets.at, messages->octets.length, messages->lengths, messages->count,
-                                            name.at, name.length, &digest, &place);
+                                            name.at, name.length, &digest, &position);
     free(name.at);
     if (answer == NELGVASTI_DONE) {
         printf("records %llu octets %llu\ndigest ", (unsigned long long)digest.records, (unsigned long long)digest.octets);
         print_line(digest.digest, sizeof digest.digest);
     }
-    return refused(answer, &place);
+    return refused(answer, &position);
 }
 
 /* Prints 20 octets in base32hex (RFC 4648 section 7). */
@@ -182,7 +182,7 @@ static uint32_t hash(const char *text, const char *salt_text, const char *iterat
 int main(int count, char **words) {
     static struct messages messages;
     const char *command = count > 1 ? words[1] : "";
-    if (nelgvasti_version() != NELGVASTI_VERSION) return NELGVASTI_USAGE;
+    if (nelgvasti_version() >> 8 != NELGVASTI_VERSION >> 8) return NELGVASTI_USAGE;
     if (count == 5 && !strcmp(command, "hash")) return (int)hash(words[2], words[3], words[4]);
     read_messages(&messages);
     uint32_t answer = NELGVASTI_USAGE;

@@ -35,7 +35,7 @@ class TooLargeError(Error, ValueError):
     """The normal form has more than 65,535 octets."""
 
 
-class _Place(ctypes.Structure):
+class _ItemPosition(ctypes.Structure):
     _fields_ = [(name, ctypes.c_uint32) for name in ("message", "section", "index")]
 
 
@@ -45,7 +45,7 @@ class _Digest(ctypes.Structure):
 
 _OCTETS = (ctypes.c_char_p, ctypes.c_size_t)
 _SIZE = ctypes.POINTER(ctypes.c_size_t)
-_PLACE = ctypes.POINTER(_Place)
+_POSITION = ctypes.POINTER(_ItemPosition)
 
 
 def _call(name, *types):
@@ -54,17 +54,17 @@ def _call(name, *types):
     return function
 
 
-_canonical_size = _call("canonical_size", *_OCTETS, _SIZE, _SIZE, _PLACE)
-_canonical = _call("canonical", *_OCTETS, *_OCTETS, _SIZE, _PLACE)
-_same = _call("same", *_OCTETS, *_OCTETS, ctypes.POINTER(ctypes.c_uint32), _PLACE)
-_normal = _call("normal", *_OCTETS, *_OCTETS, _SIZE, _PLACE)
-_zone_digest = _call("zone_digest", *_OCTETS, _SIZE, ctypes.c_size_t, *_OCTETS, ctypes.POINTER(_Digest), _PLACE)
+_canonical_size = _call("canonical_size", *_OCTETS, _SIZE, _SIZE, _POSITION)
+_canonical = _call("canonical", *_OCTETS, *_OCTETS, _SIZE, _POSITION)
+_same = _call("same", *_OCTETS, *_OCTETS, ctypes.POINTER(ctypes.c_uint32), _POSITION)
+_normal = _call("normal", *_OCTETS, *_OCTETS, _SIZE, _POSITION)
+_zone_digest = _call("zone_digest", *_OCTETS, _SIZE, ctypes.c_size_t, *_OCTETS, ctypes.POINTER(_Digest), _POSITION)
 _nsec3_hash = _call("nsec3_hash", *_OCTETS, *_OCTETS, ctypes.c_uint16, ctypes.c_char_p)
 _key_tag = _call("key_tag", *_OCTETS, ctypes.POINTER(ctypes.c_uint16))
 version = _call("version")
 
 
-def _check(answer, place=None):
+def _check(answer, position=None):
     if answer == 0:
         return
     if answer == 8:
@@ -72,9 +72,9 @@ def _check(answer, place=None):
     kinds = {1: MessageError, 2: MessageError, 5: UsageError, 10: NoSoaError, 11: TooLargeError}
     error = kinds.get(answer, Error)(f"answer {answer}")
     error.answer = answer
-    if place is not None:
-        error.message = place.message
-        error.section, error.index = (place.section, place.index) if answer == 2 else (None, None)
+    if position is not None:
+        error.message = position.message
+        error.section, error.index = (position.section, position.index) if answer == 2 else (None, None)
     raise error
 
 
@@ -93,32 +93,32 @@ def _records(octets):
 
 def canonical(message):
     """The canonical octets of each record of a message other than OPT, in canonical order."""
-    octets, records, place = ctypes.c_size_t(), ctypes.c_size_t(), _Place()
-    _check(_canonical_size(message, len(message), octets, records, place), place)
+    octets, records, position = ctypes.c_size_t(), ctypes.c_size_t(), _ItemPosition()
+    _check(_canonical_size(message, len(message), octets, records, position), position)
     out = ctypes.create_string_buffer(max(octets.value, 1))
-    _check(_canonical(message, len(message), out, octets.value, octets, place), place)
+    _check(_canonical(message, len(message), out, octets.value, octets, position), position)
     return _records(out.raw[: octets.value])
 
 
 def same(first, second):
     """Whether two messages carry the same records other than OPT."""
-    answer, place = ctypes.c_uint32(), _Place()
-    _check(_same(first, len(first), second, len(second), answer, place), place)
+    answer, position = ctypes.c_uint32(), _ItemPosition()
+    _check(_same(first, len(first), second, len(second), answer, position), position)
     return answer.value == 1
 
 
 def normal(message):
     """The normal form of a message."""
-    out, length, place = ctypes.create_string_buffer(65535), ctypes.c_size_t(), _Place()
-    _check(_normal(message, len(message), out, len(out), length, place), place)
+    out, length, position = ctypes.create_string_buffer(65535), ctypes.c_size_t(), _ItemPosition()
+    _check(_normal(message, len(message), out, len(out), length, position), position)
     return out.raw[: length.value]
 
 
 def zone_digest(messages, apex):
     """How many records are in the zone of an apex, a name in wire format, how many octets they have, and their digest."""
     lengths = (ctypes.c_size_t * max(len(messages), 1))(*map(len, messages))
-    octets, digest, place = b"".join(messages), _Digest(), _Place()
-    _check(_zone_digest(octets, len(octets), lengths, len(messages), apex, len(apex), digest, place), place)
+    octets, digest, position = b"".join(messages), _Digest(), _ItemPosition()
+    _check(_zone_digest(octets, len(octets), lengths, len(messages), apex, len(apex), digest, position), position)
     return digest.records, digest.octets, bytes(digest.digest)
 
 

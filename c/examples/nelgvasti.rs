@@ -30,7 +30,7 @@ pub struct ZoneDigest {
 mod raw {
     #[repr(C)]
     #[derive(Default)]
-    pub struct Place {
+    pub struct ItemPosition {
         pub message: u32,
         pub section: u32,
         pub index: u32,
@@ -44,10 +44,37 @@ mod raw {
     }
 
     extern "C" {
-        pub fn nelgvasti_canonical_size(message: *const u8, length: usize, octets: *mut usize, records: *mut usize, place: *mut Place) -> u32;
-        pub fn nelgvasti_canonical(message: *const u8, length: usize, out: *mut u8, capacity: usize, out_length: *mut usize, place: *mut Place) -> u32;
-        pub fn nelgvasti_same(first: *const u8, first_length: usize, second: *const u8, second_length: usize, same: *mut u32, place: *mut Place) -> u32;
-        pub fn nelgvasti_normal(message: *const u8, length: usize, out: *mut u8, capacity: usize, out_length: *mut usize, place: *mut Place) -> u32;
+        pub fn nelgvasti_canonical_size(
+            message: *const u8,
+            length: usize,
+            octets: *mut usize,
+            records: *mut usize,
+            position: *mut ItemPosition,
+        ) -> u32;
+        pub fn nelgvasti_canonical(
+            message: *const u8,
+            length: usize,
+            out: *mut u8,
+            capacity: usize,
+            out_length: *mut usize,
+            position: *mut ItemPosition,
+        ) -> u32;
+        pub fn nelgvasti_same(
+            first: *const u8,
+            first_length: usize,
+            second: *const u8,
+            second_length: usize,
+            same: *mut u32,
+            position: *mut ItemPosition,
+        ) -> u32;
+        pub fn nelgvasti_normal(
+            message: *const u8,
+            length: usize,
+            out: *mut u8,
+            capacity: usize,
+            out_length: *mut usize,
+            position: *mut ItemPosition,
+        ) -> u32;
         pub fn nelgvasti_zone_digest(
             messages: *const u8,
             messages_length: usize,
@@ -56,7 +83,7 @@ mod raw {
             apex: *const u8,
             apex_length: usize,
             digest: *mut Digest,
-            place: *mut Place,
+            position: *mut ItemPosition,
         ) -> u32;
         pub fn nelgvasti_nsec3_hash(name: *const u8, name_length: usize, salt: *const u8, salt_length: usize, iterations: u16, hash: *mut [u8; 20]) -> u32;
         pub fn nelgvasti_key_tag(rdata: *const u8, length: usize, tag: *mut u16) -> u32;
@@ -66,8 +93,8 @@ mod raw {
 
 impl Error {
     /// What an answer says; none if everything was written.
-    fn check(answer: u32, place: &raw::Place) -> Result<(), Error> {
-        let raw::Place { message, section, index } = *place;
+    fn check(answer: u32, position: &raw::ItemPosition) -> Result<(), Error> {
+        let raw::ItemPosition { message, section, index } = *position;
         match answer {
             0 => Ok(()),
             1 => Err(Error::Short { message }),
@@ -94,14 +121,14 @@ impl Error {
 
 /// The canonical octets of each record of a message other than OPT, in canonical order.
 pub fn canonical(message: &[u8]) -> Result<Vec<Vec<u8>>, Error> {
-    let (mut octets, mut records, mut place) = (0, 0, raw::Place::default());
+    let (mut octets, mut records, mut position) = (0, 0, raw::ItemPosition::default());
     // SAFETY: the pointers are of slices and of variables of this function, which are initialised and do not overlap.
-    let answer = unsafe { raw::nelgvasti_canonical_size(message.as_ptr(), message.len(), &mut octets, &mut records, &mut place) };
-    Error::check(answer, &place)?;
+    let answer = unsafe { raw::nelgvasti_canonical_size(message.as_ptr(), message.len(), &mut octets, &mut records, &mut position) };
+    Error::check(answer, &position)?;
     let mut list = vec![0; octets];
     // SAFETY: as above.
-    let answer = unsafe { raw::nelgvasti_canonical(message.as_ptr(), message.len(), list.as_mut_ptr(), list.len(), &mut octets, &mut place) };
-    Error::check(answer, &place)?;
+    let answer = unsafe { raw::nelgvasti_canonical(message.as_ptr(), message.len(), list.as_mut_ptr(), list.len(), &mut octets, &mut position) };
+    Error::check(answer, &position)?;
     let mut lists = Vec::with_capacity(records);
     while !list.is_empty() {
         let rest = list.split_off(record_size(&list));
@@ -128,19 +155,19 @@ fn record_size(octets: &[u8]) -> usize {
 
 /// Whether two messages carry the same records other than OPT.
 pub fn same(first: &[u8], second: &[u8]) -> Result<bool, Error> {
-    let (mut same, mut place) = (0, raw::Place::default());
+    let (mut same, mut position) = (0, raw::ItemPosition::default());
     // SAFETY: as in `canonical`.
-    let answer = unsafe { raw::nelgvasti_same(first.as_ptr(), first.len(), second.as_ptr(), second.len(), &mut same, &mut place) };
-    Error::check(answer, &place)?;
+    let answer = unsafe { raw::nelgvasti_same(first.as_ptr(), first.len(), second.as_ptr(), second.len(), &mut same, &mut position) };
+    Error::check(answer, &position)?;
     Ok(same == 1)
 }
 
 /// The normal form of a message.
 pub fn normal(message: &[u8]) -> Result<Vec<u8>, Error> {
-    let (mut form, mut length, mut place) = (vec![0; 65535], 0, raw::Place::default());
+    let (mut form, mut length, mut position) = (vec![0; 65535], 0, raw::ItemPosition::default());
     // SAFETY: as in `canonical`.
-    let answer = unsafe { raw::nelgvasti_normal(message.as_ptr(), message.len(), form.as_mut_ptr(), form.len(), &mut length, &mut place) };
-    Error::check(answer, &place)?;
+    let answer = unsafe { raw::nelgvasti_normal(message.as_ptr(), message.len(), form.as_mut_ptr(), form.len(), &mut length, &mut position) };
+    Error::check(answer, &position)?;
     form.truncate(length);
     Ok(form)
 }
@@ -149,13 +176,13 @@ pub fn normal(message: &[u8]) -> Result<Vec<u8>, Error> {
 pub fn zone_digest(messages: &[Vec<u8>], apex: &[u8]) -> Result<ZoneDigest, Error> {
     let octets = messages.concat();
     let lengths: Vec<usize> = messages.iter().map(Vec::len).collect();
-    let mut place = raw::Place::default();
+    let mut position = raw::ItemPosition::default();
     let mut found = raw::Digest { records: 0, octets: 0, digest: [0; 48] };
     // SAFETY: as in `canonical`.
     let answer = unsafe {
-        raw::nelgvasti_zone_digest(octets.as_ptr(), octets.len(), lengths.as_ptr(), lengths.len(), apex.as_ptr(), apex.len(), &mut found, &mut place)
+        raw::nelgvasti_zone_digest(octets.as_ptr(), octets.len(), lengths.as_ptr(), lengths.len(), apex.as_ptr(), apex.len(), &mut found, &mut position)
     };
-    Error::check(answer, &place)?;
+    Error::check(answer, &position)?;
     Ok(ZoneDigest { records: found.records, octets: found.octets, digest: found.digest })
 }
 
@@ -164,7 +191,7 @@ pub fn nsec3_hash(name: &[u8], salt: &[u8], iterations: u16) -> Result<[u8; 20],
     let mut hash = [0; 20];
     // SAFETY: as in `canonical`.
     let answer = unsafe { raw::nelgvasti_nsec3_hash(name.as_ptr(), name.len(), salt.as_ptr(), salt.len(), iterations, &mut hash) };
-    Error::check(answer, &raw::Place::default())?;
+    Error::check(answer, &raw::ItemPosition::default())?;
     Ok(hash)
 }
 
@@ -173,7 +200,7 @@ pub fn key_tag(rdata: &[u8]) -> Result<u16, Error> {
     let mut tag = 0;
     // SAFETY: as in `canonical`.
     let answer = unsafe { raw::nelgvasti_key_tag(rdata.as_ptr(), rdata.len(), &mut tag) };
-    Error::check(answer, &raw::Place::default())?;
+    Error::check(answer, &raw::ItemPosition::default())?;
     Ok(tag)
 }
 
@@ -182,6 +209,6 @@ pub fn compare_records(first: &[u8], second: &[u8]) -> Result<std::cmp::Ordering
     let mut order = 0;
     // SAFETY: as in `canonical`.
     let answer = unsafe { raw::nelgvasti_compare_records(first.as_ptr(), first.len(), second.as_ptr(), second.len(), &mut order) };
-    Error::check(answer, &raw::Place::default())?;
+    Error::check(answer, &raw::ItemPosition::default())?;
     Ok(order.cmp(&0))
 }

@@ -47,14 +47,14 @@ type ZoneDigest struct {
 	Digest          [48]byte
 }
 
-func check(answer C.uint32_t, place *C.struct_nelgvasti_place) error {
+func check(answer C.uint32_t, position *C.struct_nelgvasti_item_position) error {
 	switch answer {
 	case C.NELGVASTI_DONE:
 		return nil
 	case C.NELGVASTI_SHORT:
-		return ShortError{uint32(place.message)}
+		return ShortError{uint32(position.message)}
 	case C.NELGVASTI_ITEM:
-		return ItemError{uint32(place.message), uint32(place.section), uint32(place.index)}
+		return ItemError{uint32(position.message), uint32(position.section), uint32(position.index)}
 	}
 	return Error(answer)
 }
@@ -82,14 +82,14 @@ func OwnerEnd(octets []byte) int {
 // Canonical gives the canonical octets of each record of a message other than OPT, in canonical order.
 func Canonical(message []byte) ([][]byte, error) {
 	var size, count C.size_t
-	var place C.struct_nelgvasti_place
+	var position C.struct_nelgvasti_item_position
 	at, length := octets(message)
-	if err := check(C.nelgvasti_canonical_size(at, length, &size, &count, &place), &place); err != nil {
+	if err := check(C.nelgvasti_canonical_size(at, length, &size, &count, &position), &position); err != nil {
 		return nil, err
 	}
 	list := make([]byte, size)
 	out, room := octets(list)
-	if err := check(C.nelgvasti_canonical(at, length, out, room, &size, &place), &place); err != nil {
+	if err := check(C.nelgvasti_canonical(at, length, out, room, &size, &position), &position); err != nil {
 		return nil, err
 	}
 	records := make([][]byte, 0, count)
@@ -105,21 +105,21 @@ func Canonical(message []byte) ([][]byte, error) {
 // Same tells whether two messages carry the same records other than OPT.
 func Same(first, second []byte) (bool, error) {
 	var same C.uint32_t
-	var place C.struct_nelgvasti_place
+	var position C.struct_nelgvasti_item_position
 	at, length := octets(first)
 	other, otherLength := octets(second)
-	err := check(C.nelgvasti_same(at, length, other, otherLength, &same, &place), &place)
+	err := check(C.nelgvasti_same(at, length, other, otherLength, &same, &position), &position)
 	return same == 1, err
 }
 
 // Normal gives the normal form of a message.
 func Normal(message []byte) ([]byte, error) {
 	var size C.size_t
-	var place C.struct_nelgvasti_place
+	var position C.struct_nelgvasti_item_position
 	form := make([]byte, 65535)
 	at, length := octets(message)
 	out, room := octets(form)
-	if err := check(C.nelgvasti_normal(at, length, out, room, &size, &place), &place); err != nil {
+	if err := check(C.nelgvasti_normal(at, length, out, room, &size, &position), &position); err != nil {
 		return nil, err
 	}
 	return form[:size], nil
@@ -135,10 +135,10 @@ func DigestZone(messages [][]byte, apex []byte) (ZoneDigest, error) {
 		lengths[i] = C.size_t(len(message))
 	}
 	var found C.struct_nelgvasti_digest
-	var place C.struct_nelgvasti_place
+	var position C.struct_nelgvasti_item_position
 	at, size := octets(all)
 	name, nameSize := octets(apex)
-	if err := check(C.nelgvasti_zone_digest(at, size, &lengths[0], C.size_t(len(messages)), name, nameSize, &found, &place), &place); err != nil {
+	if err := check(C.nelgvasti_zone_digest(at, size, &lengths[0], C.size_t(len(messages)), name, nameSize, &found, &position), &position); err != nil {
 		return ZoneDigest{}, err
 	}
 	digest := ZoneDigest{Records: uint64(found.records), Octets: uint64(found.octets)}
