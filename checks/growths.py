@@ -32,7 +32,7 @@ class Call(Case):
             ended, wanted = (replace(it, printed=sorted(it.printed.splitlines())) for it in (ended, wanted))
         return super().is_like(ended, wanted)
 
-    def is_of_arguments(self, ended):
+    def is_of_arguments(self, number, ended):
         return ended.printed == b"arguments\n"
 
 

@@ -4,7 +4,7 @@ import os
 import struct
 import subprocess
 import tempfile
-from dataclasses import dataclass
+from dataclasses import dataclass, replace
 from pathlib import Path
 
 import programs
@@ -28,17 +28,22 @@ class Run(Case):
 
     program: str
     words: list
+    # How many requests are for its words.
+    for_words: int = 0
 
-    def is_of_arguments(self, ended):
-        return self.of_call == 0 and self.is_like(ended, WORDS_REFUSED)
+    def is_refused(self, number, ended):
+        return number > self.for_words and super().is_refused(number, ended)
+
+    def is_of_arguments(self, number, ended):
+        return number <= self.for_words and self.is_like(ended, WORDS_REFUSED)
 
 
 class LinesRun(Run):
     """A run of `dnslines`, which may have written the answers to some first lines if memory is refused."""
 
-    def is_refused(self, ended):
+    def is_refused(self, number, ended):
         is_front = self.done.printed.startswith(ended.printed) and (not ended.printed or ended.printed.endswith(b"\n"))
-        return is_front and (ended.status, ended.noted) == (self.refused.status, self.refused.noted)
+        return is_front and super().is_refused(number, replace(ended, printed=b""))
 
 
 REFUSED = Ended(8, b"", b"out of memory\n")
@@ -77,12 +82,12 @@ def library_in(folder):
     return library
 
 
-def ended_without(library, run, number):
-    """How a run ends if the request of this number is refused."""
+def ended_without(library, run, number, words=None):
+    """How a run, or the same with other words, ends if the request of this number is refused. None has the number 0."""
     with tempfile.TemporaryFile() as counts:
         refusing = {"LD_PRELOAD": library, "REFUSED_REQUEST": str(number), "REQUESTS_FILE": str(counts.fileno())}
         ran = subprocess.run(
-            [programs.path(run.program), *run.words],
+            [programs.path(run.program), *(words or run.words)],
             input=run.given, capture_output=True, env={**os.environ, **refusing}, pass_fds=[counts.fileno()],
         )
         counts.seek(0)
@@ -90,6 +95,11 @@ def ended_without(library, run, number):
     # A request that the C library makes for the program is not refused, so there must be none.
     noted = ran.stderr + b" and requests of the C library" * (by_others > 0)
     return Ended(ran.returncode, ran.stdout, noted, asked)
+
+
+def requests_for_words(library, run):
+    """How many requests a run makes for its words: as many as with words that are no command, for which it does nothing else."""
+    return ended_without(library, run, 0, [run.words[0].upper(), *run.words[1:]]).asked
 
 
 def check_functions(report, name):
@@ -107,6 +117,7 @@ def check(report):
         with tempfile.TemporaryDirectory() as folder:
             library = library_in(folder)
             for run in cases:
+                run.for_words = requests_for_words(library, run)
                 for number in range(1, MOST):
                     run.take(number, ended_without(library, run, number))
                     if run.is_done:

@@ -36,19 +36,19 @@ class Case:
     def is_like(self, ended, wanted):
         return (ended.status, ended.printed, ended.noted) == (wanted.status, wanted.printed, wanted.noted)
 
-    def is_refused(self, ended):
-        """Whether it ended as if a request of its own was refused."""
+    def is_refused(self, number, ended):
+        """Whether it ended as it must if the request of this number is one of its own."""
         return self.is_like(ended, self.refused)
 
-    def is_of_arguments(self, ended):
-        """Whether it ended as if a request for its arguments was refused."""
+    def is_of_arguments(self, number, ended):
+        """Whether it ended as it must if the request of this number is for its arguments."""
         raise NotImplementedError
 
     def take(self, number, ended):
         """Counts how a run ended in which the request of this number was refused."""
-        if self.is_refused(ended):
+        if self.is_refused(number, ended):
             self.of_call += 1
-        elif self.is_of_arguments(ended):
+        elif self.is_of_arguments(number, ended):
             self.of_arguments += 1
         elif self.is_like(ended, self.done) and (ended.asked is None or ended.asked < number):
             self.is_done = True
