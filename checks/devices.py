@@ -12,9 +12,10 @@ import time
 from dataclasses import dataclass
 from pathlib import Path
 
+import programs
 import samples
 
-PROGRAM = str(samples.ROOT / "crates" / "dnscanon" / "out" / "dnscanon")
+PROGRAM = programs.path("dnscanon")
 
 # The statuses and their lines on standard error, as the table in ../README.md has them.
 NOTES = {0: b"", 3: b"bad hex\n", 5: b"usage\n", 6: b"read fault\n", 7: b"write fault\n", 8: b"out of memory\n", 14: b""}
@@ -387,17 +388,8 @@ def check_largest_message(report):
     report.add("canon on the largest message", came, ran.returncode == 0 and ran.stdout == lines)
 
 
-def build():
-    """Builds the program if it is not current. That proves the library, which takes its time."""
-    with open(samples.ROOT / "samples" / "address.hex", "rb") as given:
-        ran = subprocess.run([samples.ROOT / "dnscanon", "canon"], stdin=given, stdout=subprocess.PIPE)
-    return ran.returncode, ran.stdout
-
-
 def check(report):
-    status, printed = build()
-    report.add("the proved program", f"status {status}", printed == samples.lines("address"))
-    if status:
+    if not programs.is_built(report, "dnscanon"):
         return
     for part in (
         check_redirections,
