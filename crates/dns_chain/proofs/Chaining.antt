@@ -1,24 +1,14 @@
 -- Names that are read through chains of pointers.
-use Rattle.std.proofs.Common.{◌≡◌, ℕ, ◌+◌, ◌<◌, ◌≤◌, List, length, take, Some, IsSome, sym, ap, ◌∙◌, arith}
-use Rattle.std.specs.Prelude.{is_some, slice_index, unwrap_or}
+use Rattle.std.proofs.Common.{◌≡◌, ℕ, ◌+◌, ◌<◌, ◌≤◌, List, length, take, Some, sym, ◌∙◌, arith}
+use Rattle.std.specs.Prelude.{slice_index}
 use Rattle.std.proofs.lemmas.List.{get_or-take, length-take}
 use Rattle.dns_wire.specs.declared.name_cursor.LabelType.TheVariants.{Root, Label, Pointer}
-use Rattle.dns_wire.specs.declared.name_cursor.NameCursor.{NameCursor}
-use Rattle.dns_wire.specs.Pointers.{after, label_type_at}
+use Rattle.dns_wire.specs.Pointers.{label_type_at}
 use Rattle.dns_wire.proofs.Following.{label_type_is, label_type_pointer}
 use Rattle.dns_name.proofs.Followed.{Followed, followed_pointer}
 use Rattle.dns_chain.specs.Chains.{Leads, IsFinal, ChainedFrom}
 use Rattle.dns_chain.specs.Chains.ChainedFrom.{at_label, at_pointer, to_pointer}
 use Rattle.dns_chain.specs.Chains.Leads.{stays, leads}
-
--- at the root a reading ends: after the first pointer, or else after the root
-pub root_ends : (cursor moved : NameCursor) → moved ≡ after cursor Root → IsSome moved.end
-root_ends cursor moved is = ap (λ (c : NameCursor). is_some c.end) is
-
-pub root_end : (cursor moved : NameCursor) (end : ℕ) → moved ≡ after cursor Root → moved.end ≡ Some end → end ≡ unwrap_or cursor.end (cursor.at + 1)
-root_end cursor moved end is some =
-    let both : Some end ≡ Some (unwrap_or cursor.end (cursor.at + 1)) = sym some ∙ ap (λ (c : NameCursor). c.end) is in
-    cc
 
 -- a pointer is the same where fewer octets are read
 pointer_within : (contents : List ℕ) (at target end : ℕ) → label_type_at contents at at ≡ Some (Pointer target) → at + 2 ≤ end → end ≤ length contents → label_type_at (take end contents) at at ≡ Some (Pointer target)

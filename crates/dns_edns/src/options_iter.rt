@@ -8,6 +8,7 @@ ghost use Rattle.dns_edns.specs.Suiting.{items_in, seen_item};
 
 use crate::edns_option::{EdnsOption, known};
 use crate::unparsed_option::UnparsedEdnsOption;
+use dns_record::are_all_options;
 use dns_wire::SplitBytes;
 use std::alloc::AllocError;
 use std::marker::Model;
@@ -35,14 +36,7 @@ impl<'a> EdnsOptionsIter<'a> {
     pub fn is_options(bytes: &[u8]) -> bool
         ensures { result ≡ is_options bytes.now }
     {
-        let mut rest = bytes;
-        while !rest.is_empty() {
-            let Ok((_option, trailing)) = UnparsedEdnsOption::split_bytes(rest) else {
-                return false;
-            };
-            rest = trailing;
-        }
-        true
+        are_all_options(bytes)
     }
 
     /// Goes over the options. The condition is that the octets are options: `is_options` says so.

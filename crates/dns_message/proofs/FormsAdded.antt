@@ -4,52 +4,52 @@ use Rattle.std.proofs.lemmas.List.{map-append}
 use Rattle.dns_wire.specs.Octets.{Octets}
 use Rattle.dns_wire.specs.Pointers.{name_at}
 use Rattle.dns_wire.specs.Steps.{first_to}
-use Rattle.dns_record.specs.Data.{data_in}
 use Rattle.dns_record.specs.Fields.{Field}
 use Rattle.dns_record.specs.Questions.{question_in}
 use Rattle.dns_record.specs.Records.{record_in}
 use Rattle.dns_message.specs.Canonical.{is_not_opt}
 use Rattle.dns_message.specs.FormsRead.{AddsData, AddsForm, AddsRecord, forms_of}
-use Rattle.dns_message.specs.Messages.{Item, Question, RecordValue, item_at, records_among}
+use Rattle.dns_record.specs.FurtherFormats.{DataReading}
+use Rattle.dns_message.specs.Messages.{Item, Question, RecordValue, records_among, item_by}
 use Rattle.dns_message.specs.Messages.Item.{QuestionItem, RecordItem}
 use Rattle.dns_message.specs.Order.{SortKey, sort_key}
-use Rattle.dns_message.specs.Parsing.{AddsItem}
+use Rattle.dns_message.specs.Parsing.{AddsItemBy}
 use Rattle.dns_message.specs.UnparsedRecords.{UnparsedValue, with_content, with_data}
 use Rattle.dns_message.proofs.Adding.{question_there, record_there}
 
 -- ---- for the data of a record, and so for the record
 
-pub data_adds : (contents : Octets) (start : ℕ) (r : UnparsedValue) (end : ℕ) (old : List SortKey) (read : Option (List Field)) (found : Option (List SortKey)) (new : List SortKey)
-    → record_in name_at (data_in name_at) contents start ≡ with_data r end read → AddsData old r read found → found ≡ Some new
-    → (x : RecordValue) × (record_in name_at (data_in name_at) contents start ≡ Some (x, end)) × (new ≡ old ++ forms_of (x ∷ []))
-data_adds contents start r end old read None new there adds is = absurd cc
-data_adds contents start r end old read (Some forms) new there adds is =
+pub data_adds : (reads : DataReading) (contents : Octets) (start : ℕ) (r : UnparsedValue) (end : ℕ) (old : List SortKey) (read : Option (List Field)) (found : Option (List SortKey)) (new : List SortKey)
+    → record_in name_at reads contents start ≡ with_data r end read → AddsData old r read found → found ≡ Some new
+    → (x : RecordValue) × (record_in name_at reads contents start ≡ Some (x, end)) × (new ≡ old ++ forms_of (x ∷ []))
+data_adds reads contents start r end old read None new there adds is = absurd cc
+data_adds reads contents start r end old read (Some forms) new there adds is =
     let same : forms ≡ new = cc in
     (with_content r adds.0, there ∙ ap (with_data r end) adds.1, sym same ∙ adds.2)
 
-pub data_adds_none : (contents : Octets) (start : ℕ) (r : UnparsedValue) (end : ℕ) (old : List SortKey) (read : Option (List Field)) (found : Option (List SortKey))
-    → record_in name_at (data_in name_at) contents start ≡ with_data r end read → AddsData old r read found → found ≡ None → record_in name_at (data_in name_at) contents start ≡ None
-data_adds_none contents start r end old read None there adds is = there ∙ ap (with_data r end) adds
-data_adds_none contents start r end old read (Some forms) there adds is = absurd cc
+pub data_adds_none : (reads : DataReading) (contents : Octets) (start : ℕ) (r : UnparsedValue) (end : ℕ) (old : List SortKey) (read : Option (List Field)) (found : Option (List SortKey))
+    → record_in name_at reads contents start ≡ with_data r end read → AddsData old r read found → found ≡ None → record_in name_at reads contents start ≡ None
+data_adds_none reads contents start r end old read None there adds is = there ∙ ap (with_data r end) adds
+data_adds_none reads contents start r end old read (Some forms) there adds is = absurd cc
 
 -- ---- for an item
 
-pub record_adds_form : (section : ℕ) (contents : Octets) (start : ℕ) (old : List SortKey) (found : Option (List SortKey × ℕ)) → section ≢ 0
-    → AddsRecord old (record_in name_at (data_in name_at) contents start) found → AddsForm old (item_at section contents start) found
-record_adds_form section contents start old None is_not adds = record_there section contents start is_not ∙ ap (first_to RecordItem) adds
-record_adds_form section contents start old (Some (new, end)) is_not adds = (RecordItem adds.0, record_there section contents start is_not ∙ ap (first_to RecordItem) adds.1, adds.2)
+pub record_adds_form : (reads : DataReading) (section : ℕ) (contents : Octets) (start : ℕ) (old : List SortKey) (found : Option (List SortKey × ℕ)) → section ≢ 0
+    → AddsRecord old (record_in name_at reads contents start) found → AddsForm old (item_by reads section contents start) found
+record_adds_form reads section contents start old None is_not adds = record_there reads section contents start is_not ∙ ap (first_to RecordItem) adds
+record_adds_form reads section contents start old (Some (new, end)) is_not adds = (RecordItem adds.0, record_there reads section contents start is_not ∙ ap (first_to RecordItem) adds.1, adds.2)
 
-pub question_adds_form : (section : ℕ) (contents : Octets) (start : ℕ) (old : List SortKey) (end : ℕ) → section ≡ 0 → (q : Question) × (question_in name_at contents start ≡ Some (q, end))
-    → (item : Item) × (item_at section contents start ≡ Some (item, end)) × (old ≡ old ++ forms_of (records_among (item ∷ [])))
-question_adds_form section contents start old end is found = (QuestionItem found.0, question_there section contents start is ∙ ap (first_to QuestionItem) found.1, sym (append-nil old))
+pub question_adds_form : (reads : DataReading) (section : ℕ) (contents : Octets) (start : ℕ) (old : List SortKey) (end : ℕ) → section ≡ 0 → (q : Question) × (question_in name_at contents start ≡ Some (q, end))
+    → (item : Item) × (item_by reads section contents start ≡ Some (item, end)) × (old ≡ old ++ forms_of (records_among (item ∷ [])))
+question_adds_form reads section contents start old end is found = (QuestionItem found.0, question_there reads section contents start is ∙ ap (first_to QuestionItem) found.1, sym (append-nil old))
 
-pub question_is_not_read : (section : ℕ) (contents : Octets) (start : ℕ) → section ≡ 0 → question_in name_at contents start ≡ None → item_at section contents start ≡ None
-question_is_not_read section contents start is none = question_there section contents start is ∙ ap (first_to QuestionItem) none
+pub question_is_not_read : (reads : DataReading) (section : ℕ) (contents : Octets) (start : ℕ) → section ≡ 0 → question_in name_at contents start ≡ None → item_by reads section contents start ≡ None
+question_is_not_read reads section contents start is none = question_there reads section contents start is ∙ ap (first_to QuestionItem) none
 
 -- ---- after the forms of some records
 
-pub form_adds : (section : ℕ) (contents : Octets) (start : ℕ) (old : List RecordValue) (forms new : List SortKey) (end : ℕ) → forms ≡ map sort_key old → AddsForm forms (item_at section contents start) (Some (new, end))
-    → (more : List RecordValue) × AddsItem section contents start old more (Some end) × (new ≡ map sort_key more)
-form_adds section contents start old forms new end are adds =
+pub form_adds : (reads : DataReading) (section : ℕ) (contents : Octets) (start : ℕ) (old : List RecordValue) (forms new : List SortKey) (end : ℕ) → forms ≡ map sort_key old → AddsForm forms (item_by reads section contents start) (Some (new, end))
+    → (more : List RecordValue) × AddsItemBy reads section contents start old more (Some end) × (new ≡ map sort_key more)
+form_adds reads section contents start old forms new end are adds =
     let added = filter is_not_opt (records_among (adds.0 ∷ [])) in
     (old ++ added, (adds.0, adds.1, refl), adds.2 ∙ ap (λ (l : List SortKey). l ++ map sort_key added) are ∙ sym (map-append sort_key old added))

@@ -10,7 +10,7 @@ use Rattle.dns_record.specs.InPlace.{QuestionAt, RecordAt}
 use Rattle.dns_record.specs.Questions.{question_in}
 use Rattle.dns_record.specs.Records.{record_in}
 use Rattle.dns_record.proofs.Worded.{question_is, question_found, record_is, record_found}
-use Rattle.dns_message.specs.Messages.{Item, RecordValue, Question, item_at}
+use Rattle.dns_message.specs.Messages.{Item, RecordValue, Question, item_at, item_by}
 use Rattle.dns_message.specs.Messages.Item.{QuestionItem, RecordItem}
 use Rattle.dns_message.specs.Worded.{ItemAt, NoItemAt}
 
@@ -41,13 +41,13 @@ question_item_is (Some (s, last)) q end = (
   both e h = rw (e, h) refl
 
 pub question_occurs : (contents : List ℕ) (at : ℕ) (q : Question) (end : ℕ) → (item_at 0 contents at ≡ Some (QuestionItem q, end)) ↔ QuestionAt contents at q end
-unfolding item_at
+unfolding item_by
 question_occurs contents at q end =
     let same = question_item_is (question_in name_at contents at) q end in
     (λ e. question_is contents at q end (same.0 e), λ h. same.1 (question_found contents at q end h))
 
 pub record_occurs : (section : ℕ) (contents : List ℕ) (at : ℕ) (r : RecordValue) (end : ℕ) → 0 < section → (item_at section contents at ≡ Some (RecordItem r, end)) ↔ RecordAt contents at r end
-unfolding item_at
+unfolding item_by
 record_occurs section contents at r end some =
     let later : (section == 0) ≡ false = grind (arith, nat_tests) in
     let same = record_item_is (record_in name_at (data_in name_at) contents at) r end in
@@ -65,14 +65,14 @@ record_item_first (Some (q, last)) r end e = let same = some_pair_parts (Questio
 
 -- a question is read in section 0 alone, and a record in the later ones
 question_item_there : (section : ℕ) (contents : List ℕ) (at : ℕ) (q : Question) (end : ℕ) → item_at section contents at ≡ Some (QuestionItem q, end) → section ≡ 0
-unfolding item_at
+unfolding item_by
 question_item_there section contents at q end e = by (section == 0) refl e where
   by : (b : Bool) → (section == 0) ≡ b → cond b (first_to QuestionItem (question_in name_at contents at)) (first_to RecordItem (record_in name_at (data_in name_at) contents at)) ≡ Some (QuestionItem q, end) → section ≡ 0
   by true is e = grind (arith, nat_tests)
   by false is e = absurd (question_item_later (record_in name_at (data_in name_at) contents at) q end e)
 
 record_item_there : (section : ℕ) (contents : List ℕ) (at : ℕ) (r : RecordValue) (end : ℕ) → item_at section contents at ≡ Some (RecordItem r, end) → 0 < section
-unfolding item_at
+unfolding item_by
 record_item_there section contents at r end e = by (section == 0) refl e where
   by : (b : Bool) → (section == 0) ≡ b → cond b (first_to QuestionItem (question_in name_at contents at)) (first_to RecordItem (record_in name_at (data_in name_at) contents at)) ≡ Some (RecordItem r, end) → 0 < section
   by true is e = absurd (record_item_first (question_in name_at contents at) r end e)

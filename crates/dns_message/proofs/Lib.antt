@@ -6,7 +6,6 @@ pub mod CanonBuilt
 pub mod CanonicalOctets
 pub mod Chained
 pub mod Collapsing
-pub mod CompressibleFields
 pub mod Counting
 pub mod Drafts
 pub mod EdnsBuilt
@@ -48,3 +47,9 @@ pub mod UnparsedRecords
 pub mod WellFormedLemmas
 pub mod Whole
 pub mod WholeData
+pub mod JoinedFields
+pub mod KeptOctets
+pub mod LowercasedFields
+pub mod PlainFieldLemmas
+pub mod FurtherFormatLemmas
+pub mod FormatSameness

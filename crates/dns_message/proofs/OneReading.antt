@@ -1,7 +1,7 @@
 -- A message has one reading.
 use Rattle.std.proofs.Common.{◌≡◌, ℕ, ◌<◌, ◌⊎◌, inl, inr, false, List, length, drop, refl, sym, ap, ◌∙◌, Option, Some, None, ltb, [], ◌∷◌}
 use Rattle.std.proofs.lemmas.Bool.{cases_lt, le-ltb}
-use Rattle.dns_message.specs.Messages.{Item as MessageItem, RecordValue, Reading, item_at, with_item, then_read, reading_from, slots_from, counts_of, message_reading, records_among, Valid, StopsAt, BadAt}
+use Rattle.dns_message.specs.Messages.{Item as MessageItem, RecordValue, Reading, item_at, with_item, then_read, reading_from, slots_from, counts_of, message_reading, records_among, Valid, StopsAt, BadAt, reading_by, message_by}
 use Rattle.dns_message.specs.Messages.Reading.{Short, Stopped, Whole}
 use Rattle.dns_message.proofs.Phrased.{short_reading}
 
@@ -38,7 +38,7 @@ with_item_long item (Stopped items s i p) e = absurd cc
 with_item_long item (Whole items end) e = absurd cc
 
 never_short : (c : List ℕ) (slots : List (ℕ × ℕ)) (at : ℕ) → reading_from c slots at ≡ Short → ⊥
-unfolding reading_from
+unfolding reading_by
 never_short c [] at e = cc
 never_short c (slot ∷ slots) at e = by (item_at slot.0 c at) e (λ next h. never_short c slots next h) where
   by : (read : Option (MessageItem × ℕ)) → then_read slot at (reading_from c slots) read ≡ Short → ((next : ℕ) → reading_from c slots next ≡ Short → ⊥) → ⊥
@@ -46,7 +46,7 @@ never_short c (slot ∷ slots) at e = by (item_at slot.0 c at) e (λ next h. nev
   by (Some (item, next)) e more = more next (with_item_long item (reading_from c slots next) e)
 
 pub three_kinds : (m : List ℕ) → (length m < 12) ⊎ (((rs : List RecordValue) × Valid m rs) ⊎ ((s i : ℕ) × BadAt m s i))
-unfolding message_reading
+unfolding message_by
 three_kinds m = elim (cases_lt (length m) 12) [
   | inl short ↦ inl short
   | inr long ↦

@@ -9,8 +9,8 @@ use Rattle.dns_wire.specs.Pointers.Segment.{at_root, at_label, at_pointer}
 use Rattle.dns_wire.specs.Reading.{AreOctets, number, plain_at}
 use Rattle.dns_wire.specs.Steps.{◌>>=◌, first_to}
 use Rattle.dns_wire.proofs.Following.{name_at_is, name_at_finds, segment_ends}
-use Rattle.dns_record.specs.Data.{data_in}
 use Rattle.dns_record.specs.Records.{SizedDataIn, end_of, record_in}
+use Rattle.dns_record.specs.FurtherFormats.{DataReading}
 use Rattle.dns_message.specs.UnparsedRecords.{UnparsedValue, data_start, owner_before, parts_value, unparsed_in, with_data}
 use Rattle.dns_message.specs.declared.unparsed_parts.UnparsedParts.{UnparsedParts}
 use Rattle.dns_message.proofs.Octets.{octets_from, octets_up_to}
@@ -39,18 +39,18 @@ record_after_owner contents start at labels is =
     step (owned labels) (end_of contents s.1 s.0) _ _ (λ o.
     step (owned labels) (unparsed_in b.0 (take o contents) s.1) _ _ (λ v. refl)))))))
 
-pub no_owner_no_record : (contents : List ℕ) (start : ℕ) → name_at contents start ≡ None → record_in name_at (data_in name_at) contents start ≡ None
+pub no_owner_no_record : (reads : DataReading) (contents : List ℕ) (start : ℕ) → name_at contents start ≡ None → record_in name_at reads contents start ≡ None
 unfolding record_in
-no_owner_no_record contents start none = rw none refl
+no_owner_no_record reads contents start none = rw none refl
 
-module _ (contents : List ℕ) (start at : ℕ) (labels : Labels) (owner : name_at contents start ≡ Some (labels, at)) where
+module _ (reads : DataReading) (contents : List ℕ) (start at : ℕ) (labels : Labels) (owner : name_at contents start ≡ Some (labels, at)) where
   pub parts_there : (parts : UnparsedParts) (end : ℕ) → record_in (owner_before []) unparsed_in contents at ≡ Some (parts_value [] parts, end) → end ≤ length contents
-      → record_in name_at (data_in name_at) contents start ≡ with_data (parts_value labels parts) end (data_in name_at parts.rtype.code.value (take end contents) (data_start end parts.rdata.octets.now))
+      → record_in name_at reads contents start ≡ with_data (parts_value labels parts) end (reads parts.rtype.code.value (take end contents) (data_start end parts.rdata.octets.now))
   parts_there parts end is within =
-      record_in_steps contents start (parts_value labels parts) end within (record_after_owner contents start at labels owner ∙ ap (first_to (owned labels)) is)
+      record_in_steps reads contents start (parts_value labels parts) end within (record_after_owner contents start at labels owner ∙ ap (first_to (owned labels)) is)
 
-  pub no_parts_no_record : AreOctets contents → record_in (owner_before []) unparsed_in contents at ≡ None → record_in name_at (data_in name_at) contents start ≡ None
-  no_parts_no_record are none = record_in_none contents start are (record_after_owner contents start at labels owner ∙ ap (first_to (owned labels)) none)
+  pub no_parts_no_record : AreOctets contents → record_in (owner_before []) unparsed_in contents at ≡ None → record_in name_at reads contents start ≡ None
+  no_parts_no_record are none = record_in_none reads contents start are (record_after_owner contents start at labels owner ∙ ap (first_to (owned labels)) none)
 
 -- the octets of data are octets
 pub data_octets : (contents octets : List ℕ) (rtype end : ℕ) → AreOctets contents → end ≤ length contents → SizedDataIn unparsed_in contents octets rtype end → AreOctets octets

@@ -1,6 +1,6 @@
 -- The forms of records whose canonical parts are known.
-use Rattle.std.proofs.Common.{◌≡◌, ℕ, ◌+◌, ◌<◌, ◌^◌, Bool, true, false, cond, List, [], ◌∷◌, ◌++◌, length, map, Some, None, append-nil, append_assoc, refl, sym, ap, ◌∙◌, arith}
-use Rattle.std.specs.Prelude.{not, ◌==◌}
+use Rattle.std.proofs.Common.{◌≡◌, ℕ, ◌+◌, ◌<◌, ◌≤◌, ◌^◌, Bool, true, false, cond, List, [], ◌∷◌, ◌++◌, length, map, take, Some, None, append-nil, append_assoc, refl, sym, ap, subst, ◌∙◌, arith}
+use Rattle.std.specs.Prelude.{not, option_map, Option, None, ◌==◌}
 use Rattle.std.specs.Int.{w16, w32, to_be_bytes}
 use Rattle.dns_wire.specs.Names.{IsName, lowered, plain_name, wire}
 use Rattle.dns_wire.specs.Pointers.{name_at}
@@ -9,13 +9,12 @@ use Rattle.dns_record.specs.Data.{data_as, data_in}
 use Rattle.dns_record.specs.Fields.{Field, canonical_fields, fields_octets, lowercased_field}
 use Rattle.dns_record.specs.Fields.FieldOf.{Raw}
 use Rattle.dns_record.specs.Formats.{rdata_format}
-use Rattle.dns_record.specs.Kinds.{fields_in}
+use Rattle.dns_record.specs.Kinds.{Kind, fields_in}
 use Rattle.dns_record.specs.Records.{octets_of_parts}
 use Rattle.dns_record.specs.Types.{is_lowercased, opt_number}
-use Rattle.dns_record.proofs.Sizes.{data_short, lowercased_long}
-use Rattle.dns_rdata.specs.Compressible.{is_compressible_type}
+use Rattle.dns_record.proofs.Sizes.{data_short, data_short_by, lowercased_long}
 use Rattle.dns_rdata.proofs.FormatLemmas.{data_spelled}
-use Rattle.dns_rdata.proofs.UncompressedData.{compressible_placed}
+use Rattle.dns_rdata.proofs.UncompressedData.{uncompressed_unless_compressible}
 use Rattle.dns_name.specs.Order.{key}
 use Rattle.dns_message.specs.Canonical.{canonical_wire, is_not_opt}
 use Rattle.dns_message.specs.Forms.{AreForms, forms_in}
@@ -23,13 +22,19 @@ use Rattle.dns_message.specs.OwnerKeys.{owner_key}
 use Rattle.dns_message.specs.declared.form_span.FormSpan.{FormSpan}
 use Rattle.dns_message.proofs.CanonBuilt.{parts_long}
 use Rattle.dns_message.proofs.FormLemmas.{record_put}
-use Rattle.dns_message.specs.CompressibleData.{PutsFields, kind_of}
-use Rattle.dns_message.specs.declared.compressible_data.CompressibleField.{CompressibleField}
+use Rattle.dns_record.specs.FieldKinds.{kind_of, row_of}
+use Rattle.dns_message.specs.LowercaseFields.{PutsFields}
+use Rattle.dns_record.specs.declared.field_kind.FieldKind.{FieldKind}
+use Rattle.dns_record.specs.FurtherFormats.{data_or, kinds_or, lowercased_or}
+use Rattle.dns_message.proofs.FurtherFormatLemmas.{Allowed}
+use Rattle.dns_message.proofs.JoinedFields.{joined_kinds, joined_puts}
 use Rattle.dns_message.specs.FormsRead.{AddsData, forms_of}
 use Rattle.dns_message.specs.Messages.{RecordValue}
 use Rattle.dns_message.specs.Order.{SortKey, sort_key}
-use Rattle.dns_message.specs.UnparsedRecords.{UnparsedValue, with_content}
-use Rattle.dns_message.proofs.CompressibleFields.{compressible_lowercased, compressible_not_opt}
+use Rattle.dns_message.specs.UnparsedRecords.{DataAreAt, UnparsedValue, data_start, with_content}
+use Rattle.dns_message.proofs.LowercasedFields.{cased_uncompressed, lowercased_not_opt}
+use Rattle.dns_message.proofs.Octets.{octets_from, octets_up_to}
+use Rattle.dns_message.proofs.UnparsedRecords.{uncompressed_in_place}
 
 -- what a record with this data's canonical octets is compared by
 abbrev pub part_key : UnparsedValue → List ℕ → SortKey
@@ -45,25 +50,27 @@ raw_octets rtype octets = by (is_lowercased rtype) where
   by true = append-nil octets
   by false = append-nil octets
 
-pub compressible_added : (r : UnparsedValue) (kinds : List CompressibleField) (contents : List ℕ) (start : ℕ) (body : List ℕ) (old new : List SortKey)
-    → is_compressible_type r.rtype ≡ true → map kind_of kinds ≡ rdata_format r.rtype → PutsFields (all_at contents (fields_in name_at (map kind_of kinds) contents start)) [] true body
+pub lowercase_added : (r : UnparsedValue) (contents : List ℕ) (start : ℕ) (body : List ℕ) (old new : List SortKey) → is_lowercased r.rtype ≡ true → PutsFields (data_in name_at r.rtype contents start) [] true body
     → new ≡ old ++ part_key r body ∷ [] → AddsData old r (data_in name_at r.rtype contents start) (Some new)
-compressible_added r kinds contents start body old new is kinds-are put added =
-    let read = compressible_placed name_at r.rtype contents start ∙ (rw kinds-are at put.1) in
-    let lowered : canonical_fields r.rtype put.0 ≡ map lowercased_field put.0 = rw (compressible_lowercased r.rtype is) refl in
+lowercase_added r contents start body old new is put added =
+    let lowered : canonical_fields r.rtype put.0 ≡ map lowercased_field put.0 = rw is refl in
     let octets : body ≡ fields_octets (canonical_fields r.rtype put.0) = put.2 ∙ ap fields_octets (sym lowered) in
-    let other : not (r.rtype == opt_number) ≡ true = ap not (compressible_not_opt r.rtype is) in
-    (put.0, read, key_added (with_content r put.0) old new other (added ∙ ap (λ (l : List ℕ). old ++ part_key r l ∷ []) octets))
-
-pub compressible_refused : (r : UnparsedValue) (kinds : List CompressibleField) (contents : List ℕ) (start : ℕ) (before body : List ℕ) (old : List SortKey)
-    → map kind_of kinds ≡ rdata_format r.rtype → PutsFields (all_at contents (fields_in name_at (map kind_of kinds) contents start)) before false body → AddsData old r (data_in name_at r.rtype contents start) None
-compressible_refused r kinds contents start before body old kinds-are none = compressible_placed name_at r.rtype contents start ∙ (rw kinds-are at none)
+    let other : not (r.rtype == opt_number) ≡ true = ap not (lowercased_not_opt r.rtype is) in
+    (put.0, put.1, key_added (with_content r put.0) old new other (added ∙ ap (λ (l : List ℕ). old ++ part_key r l ∷ []) octets))
 
 -- no more octets than a size can say
-pub compressible_short : (rtype : ℕ) (kinds : List CompressibleField) (contents : List ℕ) (start : ℕ) (body : List ℕ) → length contents < start + 2 ^ 16
-    → map kind_of kinds ≡ rdata_format rtype → PutsFields (all_at contents (fields_in name_at (map kind_of kinds) contents start)) [] true body → length body < 2 ^ 16
-compressible_short rtype kinds contents start body few kinds-are put =
-    omega (arith, ap length put.2, lowercased_long put.0, data_short rtype contents start put.0 few (compressible_placed name_at rtype contents start ∙ (rw kinds-are at put.1)))
+pub lowercase_short : (rtype : ℕ) (contents : List ℕ) (start : ℕ) (body : List ℕ) → length contents < start + 2 ^ 16 → PutsFields (data_in name_at rtype contents start) [] true body → length body < 2 ^ 16
+lowercase_short rtype contents start body few put = omega (arith, ap length put.2, lowercased_long put.0, data_short rtype contents start put.0 few put.1)
+
+-- ---- data in which the case of letters counts
+
+-- they are the same in their place, and octets
+pub placed_octets : (contents octets : List ℕ) (end : ℕ) → AreOctets contents → DataAreAt contents octets end → AreOctets octets
+placed_octets contents octets end are there = subst AreOctets (sym there.1) (octets_from (data_start end octets) (take end contents) (octets_up_to end contents are))
+
+pub cased_in_place : (contents octets : List ℕ) (rtype end : ℕ) → is_lowercased rtype ≡ false → end ≤ length contents → DataAreAt contents octets end
+    → data_in name_at rtype (take end contents) (data_start end octets) ≡ data_as plain_name rtype octets
+cased_in_place contents octets rtype end cased within there = uncompressed_in_place contents octets rtype end (uncompressed_unless_compressible rtype (cased_uncompressed rtype cased)) within there
 
 -- data without such names, whose canonical octets are these
 pub plain_added : (r : UnparsedValue) (content : List Field) (body : List ℕ) (old new : List SortKey) → data_as plain_name r.rtype r.content ≡ Some content → (r.rtype == opt_number) ≡ false
@@ -78,6 +85,42 @@ cased_octets rtype octets content are read cased = sym (data_spelled rtype octet
 -- nothing for a record of type OPT
 pub opt_added : (r : UnparsedValue) (content : List Field) (old : List SortKey) → data_as plain_name r.rtype r.content ≡ Some content → (r.rtype == opt_number) ≡ true → AddsData old r (data_as plain_name r.rtype r.content) (Some old)
 opt_added r content old read is = (content, read, sym (rw is (append-nil old)))
+
+-- ---- the same by the format of a further type, if it has one
+
+module _ (rtype : ℕ) (row : List FieldKind) (contents : List ℕ) (start : ℕ) (body : List ℕ) (are : AreOctets contents) where
+  abbrev Found : Bool → Type 0
+  Found read = PutsFields (all_at contents (fields_in name_at (map kind_of row) contents start)) [] read body
+
+  pub refused_by : (further : Option (List Kind)) → Allowed further rtype → row ≡ row_of (kinds_or further rtype) → Found false → data_or further rtype contents start ≡ None
+  refused_by None allowed is none = joined_puts rtype row contents start [] false body is are none
+  refused_by (Some kinds) allowed is none = ap (option_map (map lowercased_field)) (joined_kinds kinds row contents start [] false body allowed.3 is are none)
+
+  pub short_by : (further : Option (List Kind)) → Allowed further rtype → length contents < start + 2 ^ 16 → row ≡ row_of (kinds_or further rtype) → Found true → length body < 2 ^ 16
+  short_by None allowed few is put = lowercase_short rtype contents start body few (joined_puts rtype row contents start [] true body is are put)
+  short_by (Some kinds) allowed few is put =
+      let found = joined_kinds kinds row contents start [] true body allowed.3 is are put in
+      omega (arith, ap length found.2, lowercased_long found.0, data_short_by kinds contents start found.0 allowed.0 few found.1)
+
+pub added_by : (r : UnparsedValue) (row : List FieldKind) (contents : List ℕ) (start : ℕ) (body : List ℕ) (old new : List SortKey) → AreOctets contents → (further : Option (List Kind)) → Allowed further r.rtype → lowercased_or further r.rtype ≡ true
+    → row ≡ row_of (kinds_or further r.rtype) → PutsFields (all_at contents (fields_in name_at (map kind_of row) contents start)) [] true body → new ≡ old ++ part_key r body ∷ [] → AddsData old r (data_or further r.rtype contents start) (Some new)
+added_by r row contents start body old new are None allowed low is put added = lowercase_added r contents start body old new low (joined_puts r.rtype row contents start [] true body is are put) added
+added_by r row contents start body old new are (Some kinds) allowed low is put added =
+    let found = joined_kinds kinds row contents start [] true body allowed.3 is are put in
+    let content = map lowercased_field found.0 in
+    let stays : canonical_fields r.rtype content ≡ content = rw allowed.1 refl in
+    let octets : body ≡ fields_octets (canonical_fields r.rtype content) = found.2 ∙ ap fields_octets (sym stays) in
+    (content, ap (option_map (map lowercased_field)) found.1, key_added (with_content r content) old new (ap not allowed.2) (added ∙ ap (λ (l : List ℕ). old ++ part_key r l ∷ []) octets))
+
+-- a further type has names in lowercase
+pub cased_usual : (further : Option (List Kind)) (rtype : ℕ) → lowercased_or further rtype ≡ false → (kinds_or further rtype ≡ rdata_format rtype) × (is_lowercased rtype ≡ false)
+cased_usual None rtype cased = (refl, cased)
+cased_usual (Some kinds) rtype cased = absurd cc
+
+pub cased_in_place_by : (further : Option (List Kind)) (contents octets : List ℕ) (rtype end : ℕ) → lowercased_or further rtype ≡ false → end ≤ length contents → DataAreAt contents octets end
+    → data_or further rtype (take end contents) (data_start end octets) ≡ data_as plain_name rtype octets
+cased_in_place_by None contents octets rtype end cased within there = cased_in_place contents octets rtype end cased within there
+cased_in_place_by (Some kinds) contents octets rtype end cased within there = absurd cc
 
 -- ---- canonical parts one after another
 

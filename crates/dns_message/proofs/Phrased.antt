@@ -1,7 +1,7 @@
 -- The reading of a message in words, and the words as the reading.
 use Rattle.std.proofs.Common.{◌≡◌, ℕ, ◌<◌, Bool, true, false, cond, ltb, List, [], ◌∷◌, ◌++◌, length, drop, Option, Some, None, refl, sym, ap, subst, ◌∙◌}
 use Rattle.std.proofs.lemmas.Bool.{le-ltb, lt-ltb, ltb-false}
-use Rattle.dns_message.specs.Messages.{Item, Reading, item_at, with_item, then_read, reading_from, slots_from, counts_of, message_reading, StopsAt}
+use Rattle.dns_message.specs.Messages.{Item, Reading, item_at, with_item, then_read, reading_from, slots_from, counts_of, message_reading, StopsAt, reading_by, message_by}
 use Rattle.dns_message.specs.Messages.Reading.{Short, Stopped, Whole}
 use Rattle.dns_message.specs.Worded.{ItemsAt, NoItemAt, FailsAt, ReadsWhole}
 use Rattle.dns_message.proofs.ItemLemmas.{item_is, item_found, none_is, none_found}
@@ -9,14 +9,14 @@ use Rattle.dns_message.proofs.ItemLemmas.{item_is, item_found, none_is, none_fou
 -- ---- from words
 
 pub read_worded : (c : List ℕ) (slots : List (ℕ × ℕ)) (at : ℕ) (items : List Item) (end : ℕ) → ItemsAt c slots at items end → reading_from c slots at ≡ Whole items end
-unfolding reading_from
+unfolding reading_by
 read_worded c [] at items end is = ap (Whole []) (sym is.1) ∙ ap (λ (l : List Item). Whole l end) (sym is.0)
 read_worded c (slot ∷ slots) at items end (item, next, others, here, items-is, more) =
     rw (item_found slot.0 c at item next here) (ap (with_item item) (read_worded c slots next others end more) ∙ ap (λ (l : List Item). Whole l end) (sym items-is))
 
 pub stopped_worded : (c : List ℕ) (before after : List (ℕ × ℕ)) (section index at : ℕ) (items : List Item) (place : ℕ) → ItemsAt c before at items place
     → NoItemAt section c place → reading_from c (before ++ (section, index) ∷ after) at ≡ Stopped items section index place
-unfolding reading_from
+unfolding reading_by
 stopped_worded c [] after section index at items place is e =
     let none : item_at section c at ≡ None = subst (λ (p : ℕ). item_at section c p ≡ None) is.1 (none_found section c place e) in
     rw none (ap (Stopped [] section index) (sym is.1) ∙ ap (λ (l : List Item). Stopped l section index place) (sym is.0))
@@ -24,19 +24,19 @@ stopped_worded c (slot ∷ before) after section index at items place (item, nex
     rw (item_found slot.0 c at item next here) (ap (with_item item) (stopped_worded c before after section index next others place more e) ∙ ap (λ (l : List Item). Stopped l section index place) (sym items-is))
 
 pub fails_stops : (m : List ℕ) (section index place : ℕ) → FailsAt m section index place → StopsAt m section index place
-unfolding message_reading
+unfolding message_by
 fails_stops m section index place f =
     let fits : ltb (length m) 12 ≡ false = le-ltb _ _ f.header in
     (f.items, rw fits (ap (λ (l : List (ℕ × ℕ)). reading_from (drop 12 m) l 0) f.counted ∙ stopped_worded (drop 12 m) f.before f.after section index 0 f.items place f.read f.unread))
 
 pub whole_read : (m : List ℕ) (items : List Item) (end : ℕ) → ReadsWhole m items end → message_reading m ≡ Whole items end
-unfolding message_reading
+unfolding message_by
 whole_read m items end r =
     let fits : ltb (length m) 12 ≡ false = le-ltb _ _ r.header in
     rw fits (read_worded (drop 12 m) (slots_from 0 (counts_of m)) 0 items end r.read)
 
 pub short_reading : (m : List ℕ) → length m < 12 → message_reading m ≡ Short
-unfolding message_reading
+unfolding message_by
 short_reading m short = let less : ltb (length m) 12 ≡ true = lt-ltb _ _ short in rw less refl
 
 -- ---- into words
@@ -61,7 +61,7 @@ stopped_of item (Stopped others s i p) items section index place e =
 stopped_of item (Whole others end) items section index place e = absurd cc
 
 fails : (c : List ℕ) (slots : List (ℕ × ℕ)) (at : ℕ) (items : List Item) (section index place : ℕ) → reading_from c slots at ≡ Stopped items section index place → Fails c slots at section index place
-unfolding reading_from
+unfolding reading_by
 fails c [] at items section index place e = absurd cc
 fails c ((s, i) ∷ slots) at items section index place e = by (item_at s c at) refl e (λ next others h. fails c slots next others section index place h) where
   by : (read : Option (Item × ℕ)) → item_at s c at ≡ read → then_read (s, i) at (reading_from c slots) read ≡ Stopped items section index place
@@ -77,7 +77,7 @@ fails c ((s, i) ∷ slots) at items section index place e = by (item_at s c at) 
       record { before = (s, i) ∷ f.before; after = f.after; counted = ap (λ (l : List (ℕ × ℕ)). (s, i) ∷ l) f.counted; items = item ∷ f.items; read = (item, next, f.items, item_is s c at item next is, refl, f.read); unread = f.unread }
 
 pub stops_fails : (m : List ℕ) (section index place : ℕ) → StopsAt m section index place → FailsAt m section index place
-unfolding message_reading
+unfolding message_by
 stops_fails m section index place (items, e) = by (ltb (length m) 12) refl e where
   by : (b : Bool) → ltb (length m) 12 ≡ b → cond b Short (reading_from (drop 12 m) (slots_from 0 (counts_of m)) 0) ≡ Stopped items section index place → FailsAt m section index place
   by true is e = absurd cc
@@ -96,7 +96,7 @@ whole_of item (Whole others q) items end e =
     (others, ap (Whole others) q-is, sym is)
 
 wholes : (c : List ℕ) (slots : List (ℕ × ℕ)) (at : ℕ) (items : List Item) (end : ℕ) → reading_from c slots at ≡ Whole items end → ItemsAt c slots at items end
-unfolding reading_from
+unfolding reading_by
 wholes c [] at items end e =
     let is : [] ≡ items = cc in
     let q-is : at ≡ end = cc in
@@ -110,7 +110,7 @@ wholes c (slot ∷ slots) at items end e = by (item_at slot.0 c at) refl e (λ n
       (item, next, whole.0, item_is slot.0 c at item next is, whole.2, more next whole.0 whole.1)
 
 pub read_whole : (m : List ℕ) (items : List Item) (end : ℕ) → message_reading m ≡ Whole items end → ReadsWhole m items end
-unfolding message_reading
+unfolding message_by
 read_whole m items end e = by (ltb (length m) 12) refl e where
   by : (b : Bool) → ltb (length m) 12 ≡ b → cond b Short (reading_from (drop 12 m) (slots_from 0 (counts_of m)) 0) ≡ Whole items end → ReadsWhole m items end
   by true is e = absurd cc

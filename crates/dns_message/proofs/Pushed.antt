@@ -8,7 +8,7 @@ use Rattle.std.proofs.lemmas.List.{append-nil, length-append, length-drop, drop_
 use Rattle.dns_wire.specs.Compression.{CompressedWrite}
 use Rattle.dns_wire.specs.Reading.{AreOctets}
 use Rattle.dns_message.specs.Building.{Draft, drafted, count_in, has_later, with_count, pushed}
-use Rattle.dns_message.specs.Messages.{Item, Question, RecordValue, item_at, slots, slots_from, counts_of, counted_slots, reading_from, message_reading, records_among}
+use Rattle.dns_message.specs.Messages.{Item, Question, RecordValue, item_at, slots, slots_from, counts_of, counted_slots, message_reading, records_among, reading_by, message_by}
 use Rattle.dns_message.specs.Messages.Item.{QuestionItem, RecordItem}
 use Rattle.dns_message.specs.Messages.Reading.{Whole}
 use Rattle.dns_message.specs.Worded.{ItemsAt}
@@ -152,5 +152,5 @@ records_of_record items found = among_append items (RecordItem found ∷ [])
 -- ---- a message without items
 
 pub new_whole : (draft : Draft) (id flags : ℕ) → draft.header ≡ to_be_bytes w16 id ++ to_be_bytes w16 flags ++ replicate 8 0 → draft.contents ≡ [] → message_reading (drafted draft) ≡ Whole [] 0
-unfolding message_reading reading_from slots_from slots
+unfolding message_by reading_by slots_from slots
 new_whole draft id flags header contents = rw (header, contents) refl

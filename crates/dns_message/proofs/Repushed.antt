@@ -13,7 +13,7 @@ use Rattle.dns_record.specs.Records.{record_in}
 use Rattle.dns_message.specs.Building.{Draft, drafted, count_in, has_later, pushed}
 use Rattle.dns_message.specs.Built.{built}
 use Rattle.dns_message.specs.Canonical.{lowercase_names}
-use Rattle.dns_message.specs.Messages.{Item, Question, RecordValue, item_at, message_reading}
+use Rattle.dns_message.specs.Messages.{Item, Question, RecordValue, item_at, message_reading, item_by}
 use Rattle.dns_message.specs.Messages.Item.{QuestionItem, RecordItem}
 use Rattle.dns_message.specs.Messages.Reading.{Whole}
 use Rattle.dns_message.specs.WellFormed.{WellFormed}
@@ -21,11 +21,11 @@ use Rattle.dns_message.proofs.Pushed.{pushed_whole}
 use Rattle.dns_message.proofs.BuiltLemmas.{record_read_again, question_read_again}
 
 record_item_at : (section : ℕ) (contents : List ℕ) (at : ℕ) (found : RecordValue) (end : ℕ) → 0 < section → record_in name_at (data_in name_at) contents at ≡ Some (found, end) → item_at section contents at ≡ Some (RecordItem found, end)
-unfolding item_at
+unfolding item_by
 record_item_at section contents at found end some e = rw (ne_eqb section 0 (λ none. absurd (omega (arith, some, none)))) (ap (first_to RecordItem) e)
 
 question_item_at : (contents : List ℕ) (at : ℕ) (question : Question) (end : ℕ) → question_in name_at contents at ≡ Some (question, end) → item_at 0 contents at ≡ Some (QuestionItem question, end)
-unfolding item_at
+unfolding item_by
 question_item_at contents at question end e = ap (first_to QuestionItem) e
 
 module _ (draft : Draft) (items : List Item) (long : length draft.header ≡ 12) (read : message_reading (drafted draft) ≡ Whole items (length draft.contents)) (fits : FitsIn draft.places draft.contents) where

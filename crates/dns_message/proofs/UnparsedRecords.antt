@@ -20,6 +20,7 @@ use Rattle.dns_record.specs.declared.record.Record.{Record}
 use Rattle.dns_record.specs.declared.unparsed.UnparsedRecordData.{UnparsedRecordData}
 use Rattle.dns_rdata.specs.Plain.{is_uncompressed_type}
 use Rattle.dns_rdata.proofs.UncompressedData.{seen_placed}
+use Rattle.dns_record.specs.FurtherFormats.{DataReading}
 use Rattle.dns_message.specs.UnparsedRecords.{UnparsedValue, unparsed_in, unparsed_value, with_content, with_data, data_start, DataAreAt}
 use Rattle.dns_message.proofs.Octets.{octets_from, octets_up_to}
 
@@ -47,10 +48,10 @@ data_are_at contents octets rtype end within sized = (data_begin contents octets
 -- ---- records
 
 -- then the data decide
-pub record_in_steps : (contents : List ℕ) (start : ℕ) (r : UnparsedValue) (end : ℕ) → end ≤ length contents → record_in name_at unparsed_in contents start ≡ Some (r, end)
-    → record_in name_at (data_in name_at) contents start ≡ with_data r end (data_in name_at r.rtype (take end contents) (data_start end r.content))
+pub record_in_steps : (reads : DataReading) (contents : List ℕ) (start : ℕ) (r : UnparsedValue) (end : ℕ) → end ≤ length contents → record_in name_at unparsed_in contents start ≡ Some (r, end)
+    → record_in name_at reads contents start ≡ with_data r end (reads r.rtype (take end contents) (data_start end r.content))
 unfolding record_in
-record_in_steps contents start r end within e =
+record_in_steps reads contents start r end within e =
     let a = then_some (name_at contents start) _ _ e in
     let b = then_some (plain_at (number w16) contents a.0.1) _ _ a.2 in
     let c = then_some (plain_at (number w16) contents b.0.1) _ _ b.2 in
@@ -64,8 +65,8 @@ record_in_steps contents start r end within e =
     let begin : s.0.1 ≡ data_start o.0 v.0 = (data_begin contents v.0 s.0.1 o.0 (omega (arith, within, same.1)) v.1).0 in
     let place : s.0.1 ≡ data_start end r.content = begin ∙ (λ i. data_start (same.1 i) (same.0 i).content) in
     rw (a.1, b.1, c.1, d.1, s.1, o.1) (
-    ends (data_in name_at b.0.0 (take o.0 contents) s.0.1)
-    ∙ ap (with_data r end) (λ i. data_in name_at (same.0 i).rtype (take (same.1 i) contents) (place i))
+    ends (reads b.0.0 (take o.0 contents) s.0.1)
+    ∙ ap (with_data r end) (λ i. reads (same.0 i).rtype (take (same.1 i) contents) (place i))
     )
   where
     ends_so : (owner : List (List ℕ)) (rtype class ttl place : ℕ) (octets : List ℕ) (r : UnparsedValue) (end : ℕ) → record { owner = owner; rtype = rtype; class = class; ttl = ttl; content = octets } ≡ r → place ≡ end
@@ -105,9 +106,9 @@ none_step None f g each e = refl
 none_step (Some x) f g each e = each x refl e
 
 -- if no record is read with its data as they are, none is read
-pub record_in_none : (contents : List ℕ) (start : ℕ) → AreOctets contents → record_in name_at unparsed_in contents start ≡ None → record_in name_at (data_in name_at) contents start ≡ None
+pub record_in_none : (reads : DataReading) (contents : List ℕ) (start : ℕ) → AreOctets contents → record_in name_at unparsed_in contents start ≡ None → record_in name_at reads contents start ≡ None
 unfolding record_in
-record_in_none contents start are e =
+record_in_none reads contents start are e =
     none_step (name_at contents start) _ _ (λ a a-is e.
     none_step (plain_at (number w16) contents a.1) _ _ (λ b b-is e.
     none_step (plain_at (number w16) contents b.1) _ _ (λ c c-is e.
@@ -124,13 +125,13 @@ record_in_none contents start are e =
 pub steps_given : {E : Type 0} (contents : List ℕ) (start : ℕ) (result : Result (Record Labels UnparsedRecordData × ℕ) E) → Gives (λ x. (unparsed_value x.0, x.1)) result (record_in name_at unparsed_in contents start)
     → IfOk result (λ x. (start ≤ x.1) × (x.1 ≤ length contents))
     → IfOk result (λ x. record_in name_at (data_in name_at) contents start ≡ with_data (unparsed_value x.0) x.1 (data_in name_at x.0.rtype.code.value (take x.1 contents) (data_start x.1 x.0.rdata.octets.now)))
-steps_given contents start (Ok x) gives within = record_in_steps contents start (unparsed_value x.0) x.1 within.1 gives
+steps_given contents start (Ok x) gives within = record_in_steps (data_in name_at) contents start (unparsed_value x.0) x.1 within.1 gives
 steps_given contents start (Err e) gives within = tt
 
 pub steps_refused : {E : Type 0} (contents : List ℕ) (start : ℕ) (result : Result (Record Labels UnparsedRecordData × ℕ) E) → AreOctets contents → Gives (λ x. (unparsed_value x.0, x.1)) result (record_in name_at unparsed_in contents start)
     → OnErr result (record_in name_at (data_in name_at) contents start ≡ None)
 steps_refused contents start (Ok x) are gives = tt
-steps_refused contents start (Err e) are gives = record_in_none contents start are gives
+steps_refused contents start (Err e) are gives = record_in_none (data_in name_at) contents start are gives
 
 -- ---- data without names that pointers may lead through
 

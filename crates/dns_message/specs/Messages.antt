@@ -3,6 +3,7 @@ use Rattle.dns_wire.specs.Octets.{Octets, Labels}
 use Rattle.dns_wire.specs.declared.sizes.TheConstants.{HEADER_SIZE}
 use Rattle.std.specs.Prelude.{◌≡◌, ℕ, zero, suc, ◌+◌, ◌*◌, List, [], ◌∷◌, ◌++◌, length, drop, Option, Some, None, nat_lt, slice_index, ◌==◌, if◌then◌else◌}
 use Rattle.dns_wire.specs.Pointers.{name_at}
+use Rattle.dns_record.specs.FurtherFormats.{DataReading}
 use Rattle.dns_record.specs.Data.{data_in}
 use Rattle.dns_record.specs.Fields.{Field}
 use Rattle.dns_record.specs.Questions.{QuestionOf, question_in}
@@ -21,11 +22,15 @@ pub data Item : Type 0 where
   QuestionItem : Question → Item
   RecordItem : RecordValue → Item
 
--- the item at a place in the contents; those of section 0 are questions, and all others are records
-unfoldable pub item_at : ℕ → Octets → ℕ → Option (Item × ℕ)
-item_at section contents at =
+-- the item at a place in the contents; those of section 0 are questions, and all others are records, whose data are read so
+unfoldable pub item_by : DataReading → ℕ → Octets → ℕ → Option (Item × ℕ)
+item_by reads section contents at =
     if section == 0 then first_to QuestionItem (question_in name_at contents at)
-    else first_to RecordItem (record_in name_at (data_in name_at) contents at)
+    else first_to RecordItem (record_in name_at reads contents at)
+
+-- the same with data of the RDATA formats
+abbrev pub item_at : ℕ → Octets → ℕ → Option (Item × ℕ)
+item_at = item_by (data_in name_at)
 
 -- ---- which items are counted
 
@@ -80,13 +85,19 @@ then_read slot at more None = Stopped [] (slot_section slot) (slot_index slot) a
 then_read slot at more (Some (item, end)) = with_item item (more end)
 
 -- the items that are counted, one after another from a place on
-unfoldable pub reading_from : Octets → List Slot → ℕ → Reading
-reading_from contents [] at = Whole [] at
-reading_from contents (slot ∷ slots) at = then_read slot at (reading_from contents slots) (item_at (slot_section slot) contents at)
+unfoldable pub reading_by : DataReading → Octets → List Slot → ℕ → Reading
+reading_by reads contents [] at = Whole [] at
+reading_by reads contents (slot ∷ slots) at = then_read slot at (reading_by reads contents slots) (item_by reads (slot_section slot) contents at)
+
+abbrev pub reading_from : Octets → List Slot → ℕ → Reading
+reading_from = reading_by (data_in name_at)
 
 -- what a message is read as; its contents begin after its twelve header octets
-unfoldable pub message_reading : Octets → Reading
-message_reading m = if nat_lt (length m) HEADER_SIZE then Short else reading_from (drop HEADER_SIZE m) (counted_slots m) 0
+unfoldable pub message_by : DataReading → Octets → Reading
+message_by reads m = if nat_lt (length m) HEADER_SIZE then Short else reading_by reads (drop HEADER_SIZE m) (counted_slots m) 0
+
+abbrev pub message_reading : Octets → Reading
+message_reading = message_by (data_in name_at)
 
 -- the records among some items, in order
 abbrev pub records_among : List Item → List RecordValue
@@ -95,13 +106,22 @@ records_among (QuestionItem q ∷ items) = records_among items
 records_among (RecordItem r ∷ items) = r ∷ records_among items
 
 -- the message is read whole, and these are its records
+abbrev pub ValidBy : DataReading → Octets → List RecordValue → Type 0
+ValidBy reads m rs = (items : List Item) × (end : ℕ) × (message_by reads m ≡ Whole items end) × (rs ≡ records_among items)
+
 abbrev pub Valid : Octets → List RecordValue → Type 0
-Valid m rs = (items : List Item) × (end : ℕ) × (message_reading m ≡ Whole items end) × (rs ≡ records_among items)
+Valid = ValidBy (data_in name_at)
 
 -- this item of this section is the first that is not read, at this place
+abbrev pub StopsBy : DataReading → Octets → ℕ → ℕ → ℕ → Type 0
+StopsBy reads m section index place = (items : List Item) × (message_by reads m ≡ Stopped items section index place)
+
 abbrev pub StopsAt : Octets → ℕ → ℕ → ℕ → Type 0
-StopsAt m section index place = (items : List Item) × (message_reading m ≡ Stopped items section index place)
+StopsAt = StopsBy (data_in name_at)
 
 -- this item of this section is the first that is not read
+abbrev pub BadBy : DataReading → Octets → ℕ → ℕ → Type 0
+BadBy reads m section index = (place : ℕ) × StopsBy reads m section index place
+
 abbrev pub BadAt : Octets → ℕ → ℕ → Type 0
-BadAt m section index = (place : ℕ) × StopsAt m section index place
+BadAt = BadBy (data_in name_at)

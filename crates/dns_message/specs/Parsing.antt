@@ -6,7 +6,10 @@ use Rattle.std.specs.Prelude.{◌≡◌, ℕ, ◌+◌, ◌<◌, ◌^◌, suc, Li
 use Rattle.dns_edns.specs.declared.opt.Opt.{Opt}
 use Rattle.dns_rdata.specs.declared.record_data.RecordData.{RecordData}
 use Rattle.dns_message.specs.Canonical.{is_not_opt}
-use Rattle.dns_message.specs.Messages.{Item, RecordValue, Reading, item_at, counted_slots, reading_from, records_among, Slot}
+use Rattle.dns_wire.specs.Pointers.{name_at}
+use Rattle.dns_record.specs.Data.{data_in}
+use Rattle.dns_record.specs.FurtherFormats.{DataReading}
+use Rattle.dns_message.specs.Messages.{Item, RecordValue, Reading, item_at, counted_slots, records_among, Slot, item_by, reading_by}
 use Rattle.dns_message.specs.Seen.{item_seen, HasSoundData, IsOfSection}
 use Rattle.dns_message.specs.declared.item.MessageItem.{MessageItem}
 use Rattle.dns_message.specs.declared.parser.MessageParser.{MessageParser}
@@ -33,8 +36,11 @@ abbrev pub slots_ahead : MessageParser → List Slot
 slots_ahead p = if has_ended p then [] else drop (given_count p) (counted_slots (parsed_message p))
 
 -- what is still read: the items to come, from where the next one begins
+abbrev pub ahead_by : DataReading → MessageParser → Reading
+ahead_by reads p = reading_by reads (drop HEADER_SIZE (parsed_message p)) (slots_ahead p) (next_start p)
+
 abbrev pub ahead : MessageParser → Reading
-ahead p = reading_from (drop HEADER_SIZE (parsed_message p)) (slots_ahead p) (next_start p)
+ahead = ahead_by (data_in name_at)
 
 -- the next item is the one at this position
 abbrev pub IsComing : MessageParser → ℕ → ℕ → Type 0
@@ -74,7 +80,10 @@ GivesItem old (Some item) new =
     × ((position : ItemPosition) × GivesNext old (Some (position, item)) new × IfOk item (IsOfSection position.section (drop (next_start old) (drop HEADER_SIZE (parsed_message old)))))
 
 -- What an item adds to the records, if it is read up to the end: itself, if it is a record of another type than OPT.
+abbrev pub AddsItemBy : DataReading → ℕ → Octets → ℕ → List RecordValue → List RecordValue → Option ℕ → Type 0
+AddsItemBy reads section contents start old new None = item_by reads section contents start ≡ None
+AddsItemBy reads section contents start old new (Some end) =
+    (item : Item) × (item_by reads section contents start ≡ Some (item, end)) × (new ≡ old ++ filter is_not_opt (records_among (item ∷ [])))
+
 abbrev pub AddsItem : ℕ → Octets → ℕ → List RecordValue → List RecordValue → Option ℕ → Type 0
-AddsItem section contents start old new None = item_at section contents start ≡ None
-AddsItem section contents start old new (Some end) =
-    (item : Item) × (item_at section contents start ≡ Some (item, end)) × (new ≡ old ++ filter is_not_opt (records_among (item ∷ [])))
+AddsItem = AddsItemBy (data_in name_at)

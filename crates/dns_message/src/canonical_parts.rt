@@ -1,6 +1,6 @@
 //! The parts of a record, written in canonical form.
 
-ghost use Rattle.std.specs.Prelude.{◌≡◌, ◌≤◌, ◌<◌, ◌+◌, ◌^◌, IfOk, length, ⊤};
+ghost use Rattle.std.specs.Prelude.{◌≡◌, ◌≤◌, ◌<◌, ◌+◌, ◌^◌, length, ⊤};
 ghost use Rattle.dns_wire.specs.Building.{Builds};
 ghost use Rattle.dns_wire.specs.Names.{wire, lowered};
 ghost use Rattle.dns_record.specs.Records.{octets_of_parts};
@@ -9,7 +9,6 @@ use dns_name::{Lowercased, RevNameBuf};
 use dns_num::{SizePrefixed, U16};
 use dns_record::{CanonicalRecordData, Record};
 use dns_wire::{BuildBytes, TruncationError};
-use std::alloc::AllocError;
 
 /// Data in canonical form, among other parts.
 #[derive(Drop)]
@@ -54,19 +53,4 @@ pub(crate) fn canonical_size<D: CanonicalRecordData>(found: &Record<&RevNameBuf,
 {
     let data = CanonicalData { rdata: found.rdata };
     found.rname.built_bytes_size() + (10 + data.built_bytes_size())
-}
-
-/// Makes the canonical octets of data the only ones of a vector. `AllocError` is out of memory.
-pub(crate) fn put_canonical_data<D: CanonicalRecordData>(
-    rdata: &D,
-    octets: &mut Vec<u8>,
-) -> Result<(), AllocError>
-    requires { length (D.canonical rdata.now) < 2 ^ 16 }
-    ensures { IfOk result (λ _. octets.new.items ≡ D.canonical rdata.now) }
-{
-    let data = CanonicalData { rdata };
-    octets.clear();
-    octets.resize(data.built_bytes_size(), 0)?;
-    data.build_at(octets, 0).unwrap();
-    Ok(())
 }

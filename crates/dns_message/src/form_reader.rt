@@ -1,34 +1,27 @@
 //! Reading the records of a message as their canonical forms.
 
-ghost use Rattle.std.specs.Prelude.{◌≡◌, ◌≤◌, true, List, IfOk, IfErr, IfSome, length, map, take};
-ghost use Rattle.dns_wire.specs.Names.{plain_name};
+ghost use Rattle.std.specs.Prelude.{◌≡◌, ◌≤◌, List, IfOk, IfErr, IfSome, length, take};
 ghost use Rattle.dns_wire.specs.Octets.{Labels};
 ghost use Rattle.dns_wire.specs.Pointers.{name_at};
-ghost use Rattle.dns_record.specs.Data.{data_as, data_in};
 ghost use Rattle.dns_wire.specs.Reading.{AreOctets};
-ghost use Rattle.dns_record.specs.Formats.{rdata_format};
 ghost use Rattle.dns_record.specs.Records.{record_in};
-ghost use Rattle.dns_rdata.specs.Compressible.{is_compressible_type};
-ghost use Rattle.dns_rdata.specs.Plain.{is_uncompressed_type};
-ghost use Rattle.dns_message.specs.CompressibleData.{kind_of};
 ghost use Rattle.dns_message.specs.FormsRead.{AddsData, AddsForm, AddsRecord, forms_of};
-ghost use Rattle.dns_message.specs.Messages.{RecordValue, Valid, item_at};
+ghost use Rattle.dns_record.specs.FurtherFormats.{data_by};
+ghost use Rattle.dns_message.specs.Messages.{RecordValue, Valid, ValidBy, item_by};
 ghost use Rattle.dns_message.specs.Owners.{HasOwner, WasRead};
-ghost use Rattle.dns_message.specs.Refusals.{RefusedOrMemory};
-ghost use Rattle.dns_message.specs.UnparsedRecords.{data_start, parts_value};
+ghost use Rattle.dns_message.specs.Refusals.{RefusedByOrMemory, RefusedOrMemory};
+ghost use Rattle.dns_message.specs.UnparsedRecords.{DataAreAt, data_start, parts_value};
 
 use crate::canon_error::CanonError;
 use crate::canonical_forms::CanonicalForms;
-use crate::canonical_parts::put_canonical_data;
-use crate::compressible_data::{CompressibleField, compressible_fields, push_fields};
 use crate::item_reader::ItemReader;
 use crate::last_owner::LastOwner;
+use crate::lowercase_fields::push_fields;
 use crate::parser::MessageParser;
+use crate::plain_fields::are_fields;
 use crate::unparsed_parts::{UnparsedParts, split_unparsed_parts};
 use dns_name::Name;
-use dns_rdata::RecordData;
-use dns_record::{ParseRecordDataBytes, RType};
-use dns_wire::ParseError;
+use dns_record::{Formats, RType};
 use std::alloc::{AllocError, Global};
 use std::mem;
 
@@ -51,68 +44,44 @@ impl RecordRoom {
     }
 }
 
-/// Puts the form of a record whose data end at a place of the message after the forms, if its fields can be read there. `AllocError` is out
-/// of memory.
-fn with_compressible(
+/// Puts the form of a record whose data end at a place of the message after the forms, if the data are such of its type; nothing for a record
+/// of type OPT. Data without names in lowercase are copied as they are. `AllocError` is out of memory.
+fn with_data(
     alloc: Global,
     forms: CanonicalForms,
     items: &mut ItemReader<'_>,
     room: &mut RecordRoom,
-    fields: &[CompressibleField],
+    formats: Formats,
     parts: &UnparsedParts<'_>,
     end: usize,
 ) -> Result<Option<CanonicalForms>, AllocError>
-    requires compressible { is_compressible_type parts.now.rtype.code.value ≡ true }
-    requires fields { map kind_of fields.now ≡ rdata_format parts.now.rtype.code.value }
     requires within { end ≤ length items.old }
-    requires long { length parts.now.rdata.octets.now ≤ end }
+    requires placed { DataAreAt items.old parts.now.rdata.octets.now end }
+    requires octets { AreOctets items.old }
     requires owner { (labels : Labels) × HasOwner room.old.owner labels }
     ensures adds { IfOk result (λ found. (labels : Labels) → HasOwner room.old.owner labels
-        → AddsData forms (parts_value labels parts.now) (data_in name_at parts.now.rtype.code.value (take end items.old) (data_start end parts.now.rdata.octets.now)) found) }
+        → AddsData forms (parts_value labels parts.now) (data_by formats parts.now.rtype.code.value (take end items.old) (data_start end parts.now.rdata.octets.now)) found) }
     ensures items { items.new ≡ items.old }
     ensures owner { room.new.owner ≡ room.old.owner }
 {
-    let start = end - parts.rdata.octets().len();
-    let RecordRoom { owner, name, data } = room;
-    data.clear();
-    if !push_fields(alloc, items, name, data, fields, start, end)? {
-        return Ok(None);
-    }
-    let (rtype, rclass, ttl) = (parts.rtype, parts.rclass, parts.ttl);
-    let more = forms.with_canonical(owner.owner(), rtype, rclass, ttl, data)?;
-    Ok(Some(more))
-}
-
-/// Puts the form of a record after the forms, if its data are such of its type and no pointers can be in them; nothing for a record
-/// of type OPT. `AllocError` is out of memory.
-fn with_uncompressed(
-    forms: CanonicalForms,
-    owner: &LastOwner,
-    data: &mut Vec<u8>,
-    parts: &UnparsedParts<'_>,
-) -> Result<Option<CanonicalForms>, AllocError>
-    requires plain { is_uncompressed_type parts.now.rtype.code.value ≡ true }
-    requires octets { AreOctets parts.now.rdata.octets.now }
-    requires owner { (labels : Labels) × HasOwner owner.now labels }
-    ensures { IfOk result (λ found. (labels : Labels) → HasOwner owner.now labels
-        → AddsData forms (parts_value labels parts.now) (data_as plain_name parts.now.rtype.code.value parts.now.rdata.octets.now) found) }
-{
     let octets = parts.rdata.octets();
     let (rtype, rclass, ttl) = (parts.rtype, parts.rclass, parts.ttl);
-    let read: Result<RecordData<'_, Name<'_>>, ParseError> = RecordData::parse_record_data_bytes(
-        octets, rtype,
-    );
-    let Ok(rdata) = read else {
-        return Ok(None);
-    };
-    if rtype == RType::OPT {
-        return Ok(Some(forms));
-    }
-    if !rtype.uses_lowercase_canonical_form() {
+    let (kinds, lowercase) = formats.kinds(rtype);
+    let RecordRoom { owner, name, data } = room;
+    if !lowercase {
+        if !are_fields(kinds, octets) {
+            return Ok(None);
+        }
+        if rtype == RType::OPT {
+            return Ok(Some(forms));
+        }
         let more = forms.with_canonical(owner.owner(), rtype, rclass, ttl, octets)?;
         return Ok(Some(more));
     }
-    put_canonical_data(&rdata, data)?;
+    data.clear();
+    if !push_fields(alloc, items, name, data, kinds, end - octets.len(), end)? {
+        return Ok(None);
+    }
     let more = forms.with_canonical(owner.owner(), rtype, rclass, ttl, data)?;
     Ok(Some(more))
 }
@@ -124,10 +93,11 @@ fn with_record(
     forms: CanonicalForms,
     items: &mut ItemReader<'_>,
     room: &mut RecordRoom,
+    formats: Formats,
     start: usize,
 ) -> Result<Option<(CanonicalForms, usize)>, AllocError>
     requires { WasRead items.old room.old.owner }
-    ensures adds { IfOk result (AddsRecord forms (record_in name_at (data_in name_at) items.old start)) }
+    ensures adds { IfOk result (AddsRecord forms (record_in name_at (data_by formats) items.old start)) }
     ensures owner { IfOk result (λ found. IfSome found (λ _. WasRead items.old room.new.owner)) }
     ensures items { items.new ≡ items.old }
 {
@@ -137,11 +107,7 @@ fn with_record(
     let Ok((parts, end)) = split_unparsed_parts(items.contents(), at) else {
         return Ok(None);
     };
-    let added = match compressible_fields(parts.rtype) {
-        Some(fields) => with_compressible(alloc, forms, items, room, fields, &parts, end)?,
-        None => with_uncompressed(forms, &room.owner, &mut room.data, &parts)?,
-    };
-    match added {
+    match with_data(alloc, forms, items, room, formats, &parts, end)? {
         Some(more) => Ok(Some((more, end))),
         None => Ok(None),
     }
@@ -154,16 +120,17 @@ fn with_item(
     forms: CanonicalForms,
     items: &mut ItemReader<'_>,
     room: &mut RecordRoom,
+    formats: Formats,
     section: u8,
     start: usize,
 ) -> Result<Option<(CanonicalForms, usize)>, AllocError>
     requires { WasRead items.old room.old.owner }
-    ensures adds { IfOk result (AddsForm forms (item_at section items.old start)) }
+    ensures adds { IfOk result (AddsForm forms (item_by (data_by formats) section items.old start)) }
     ensures owner { IfOk result (λ found. IfSome found (λ _. WasRead items.old room.new.owner)) }
     ensures items { items.new ≡ items.old }
 {
     if section != 0 {
-        return with_record(alloc, forms, items, room, start);
+        return with_record(alloc, forms, items, room, formats, start);
     }
     items.look(alloc, section, start)?;
     match items.end_of_question(start) {
@@ -178,9 +145,10 @@ fn read_into(
     message: &[u8],
     earlier: CanonicalForms,
     room: &mut RecordRoom,
+    formats: Formats,
 ) -> Result<CanonicalForms, CanonError>
-    ensures read { IfOk result (λ forms. (rs : List RecordValue) × Valid message.now rs × (forms ≡ forms_of rs)) }
-    ensures refused { IfErr result (RefusedOrMemory message.now) }
+    ensures read { IfOk result (λ forms. (rs : List RecordValue) × ValidBy (data_by formats) message.now rs × (forms ≡ forms_of rs)) }
+    ensures refused { IfErr result (RefusedByOrMemory (data_by formats) message.now) }
 {
     let Ok(mut parser) = MessageParser::new(message) else {
         return Err(CanonError::Short);
@@ -192,7 +160,7 @@ fn read_into(
     while let Some(position) = parser.coming() {
         let start = parser.offset();
         let section = position.section;
-        let Some(found) = with_item(alloc, forms, &mut items, room, section, start)? else {
+        let Some(found) = with_item(alloc, forms, &mut items, room, formats, section, start)? else {
             return Err(CanonError::Item {
                 section,
                 index: position.index,
@@ -217,6 +185,25 @@ pub fn read_forms(alloc: Global, message: &[u8]) -> Result<CanonicalForms, Canon
         message,
         CanonicalForms::new(alloc),
         &mut RecordRoom::new(alloc),
+        Formats::Usual,
+    )
+}
+
+/// Reads a whole message as `read_forms`, by these formats.
+pub fn read_forms_by(
+    alloc: Global,
+    message: &[u8],
+    formats: Formats,
+) -> Result<CanonicalForms, CanonError>
+    ensures read { IfOk result (λ forms. (rs : List RecordValue) × ValidBy (data_by formats) message.now rs × (forms ≡ forms_of rs)) }
+    ensures refused { IfErr result (RefusedByOrMemory (data_by formats) message.now) }
+{
+    read_into(
+        alloc,
+        message,
+        CanonicalForms::new(alloc),
+        &mut RecordRoom::new(alloc),
+        formats,
     )
 }
 
@@ -242,7 +229,7 @@ impl FormsReader {
         ensures refused { IfErr result (RefusedOrMemory message.now) }
     {
         let earlier = mem::replace(&mut self.forms, CanonicalForms::new(alloc));
-        self.forms = read_into(alloc, message, earlier, &mut self.room)?;
+        self.forms = read_into(alloc, message, earlier, &mut self.room, Formats::Usual)?;
         Ok(&self.forms)
     }
 }

@@ -70,7 +70,7 @@ pub(crate) fn end_of_question(contents: &[u8], start: usize) -> Option<usize>
 }
 
 /// Reads the additional item at a place, and gives the place where it ends.
-#[tactic(auto, unfolding(crate::specs::Messages::item_at))]
+#[tactic(auto, unfolding(crate::specs::Messages::item_by))]
 fn read_additional(
     contents: &[u8],
     start: usize,
@@ -91,7 +91,7 @@ fn read_additional(
 
 /// Reads the item of a section at a place, and gives the place where it ends. Section 0 has the questions, and the later ones
 /// have records. `ParseError` comes exactly if no such item is there.
-#[tactic(auto, unfolding(crate::specs::Messages::item_at))]
+#[tactic(auto, unfolding(crate::specs::Messages::item_by))]
 pub(crate) fn read_item(
     contents: &[u8],
     section: usize,

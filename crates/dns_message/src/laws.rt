@@ -13,7 +13,8 @@ ghost use Rattle.dns_record.specs.InPlace.{QuestionAt, RecordAt};
 ghost use Rattle.dns_message.specs.Canonical.{canonical_wire, lowercase_names, plain_record};
 ghost use Rattle.dns_message.specs.Counted.{IsCounted, IsEarlier, ComesBefore};
 ghost use Rattle.dns_message.specs.Headers.{header_bits};
-ghost use Rattle.dns_message.specs.Messages.{Item, Question, RecordValue, item_at, counted_slots, with_item, message_reading, Valid, StopsAt, BadAt};
+ghost use Rattle.dns_record.specs.FurtherFormats.{data_by, further_by};
+ghost use Rattle.dns_message.specs.Messages.{BadAt, Item, Question, RecordValue, StopsAt, Valid, ValidBy, counted_slots, item_at, message_reading, with_item};
 ghost use Rattle.dns_message.specs.Messages.Item.{QuestionItem, RecordItem};
 ghost use Rattle.dns_message.specs.Messages.Reading.{Stopped, Whole};
 ghost use Rattle.dns_message.specs.Order.{record_cmp, Before, alike_cmp, sort_key, are_alike, canonical_list};
@@ -36,7 +37,7 @@ use crate::message::MAX_MESSAGE_SIZE;
 use crate::parser::ItemPosition;
 use dns_name::{Name, NameBuf, RevNameBuf};
 use dns_rdata::RecordData;
-use dns_record::Record;
+use dns_record::{Formats, Record};
 use dns_wire::ParseBytes;
 use std::hash::Hash;
 
@@ -169,6 +170,12 @@ pub fn canonical_streams()
     ensures records { (rs ss : List RecordValue) → All WellFormed rs → All WellFormed ss → (concat (canonical_list rs) ≡ concat (canonical_list ss)) ↔ Same rs ss }
     ensures messages { (m n : Octets) (rs ss : List RecordValue) → AreOctets m → AreOctets n → Valid m rs → Valid n ss →
         (concat (canonical_list rs) ≡ concat (canonical_list ss)) ↔ Same rs ss }
+{}
+
+/// A message without records of the further types of RFC 4034 section 6.2 is valid by both tables of formats or by neither, and has the same
+/// records by both. So its canonical forms are the same.
+pub fn same_formats()
+    ensures { (m : Octets) (rs : List RecordValue) → All (λ r. further_by Formats.Listed r.rtype ≡ None) rs → ValidBy (data_by Formats.Listed) m rs ↔ Valid m rs }
 {}
 
 /// The items that a parser gives are those of its message, in order: one that was just made has the whole message ahead; an item

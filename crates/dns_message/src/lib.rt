@@ -12,7 +12,6 @@ mod canonical_owner;
 mod canonical_parts;
 mod canonical_record;
 mod chained_data;
-mod compressible_data;
 mod form_reader;
 mod form_span;
 mod header;
@@ -21,9 +20,11 @@ mod item_reader;
 mod keyed_record;
 mod last_owner;
 mod laws;
+mod lowercase_fields;
 mod message;
 mod owner_key;
 mod parser;
+mod plain_fields;
 mod push_laws;
 mod read_again;
 mod records;
@@ -41,7 +42,7 @@ pub use canonical_form::CanonicalForm;
 pub use canonical_forms::CanonicalForms;
 pub use canonical_list::{collapse, collapsed};
 pub use canonical_record::CanonicalRecord;
-pub use form_reader::{FormsReader, read_forms};
+pub use form_reader::{FormsReader, read_forms, read_forms_by};
 pub use header::{Header, HeaderFlags, SectionCounts};
 pub use item::{MessageItem, ParsedMessageItem};
 pub use laws::{
@@ -49,7 +50,7 @@ pub use laws::{
     canonical_records_are_split_back, canonical_streams, canonical_texts, counted_items,
     equal_canonical_octets, equal_errors, equal_outputs, equal_positions, header_flags,
     items_in_words, limits, order_of_records, owners_in_either_layout, parsers_read_messages,
-    readings_in_words, records_that_are_read_are_well_formed, same_records,
+    readings_in_words, records_that_are_read_are_well_formed, same_formats, same_records,
     three_kinds_of_messages,
 };
 pub use message::{MAX_MESSAGE_SIZE, Message};

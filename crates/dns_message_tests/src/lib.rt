@@ -13,6 +13,8 @@ mod canonical_record;
 #[cfg(test)]
 mod edns_record;
 #[cfg(test)]
+mod further_data;
+#[cfg(test)]
 mod message_builder;
 #[cfg(test)]
 mod message_parser;

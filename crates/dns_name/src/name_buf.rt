@@ -101,7 +101,7 @@ fn read_name<L: Ledger>(
             LabelType::Root => {
                 copy_at(&[0], &mut buffer, size);
                 let name = NameBuf::from_buffer(buffer, size + 1);
-                return Ok((name, cursor.end.unwrap_or(at + 1)));
+                return Ok((name, cursor.end.unwrap()));
             }
             LabelType::Label(label) => {
                 if size + 1 + label >= Name::MAX_SIZE {

@@ -102,7 +102,7 @@ fn read_reversed(contents: &[u8], start: usize) -> Result<(RevNameBuf, usize), P
             LabelType::Root => {
                 copy_before(&[0], &mut buffer, offset);
                 let name = RevNameBuf::from_buffer(buffer, offset - 1);
-                return Ok((name, cursor.end.unwrap_or(at + 1)));
+                return Ok((name, cursor.end.unwrap()));
             }
             LabelType::Label(label) => {
                 if offset <= 1 + label {

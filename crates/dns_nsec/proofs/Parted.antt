@@ -6,59 +6,6 @@ use Rattle.dns_record.specs.TypeBitMaps.{Window, window, windows_within, windows
 use Rattle.dns_record.proofs.Bitmaps.{bitmap_is, is_this_bitmap, windows_found, window_read}
 use Rattle.dns_nsec.specs.Bitmaps.{windows_or_none, windows_in}
 
--- ---- all of them
-
-pub record WindowsLeft (bytes : List ℕ) (least : ℕ) (rest : List ℕ) : Type 0 where
-  pub steps : ℕ
-  pub enough : length rest < steps
-  pub same : is_some (windows_within steps least rest) ≡ is_bitmap bytes
-
-pub windows_start : (bytes : List ℕ) → WindowsLeft bytes 0 bytes
-unfolding is_bitmap windows_of
-windows_start bytes = record { steps = suc (length bytes); enough = omega arith; same = refl }
-
-pub windows_done : (bytes : List ℕ) (least : ℕ) (rest : List ℕ) → WindowsLeft bytes least rest → length rest ≡ 0 → is_bitmap bytes ≡ true
-unfolding windows_within
-windows_done bytes least [] left e = by left.steps left.enough left.same where
-  by : (steps : ℕ) → 0 < steps → is_some (windows_within steps least []) ≡ is_bitmap bytes → is_bitmap bytes ≡ true
-  by zero some same = absurd (omega arith)
-  by (suc steps) some same = sym same
-windows_done bytes least (x ∷ rest) left e = absurd (omega arith)
-
-abbrev then_windows : (ℕ → List ℕ → Option (List Window)) → Option (Window × List ℕ) → Option (List Window)
-then_windows more read = ◌>>=◌ {A = Window × List ℕ} {B = List Window} read (λ first. ◌>>=◌ {A = List Window} {B = List Window} (more (suc first.0.number) first.1) (λ others. Some (first.0 ∷ others)))
-
-some_others : (w : Window) (others : Option (List Window)) → is_some (◌>>=◌ {A = List Window} {B = List Window} others (λ ws. Some (w ∷ ws))) ≡ is_some others
-some_others w None = refl
-some_others w (Some others) = refl
-
-pub windows_bad : (bytes : List ℕ) (least : ℕ) (rest : List ℕ) → WindowsLeft bytes least rest → 0 < length rest → window least rest ≡ None → is_bitmap bytes ≡ false
-unfolding windows_within
-windows_bad bytes least [] left some e = absurd (omega arith)
-windows_bad bytes least (x ∷ rest) left some e = by left.steps left.enough left.same where
-  by : (steps : ℕ) → length (x ∷ rest) < steps → is_some (windows_within steps least (x ∷ rest)) ≡ is_bitmap bytes → is_bitmap bytes ≡ false
-  by zero enough same = absurd (omega arith)
-  by (suc steps) enough same = sym same ∙ ap (λ (read : Option (Window × List ℕ)). is_some (then_windows (windows_within steps) read)) e
-
-pub windows_step : (bytes : List ℕ) (least : ℕ) (rest : List ℕ) (w : Window) (later : List ℕ) → WindowsLeft bytes least rest → 0 < length rest → length later < length rest → window least rest ≡ Some (w, later) → WindowsLeft bytes (w.number + 1) later
-unfolding windows_within
-windows_step bytes least [] w later left some less e = absurd (omega arith)
-windows_step bytes least (x ∷ rest) w later left some less e = by left.steps left.enough left.same where
-  by : (steps : ℕ) → length (x ∷ rest) < steps → is_some (windows_within steps least (x ∷ rest)) ≡ is_bitmap bytes → WindowsLeft bytes (w.number + 1) later
-  by zero enough same = absurd (omega arith)
-  by (suc steps) enough same =
-      let after : w.number + 1 ≡ suc w.number = omega arith in
-      record {
-        steps = steps;
-        enough = omega (arith, enough, less);
-        same = ap (λ (n : ℕ). is_some (windows_within steps n later)) after
-            ∙ sym (some_others w (windows_within steps (suc w.number) later))
-            ∙ sym (ap (λ (read : Option (Window × List ℕ)). is_some (then_windows (windows_within steps) read)) e)
-            ∙ same;
-      }
-
--- ---- the first of them
-
 pub windows_these : (bytes : List ℕ) (w : AreWindows bytes) → windows_in bytes ≡ w.windows
 unfolding windows_in
 windows_these bytes w = ap windows_or_none (windows_found bytes w)

@@ -13,7 +13,7 @@ ghost use Rattle.dns_nsec.specs.Seen.{window_seen};
 use crate::laws::types_of_bitmaps;
 use crate::type_iter::TypeIter;
 use crate::window::Window;
-use dns_record::RType;
+use dns_record::{RType, are_windows};
 use dns_wire::{AsBytes, BuildBytes, ParseBytes, ParseError, TruncationError, put};
 
 /// The types that there are at a name, as windows of bits whose numbers strictly rise (RFC 4034
@@ -101,16 +101,11 @@ impl<'a> ParseBytes<'a> for TypeBitmaps<'a> {
     ghost ends_within = { plain_ends bitmap bitmap_leaves };
 
     fn parse_bytes(bytes: &'a [u8]) -> Result<TypeBitmaps<'a>, ParseError> {
-        let mut rest = bytes;
-        let mut least = 0;
-        while !rest.is_empty() {
-            let Ok((window, trailing)) = Window::split(least, rest) else {
-                return Err(ParseError);
-            };
-            least = window.number as u16 + 1;
-            rest = trailing;
+        if are_windows(bytes) {
+            Ok(TypeBitmaps { slice: bytes })
+        } else {
+            Err(ParseError)
         }
-        Ok(TypeBitmaps { slice: bytes })
     }
 }
 

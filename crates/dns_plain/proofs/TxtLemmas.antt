@@ -1,4 +1,4 @@
--- Strings that are read one by one: what they are of all the octets, and what is left of a test.
+-- Strings that are read one by one, of all the octets.
 use Rattle.std.proofs.Common.{◌≡◌, ℕ, zero, suc, ◌<◌, ◌≤◌, true, false, ltb, Bool, List, [], ◌∷◌, length, Option, Some, None, refl, sym, ap, ◌∙◌, arith}
 use Rattle.std.specs.Prelude.{◌↔◌, IsTrue, map}
 use Rattle.std.specs.Cmp.Lexicographic.{pointwise, pointwise_decides, bytes_decides}
@@ -13,6 +13,7 @@ use Rattle.dns_record.specs.FieldOrder.{field_eq, fields_eq, fields_writes}
 use Rattle.dns_record.specs.Fields.FieldOf.{Sized}
 use Rattle.dns_record.specs.CharacterStrings.{character_string, after_string, character_strings_within, is_character_strings, is_txt_data, character_strings_octets}
 use Rattle.dns_record.proofs.Places.{text_spelled, text_read}
+use Rattle.dns_record.proofs.TestedOctets.{text_shorter}
 use Rattle.dns_record.proofs.CharacterStringLemmas.{character_strings_are}
 use Rattle.dns_plain.specs.Strings.{then_strings, strings_within, strings_in, same_strings, strings_writes, lowered_from_same}
 
@@ -54,9 +55,6 @@ character_strings_few bytes e = omega (arith, many_octets (strings_in bytes), ap
 
 -- ---- the first of them
 
-pub text_shorter : (bytes found rest : List ℕ) → character_string bytes ≡ Some (found, rest) → length rest < length bytes
-text_shorter bytes found rest e = omega (arith, ap length (text_spelled bytes found rest e), length-append found rest)
-
 -- more steps than octets change nothing
 enough_steps : (steps others : ℕ) (bytes : List ℕ) → length bytes ≤ steps → length bytes ≤ others → strings_within steps bytes ≡ strings_within others bytes
 unfolding strings_within
@@ -85,57 +83,6 @@ pub no_string : (bytes : List ℕ) → character_string bytes ≡ None → strin
 unfolding strings_in strings_within
 no_string [] e = refl
 no_string (size ∷ more) e = ap (then_strings (λ (l : List ℕ). strings_within (length more) l)) e
-
--- ---- the test
-
--- what is left answers for the whole
-pub record CharacterStringsLeft (bytes rest : List ℕ) : Type 0 where
-  pub steps : ℕ
-  pub enough : length rest < steps
-  pub same : character_strings_within steps rest ≡ is_txt_data bytes
-
-pub character_strings_start : (bytes : List ℕ) → 0 < length bytes → length bytes ≤ 65535 → CharacterStringsLeft bytes bytes
-unfolding is_txt_data is_character_strings
-character_strings_start [] some few = absurd (omega arith)
-character_strings_start (x ∷ bytes) some few =
-    let short : ltb 65535 (length (x ∷ bytes)) ≡ false = le-ltb _ _ few in
-    record { steps = suc (length (x ∷ bytes)); enough = omega arith; same = rw short refl }
-
-pub character_strings_done : (bytes rest : List ℕ) → CharacterStringsLeft bytes rest → length rest ≡ 0 → is_txt_data bytes ≡ true
-unfolding character_strings_within
-character_strings_done bytes [] left e = by left.steps left.enough left.same where
-  by : (steps : ℕ) → 0 < steps → character_strings_within steps [] ≡ is_txt_data bytes → is_txt_data bytes ≡ true
-  by zero some same = absurd (omega arith)
-  by (suc steps) some same = sym same
-character_strings_done bytes (x ∷ rest) left e = absurd (omega arith)
-
-pub character_strings_bad : (bytes rest : List ℕ) → CharacterStringsLeft bytes rest → 0 < length rest → character_string rest ≡ None → is_txt_data bytes ≡ false
-unfolding character_strings_within
-character_strings_bad bytes [] left some e = absurd (omega arith)
-character_strings_bad bytes (x ∷ rest) left some e = by left.steps left.enough left.same where
-  by : (steps : ℕ) → length (x ∷ rest) < steps → character_strings_within steps (x ∷ rest) ≡ is_txt_data bytes → is_txt_data bytes ≡ false
-  by zero enough same = absurd (omega arith)
-  by (suc steps) enough same = sym same ∙ ap (after_string (λ more. character_strings_within steps more)) e
-
-pub character_strings_step : (bytes rest found later : List ℕ) → CharacterStringsLeft bytes rest → 0 < length rest → character_string rest ≡ Some (found, later) → CharacterStringsLeft bytes later
-unfolding character_strings_within
-character_strings_step bytes [] found later left some e = absurd (omega arith)
-character_strings_step bytes (x ∷ rest) found later left some e = by left.steps left.enough left.same where
-  by : (steps : ℕ) → length (x ∷ rest) < steps → character_strings_within steps (x ∷ rest) ≡ is_txt_data bytes → CharacterStringsLeft bytes later
-  by zero enough same = absurd (omega arith)
-  by (suc steps) enough same =
-      let less = text_shorter (x ∷ rest) found later e in
-      record { steps = steps; enough = omega arith; same = sym (ap (after_string (λ more. character_strings_within steps more)) e) ∙ same }
-
--- no string, and more octets than a size can say
-pub none_read : (bytes : List ℕ) → length bytes ≡ 0 → is_txt_data bytes ≡ false
-unfolding is_txt_data is_character_strings
-none_read [] e = refl
-none_read (x ∷ bytes) e = absurd (omega arith)
-
-pub many_read : (bytes : List ℕ) → 65535 < length bytes → is_txt_data bytes ≡ false
-unfolding is_txt_data
-many_read bytes many = rw (lt-ltb 65535 (length bytes) many) refl
 
 -- ---- equality
 

@@ -27,10 +27,10 @@ ghost use Rattle.dns_plain.specs.Strings.{strings_in, same_strings, strings_writ
 ghost use Rattle.dns_plain.specs.Types.{txt_fields};
 
 use crate::txt_iter::TxtIter;
-use dns_record::{CanonicalRecordData, CharStr, DataOfType, RType};
+use dns_record::{CanonicalRecordData, DataOfType, RType, are_character_strings};
 use dns_wire::{
     AsBytes, BuildBytes, BuildInMessage, NameCompressor, ParseBytes, ParseError, ParseMessageBytes,
-    SplitBytes, TruncationError, build_whole, parse_without_compression, put, whole,
+    TruncationError, build_whole, parse_without_compression, put, whole,
 };
 use std::cmp::Ordering;
 use std::hash::{Hash, Hasher};
@@ -58,23 +58,6 @@ impl AsBytes for Txt<'_> {
     fn as_bytes(&self) -> &[u8] {
         self.slice
     }
-}
-
-/// Whether the octets are one string or more, and at most 65,535.
-fn are_character_strings(bytes: &[u8]) -> bool
-    ensures { result ≡ is_txt_data bytes.now }
-{
-    if bytes.is_empty() || bytes.len() > 65_535 {
-        return false;
-    }
-    let mut rest = bytes;
-    while !rest.is_empty() {
-        let Ok((_string, trailing)) = CharStr::split_bytes(rest) else {
-            return false;
-        };
-        rest = trailing;
-    }
-    true
 }
 
 /// `ParseError` comes exactly if the octets are none, or more than 65,535, or strings don't fill them.

@@ -11,3 +11,5 @@ pub mod Stepped
 pub mod CharacterStringLemmas
 pub mod Worded
 pub mod FieldLayoutLemmas
+pub mod TestedOctets
+pub mod ListedFormatLemmas

@@ -23,3 +23,7 @@ pub mod Types
 pub mod Unparsed
 pub mod Whole
 pub mod TypeBitMaps
+pub mod FieldKinds
+pub mod FurtherFormats
+pub mod ListedFormats
+pub mod DataChecks

@@ -8,6 +8,9 @@ mod charstr_buf;
 mod charstr_error;
 mod charstr_laws;
 mod code_laws;
+mod data_checks;
+mod field_kind;
+mod formats;
 mod laws;
 mod order_laws;
 mod qclass;
@@ -28,10 +31,13 @@ pub use charstr_buf::CharStrBuf;
 pub use charstr_error::CharStrParseError;
 pub use charstr_laws::character_strings;
 pub use code_laws::{class_numbers, question_type_numbers, record_type_numbers};
+pub use data_checks::{are_all_options, are_character_strings, are_options, are_windows};
+pub use field_kind::{FieldKind, rdata_format};
+pub use formats::Formats;
 pub use laws::{items_in_words, serial_numbers_compare, whole_data_are_short};
 pub use order_laws::{
     codes_are_equal_by_number, codes_are_hashed_by_number, codes_are_ordered_by_number,
-    equal_errors, items_are_equal_by_fields, items_are_hashed_by_fields,
+    equal_errors, equal_formats, items_are_equal_by_fields, items_are_hashed_by_fields,
 };
 pub use qclass::QClass;
 pub use qtype::QType;

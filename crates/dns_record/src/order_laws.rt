@@ -5,6 +5,8 @@ ghost use Rattle.std.specs.Hash.{le_bytes};
 ghost use Rattle.std.specs.Ordering.{nat_cmp};
 
 use crate::charstr_error::CharStrParseError;
+use crate::field_kind::FieldKind;
+use crate::formats::Formats;
 use crate::qclass::QClass;
 use crate::qtype::QType;
 use crate::question::Question;
@@ -64,4 +66,10 @@ pub fn items_are_hashed_by_fields<N: Hash, D: Hash>()
 /// Errors are equal exactly if they are the same.
 pub fn equal_errors()
     ensures character_string { (a b : _) → IsTrue (⟦<CharStrParseError as PartialEq>⟧.eq a b) ↔ (a ≡ b) }
+{}
+
+/// Kinds of fields are equal exactly if they are the same, and so are the two choices of formats.
+pub fn equal_formats()
+    ensures kind { (a b : _) → IsTrue (⟦<FieldKind as PartialEq>⟧.eq a b) ↔ (a ≡ b) }
+    ensures formats { (a b : _) → IsTrue (⟦<Formats as PartialEq>⟧.eq a b) ↔ (a ≡ b) }
 {}

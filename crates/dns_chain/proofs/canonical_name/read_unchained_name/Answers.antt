@@ -5,9 +5,9 @@ use Rattle.std.proofs.lemmas.List.{length-take, length-drop, length-append}
 use Rattle.dns_wire.specs.Names.{name_labels}
 use Rattle.dns_wire.proofs.Lowered.{lower_wire}
 use Rattle.dns_wire.proofs.Spelled.{name_octets}
-use Rattle.dns_name.proofs.Followed.{followed_bad, followed_none, followed_root, followed_label, followed_long, followed_pointer}
+use Rattle.dns_name.proofs.Followed.{followed_bad, followed_none, followed_root, followed_label, followed_long, followed_pointer, root_end, root_ends}
 use Rattle.dns_chain.specs.Chains.ChainedFrom.{at_label, at_pointer, to_pointer}
-use Rattle.dns_chain.proofs.Chaining.{chained_label, chained_pointer, chained_root, root_end, root_ends}
+use Rattle.dns_chain.proofs.Chaining.{chained_label, chained_pointer, chained_root}
 use Rattle.dns_chain.proofs.canonical_name.read_unchained_name.Goals as goal
 
 pub loop-buffer-init : goal.loop-buffer-init

@@ -3,9 +3,9 @@ use Rattle.std.specs.Prelude.{slice_range}
 use Rattle.std.proofs.lemmas.List.{length-take, length-drop, length-append}
 use Rattle.dns_wire.proofs.Following.{name_at_is}
 use Rattle.dns_wire.specs.Names.{name_labels}
-use Rattle.dns_name.proofs.Followed.{followed_none, followed_bad, followed_root, followed_label, followed_long, followed_pointer, nothing_follows}
+use Rattle.dns_name.proofs.Followed.{followed_none, followed_bad, followed_root, followed_label, followed_long, followed_pointer, nothing_follows, root_end, root_ends}
 use Rattle.dns_chain.specs.Chains.ChainedFrom.{at_label, at_pointer, to_pointer}
-use Rattle.dns_chain.proofs.Chaining.{chained_label, chained_pointer, chained_root, root_end, root_ends}
+use Rattle.dns_chain.proofs.Chaining.{chained_label, chained_pointer, chained_root}
 use Rattle.dns_chain.proofs.unchained.unchained_end.Goals as goal
 
 pub loop-label-init : goal.loop-label-init

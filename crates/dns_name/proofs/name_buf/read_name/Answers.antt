@@ -2,7 +2,7 @@ use Rattle.std.proofs.Common.{arith, ◌+◌, ◌-◌, ◌≡◌, drop, ◌++◌
 use Rattle.std.specs.Prelude.{unwrap_or, slice_range}
 use Rattle.std.proofs.lemmas.Result.{err_from_is_err_and}
 use Rattle.std.proofs.lemmas.List.{length-take, length-drop}
-use Rattle.dns_name.proofs.Followed.{Reads, followed_none, followed_bad, followed_root, followed_label, followed_long, followed_pointer}
+use Rattle.dns_name.proofs.Followed.{Reads, followed_none, followed_bad, followed_root, followed_label, followed_long, followed_pointer, root_end, root_ends}
 use Rattle.dns_name.proofs.CountedSteps.{counted_none, counted_label, counted_pointer, counted_root}
 use Rattle.dns_name.proofs.name_buf.read_name.Given.{Over}
 use Rattle.dns_name.proofs.name_buf.read_name.Goals as goal
@@ -23,11 +23,14 @@ found g c = followed_root _ _ _ _ _ _ c.loop-buffer.invariant.followed (rw c.in-
 pub from_buffer-name-requires-clause-name : goal.from_buffer-name-requires-clause-name
 from_buffer-name-requires-clause-name g c = rw c.copy_at.ensures.prefix (found g (goal.at.from_buffer-name-requires-clause-name g c).In-Root).whole
 
+pub unwrap-requires : goal.unwrap-requires
+unwrap-requires g c = root_ends c.loop-buffer.cursor c.next_label_type.new.self (rw c.in-Root.is at c.in_ok-next_label_type.ensures.moves)
+
 pub returns-in-Root-clause-exact : goal.returns-in-Root-clause-exact
-returns-in-Root-clause-exact g c = rw (c.unwrap_or.ensures, rw c.in-Root.is at c.in_ok-next_label_type.ensures.moves, c.from_buffer-name.ensures, c.copy_at.ensures.prefix) (found g (goal.at.returns-in-Root-clause-exact g c).In-Root).reads
+returns-in-Root-clause-exact g c = rw (root_end c.loop-buffer.cursor c.next_label_type.new.self c.unwrap.result (rw c.in-Root.is at c.in_ok-next_label_type.ensures.moves) c.unwrap.ensures, c.from_buffer-name.ensures, c.copy_at.ensures.prefix) (found g (goal.at.returns-in-Root-clause-exact g c).In-Root).reads
 
 pub returns-in-Root-clause-within : goal.returns-in-Root-clause-within
-returns-in-Root-clause-within g c = rw (c.unwrap_or.ensures, rw c.in-Root.is at c.in_ok-next_label_type.ensures.moves) (found g (goal.at.returns-in-Root-clause-within g c).In-Root).within
+returns-in-Root-clause-within g c = rw (root_end c.loop-buffer.cursor c.next_label_type.new.self c.unwrap.result (rw c.in-Root.is at c.in_ok-next_label_type.ensures.moves) c.unwrap.ensures) (found g (goal.at.returns-in-Root-clause-within g c).In-Root).within
 
 pub returns-then-size-label-ge-MAX_SIZE-clause-exact : goal.returns-then-size-label-ge-MAX_SIZE-clause-exact
 returns-then-size-label-ge-MAX_SIZE-clause-exact g c =

@@ -2,6 +2,7 @@ use Rattle.std.proofs.Common.{arith, ◌+◌, ◌-◌, ◌≡◌, drop, length, 
 use Rattle.std.specs.Prelude.{unwrap_or, slice_range}
 use Rattle.std.proofs.lemmas.Result.{err_from_is_err_and}
 use Rattle.std.proofs.lemmas.List.{length-take, length-drop}
+use Rattle.dns_name.proofs.Followed.{root_end, root_ends}
 use Rattle.dns_name.proofs.Gathered.{GatheredName, gathered_none, gathered_bad, gathered_root, gathered_label, gathered_long, gathered_pointer}
 use Rattle.dns_name.proofs.rev_name_buf.read_reversed.Goals as goal
 use Rattle.dns_name.proofs.rev_name_buf.read_reversed.Goals.{After-copy_before}
@@ -24,12 +25,15 @@ from_buffer-name-requires-clause-early c = (found (goal.at.from_buffer-name-requ
 pub from_buffer-name-requires-clause-name : goal.from_buffer-name-requires-clause-name
 from_buffer-name-requires-clause-name c = (found (goal.at.from_buffer-name-requires-clause-name c).After-copy_before).holds.whole
 
+pub unwrap-requires : goal.unwrap-requires
+unwrap-requires c = root_ends c.loop-buffer.cursor c.next_label_type.new.self (rw c.in-Root.is at c.in_ok-next_label_type.ensures.moves)
+
 pub returns-in-Root-clause-exact : goal.returns-in-Root-clause-exact
 returns-in-Root-clause-exact c =
-    let f = found (goal.at.returns-in-Root-clause-exact c).After-copy_before in rw (c.unwrap_or.ensures, rw c.in-Root.is at c.in_ok-next_label_type.ensures.moves, c.from_buffer-name.ensures, f.holds.labels_are) f.reads
+    let f = found (goal.at.returns-in-Root-clause-exact c).After-copy_before in rw (root_end c.loop-buffer.cursor c.next_label_type.new.self c.unwrap.result (rw c.in-Root.is at c.in_ok-next_label_type.ensures.moves) c.unwrap.ensures, c.from_buffer-name.ensures, f.holds.labels_are) f.reads
 
 pub returns-in-Root-clause-within : goal.returns-in-Root-clause-within
-returns-in-Root-clause-within c = rw (c.unwrap_or.ensures, rw c.in-Root.is at c.in_ok-next_label_type.ensures.moves) (found (goal.at.returns-in-Root-clause-within c).After-copy_before).within
+returns-in-Root-clause-within c = rw (root_end c.loop-buffer.cursor c.next_label_type.new.self c.unwrap.result (rw c.in-Root.is at c.in_ok-next_label_type.ensures.moves) c.unwrap.ensures) (found (goal.at.returns-in-Root-clause-within c).After-copy_before).within
 
 pub returns-then-offset-label-clause-exact : goal.returns-then-offset-label-clause-exact
 returns-then-offset-label-clause-exact c =

@@ -2,8 +2,8 @@ use Rattle.std.proofs.Common.{arith, ◌+◌, ◌-◌, ◌≡◌, ◌≤◌, dro
 use Rattle.std.specs.Prelude.{unwrap_or, slice_range}
 use Rattle.std.proofs.lemmas.Result.{err_from_is_err_and}
 use Rattle.std.proofs.lemmas.List.{length-take, length-drop}
-use Rattle.dns_name.proofs.Followed.{Reads, followed_none, followed_bad, followed_root, followed_label, followed_long, followed_pointer}
-use Rattle.dns_chain.proofs.Chaining.{leads_within, leads_back, followed_final, root_end, root_ends}
+use Rattle.dns_name.proofs.Followed.{Reads, followed_none, followed_bad, followed_root, followed_label, followed_long, followed_pointer, root_end, root_ends}
+use Rattle.dns_chain.proofs.Chaining.{leads_within, leads_back, followed_final}
 use Rattle.dns_chain.proofs.final_targets.FinalTargets.split_name.Goals as goal
 use Rattle.dns_chain.proofs.final_targets.FinalTargets.split_name.Goals.{In-Root}
 

@@ -1,0 +1,11 @@
+use Rattle.std.proofs.Common.{◌≡◌, length, take}
+use Rattle.dns_message.proofs.LowercasedFields.{ReadAndKept}
+use Rattle.dns_message.proofs.lowercase_fields.push_fields.Given as goal
+
+-- the fields so far are there
+abbrev pub invariant-loop-kind : goal.invariant-loop-kind
+invariant-loop-kind l = record {
+  items : l.items ≡ l.initial.items;
+  room : length l.buffer ≡ 255;
+  read : ReadAndKept (take l.end l.initial.items) l.start l.kinds l.initial.data.items l.kind-index l.copied l.at l.data.items;
+}
