@@ -1,6 +1,6 @@
 //! A first look at a name in a message.
 
-ghost use Rattle.std.specs.Prelude.{◌≡◌, ◌⊎◌, ◌↔◌, ℕ, IfSome, IfNone, OnSome, IsFalse};
+ghost use Rattle.std.specs.Prelude.{◌⊎◌, ◌↔◌, ℕ, IfSome, IfNone, OnSome, IsFalse};
 ghost use Rattle.dns_wire.specs.Octets.{Labels};
 ghost use Rattle.dns_wire.specs.Pointers.{NameAt};
 ghost use Rattle.dns_record.specs.Formats.{rdata_format};

@@ -1,5 +1,5 @@
 -- Options that are read one by one.
-use Rattle.std.proofs.Common.{◌≡◌, ℕ, zero, suc, ◌<◌, true, false, List, [], ◌∷◌, length, Option, Some, None, refl, sym, ap, ◌∙◌, arith}
+use Rattle.std.proofs.Common.{◌≡◌, ℕ, zero, suc, ◌<◌, true, List, [], ◌∷◌, length, Option, Some, None, refl, ap, ◌∙◌, arith}
 use Rattle.dns_wire.specs.Steps.{◌>>=◌}
 use Rattle.dns_record.specs.Options.{OptionSeen, option, options_within, options_of, are_some, is_options}
 use Rattle.dns_record.proofs.Opted.{option_shorter}

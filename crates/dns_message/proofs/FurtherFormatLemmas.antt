@@ -1,28 +1,14 @@
 -- Formats of further types: fields of few octets, and what the table of these types has.
-use Rattle.std.proofs.Common.{◌≡◌, ℕ, ◌+◌, ◌*◌, ◌<◌, ◌≤◌, ◌^◌, Bool, true, false, cond, List, [], ◌∷◌, length, Some, refl, sym, ap, subst, ◌∙◌, arith}
-use Rattle.std.specs.Prelude.{◌||◌, ◌&&◌, ◌==◌, nat_le, not, option_map, Option, None, ⊤}
+use Rattle.std.proofs.Common.{◌≡◌, ℕ, Bool, true, false, cond, List, [], ◌∷◌, Some, refl, sym, subst}
+use Rattle.std.specs.Prelude.{◌&&◌, ◌==◌, not, Option, None, ⊤}
 use Rattle.std.specs.Cmp.{first_so, second_so}
-use Rattle.std.specs.Int.{Width, w8, w16, w32, w64, w128, byte_len, to_be_bytes}
 use Rattle.std.proofs.lemmas.Bool.{eqb-true}
-use Rattle.std.proofs.lemmas.Bool.Decides.{nat_tests}
-use Rattle.std.proofs.lemmas.List.{length-append}
-use Rattle.dns_record.specs.Fields.{Field, field_octets, fields_octets}
-use Rattle.dns_record.specs.Fields.FieldOf.{Compressible, Uncompressed, Raw, Sized, Byte, Number}
-use Rattle.dns_record.specs.InPlace.{FieldAt, FieldsAt}
 use Rattle.dns_record.specs.Kinds.{Kind}
-use Rattle.dns_record.specs.Kinds.Kind.{OneByte, OneNumber, SoMany, CompressibleName, UncompressedName, CharacterString, CharacterStrings, Options, TypeBitMaps, NonEmptyTypeBitMaps, Rest}
-use Rattle.dns_record.specs.Formats.{format_under, rdata_format}
+use Rattle.dns_record.specs.Formats.{format_under}
 use Rattle.dns_record.specs.Types.{is_lowercased, opt_number}
-use Rattle.dns_record.proofs.UncompressedNames.{is_uncompressed, all_uncompressed}
-use Rattle.dns_wire.specs.Pointers.{name_at}
-use Rattle.dns_wire.specs.Reading.{all_at}
-use Rattle.dns_record.proofs.Worded.{fields_are}
-use Rattle.dns_record.specs.Kinds.{fields_in}
-use Rattle.dns_record.specs.FieldKinds.{row_of}
-use Rattle.dns_record.specs.FurtherFormats.{further_by, further_formats, kinds_or, lowercased_or}
+use Rattle.dns_record.specs.FurtherFormats.{further_by, further_formats}
 use Rattle.dns_record.proofs.Sizes.{is_measured}
 use Rattle.dns_message.proofs.JoinedFields.{all_usual}
-use Rattle.dns_record.specs.declared.field_kind.FieldKind.{FieldKind}
 use Rattle.dns_record.specs.declared.formats.Formats.{Formats}
 use Rattle.dns_record.specs.declared.formats.Formats.TheVariants.{Usual, Listed}
 

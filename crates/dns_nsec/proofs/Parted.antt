@@ -1,8 +1,7 @@
 -- Windows that are read one by one.
-use Rattle.std.proofs.Common.{◌≡◌, ℕ, zero, suc, ◌+◌, ◌<◌, ◌≤◌, true, false, List, [], ◌∷◌, length, Option, Some, None, refl, sym, ap, subst, ◌∙◌, arith}
-use Rattle.dns_wire.specs.Steps.{◌>>=◌}
+use Rattle.std.proofs.Common.{◌≡◌, ℕ, suc, ◌≤◌, true, List, [], ◌∷◌, Option, Some, None, refl, sym, ap, subst, ◌∙◌, arith}
 use Rattle.dns_record.specs.InPlace.{AreWindows, WindowsFrom}
-use Rattle.dns_record.specs.TypeBitMaps.{Window, window, windows_within, windows_of, is_some, is_bitmap, windows_octets}
+use Rattle.dns_record.specs.TypeBitMaps.{Window, window, windows_within, windows_of, is_bitmap, windows_octets}
 use Rattle.dns_record.proofs.Bitmaps.{bitmap_is, is_this_bitmap, windows_found, window_read}
 use Rattle.dns_nsec.specs.Bitmaps.{windows_or_none, windows_in}
 

@@ -1,18 +1,17 @@
 -- Strings that are read one by one, of all the octets.
-use Rattle.std.proofs.Common.{◌≡◌, ℕ, zero, suc, ◌<◌, ◌≤◌, true, false, ltb, Bool, List, [], ◌∷◌, length, Option, Some, None, refl, sym, ap, ◌∙◌, arith}
+use Rattle.std.proofs.Common.{◌≡◌, ℕ, zero, suc, ◌≤◌, true, Bool, List, [], ◌∷◌, length, Option, Some, None, refl, sym, ap, ◌∙◌, arith}
 use Rattle.std.specs.Prelude.{◌↔◌, IsTrue, map}
 use Rattle.std.specs.Cmp.Lexicographic.{pointwise, pointwise_decides, bytes_decides}
 use Rattle.std.specs.Cmp.Derive.Mapped.{pointwise-map}
 use Rattle.std.specs.Str.{str_to_ascii_lowercase}
-use Rattle.std.proofs.lemmas.Bool.{le-ltb, lt-ltb}
 use Rattle.std.proofs.lemmas.List.{length-append}
 use Rattle.dns_wire.specs.Names.{lowered}
 use Rattle.dns_record.specs.CharStrHashing.{charstr_writes}
 use Rattle.dns_record.specs.CharStrs.{charstr_wire, same_charstr}
 use Rattle.dns_record.specs.FieldOrder.{field_eq, fields_eq, fields_writes}
 use Rattle.dns_record.specs.Fields.FieldOf.{Sized}
-use Rattle.dns_record.specs.CharacterStrings.{character_string, after_string, character_strings_within, is_character_strings, is_txt_data, character_strings_octets}
-use Rattle.dns_record.proofs.Places.{text_spelled, text_read}
+use Rattle.dns_record.specs.CharacterStrings.{character_string, is_txt_data, character_strings_octets}
+use Rattle.dns_record.proofs.Places.{text_read}
 use Rattle.dns_record.proofs.TestedOctets.{text_shorter}
 use Rattle.dns_record.proofs.CharacterStringLemmas.{character_strings_are}
 use Rattle.dns_plain.specs.Strings.{then_strings, strings_within, strings_in, same_strings, strings_writes, lowered_from_same}

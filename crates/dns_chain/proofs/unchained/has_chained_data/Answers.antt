@@ -1,4 +1,4 @@
-use Rattle.std.proofs.Common.{◌≡◌, ◌≢◌, ℕ, Bool, true, List, refl, rules}
+use Rattle.std.proofs.Common.{◌≡◌, ℕ, Bool, true, List, refl, rules}
 use Rattle.std.specs.Prelude.{◌↔◌, IsFalse}
 use Rattle.dns_record.specs.Formats.{rdata_format}
 use Rattle.dns_chain.specs.Chains.{AreUnchained, IsUnchained}

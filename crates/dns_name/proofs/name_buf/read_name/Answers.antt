@@ -6,7 +6,7 @@ use Rattle.dns_name.proofs.Followed.{Reads, followed_none, followed_bad, followe
 use Rattle.dns_name.proofs.CountedSteps.{counted_none, counted_label, counted_pointer, counted_root}
 use Rattle.dns_name.proofs.name_buf.read_name.Given.{Over}
 use Rattle.dns_name.proofs.name_buf.read_name.Goals as goal
-use Rattle.dns_name.proofs.name_buf.read_name.Goals.{In-Root, In-Label}
+use Rattle.dns_name.proofs.name_buf.read_name.Goals.{In-Root}
 
 pub loop-buffer-init : goal.loop-buffer-init
 loop-buffer-init g c = record { array = refl; room = omega arith; followed = rw c.new-cursor.ensures (followed_none _ _); counted = rw c.new-cursor.ensures (counted_none _ _ _) }
