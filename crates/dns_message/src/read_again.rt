@@ -82,8 +82,8 @@ pub fn edns_records_are_well_formed<D>()
 {}
 
 /// A well formed record that was built in a message is read again where it is, whatever is written
-/// after it, as the same record when both are lowercased: except for ASCII case in its owner and in names of the nine
-/// types (RFC 1035 section 4.1.4).
+/// after it, as the same record when both are lowercased: except for ASCII case in its owner and in names of the
+/// types of `RType::uses_lowercase_canonical_form` (RFC 1035 section 4.1.4).
 pub fn built_records_are_read()
     ensures { (r : RecordValue) (contents : Octets) (places : Places) (more : Octets) → WellFormed r → FitsIn places contents →
         ReadAgain ((contents ++ (built r contents places).0) ++ more) (length contents) r (length contents + length (built r contents places).0) }

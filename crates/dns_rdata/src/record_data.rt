@@ -438,7 +438,7 @@ impl<N: CanonicalName> RecordData<'_, N> {
     }
 }
 
-/// The fields in order, names in lowercase if the type is one of the nine.
+/// The fields in order, names in lowercase for the types of `RType::uses_lowercase_canonical_form`.
 impl<N: CanonicalName> CanonicalRecordData for RecordData<'_, N> {
     ghost canonical = { λ v. canonical_octets (type_number v) (map (named_by N.name) (data_fields v)) };
 

@@ -90,7 +90,8 @@ pub extern "C" fn nelgvasti_canonical(
 }
 
 /// Writes 1 if two messages carry the same records other than OPT, and else 0. Records that are alike count once, with the least TTL, and
-/// ASCII case does not count in owners and in the names of nine types (RFC 4034 section 6.2, RFC 2181 section 5.2).
+/// ASCII case does not count in owners and in the names of nine types: NS, CNAME, SOA, PTR, MX, RP, SRV, DNAME and RRSIG (RFC 4034 section
+/// 6.2, RFC 2181 section 5.2).
 #[unsafe(no_mangle)]
 pub extern "C" fn nelgvasti_same(
     alloc: Global,
