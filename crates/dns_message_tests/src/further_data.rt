@@ -184,17 +184,6 @@ fn is_malformed(alloc: Global, number: u16, data: &[u8]) -> bool {
         && read_forms_by(alloc, builder.message().as_bytes(), Formats::Listed).is_err()
 }
 
-/// How many of the first octets of data are malformed data of their type.
-fn count_malformed(alloc: Global, number: u16, data: &[u8]) -> usize {
-    let mut count = 0;
-    for size in 0..data.len() {
-        if is_malformed(alloc, number, &data[..size]) {
-            count += 1;
-        }
-    }
-    count
-}
-
 /// SIG and NXT end in octets of any number, and so are whole after their names.
 fn ends_after(number: u16) -> usize {
     match number {
@@ -204,10 +193,20 @@ fn ends_after(number: u16) -> usize {
     }
 }
 
+/// Whether data that are cut at each octet are malformed data of their type, up to the cut after which they are whole.
+fn are_malformed_cut(alloc: Global, number: u16, data: &[u8]) -> bool {
+    let whole = data.len().saturating_sub(ends_after(number));
+    for size in 0..data.len() {
+        if is_malformed(alloc, number, &data[..size]) != (size < whole) {
+            return false;
+        }
+    }
+    true
+}
+
 #[test]
 fn further_data_cut_at_each_octet_are_malformed(rt: HostRuntime) {
     for (number, data, _) in CASES {
-        let count = count_malformed(rt.alloc(), *number, data);
-        assert!(rt; count + ends_after(*number) == data.len(), "{number}");
+        assert!(rt; are_malformed_cut(rt.alloc(), *number, data), "{number}");
     }
 }
