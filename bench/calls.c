@@ -54,11 +54,11 @@ static size_t list_of(size_t length) {
 #include <nelgvasti.h>
 
 static size_t list_of(size_t length) {
-    struct nelgvasti_place place = {0, 0, 0};
+    struct nelgvasti_item_position position = {0, 0, 0};
     static uint8_t out[ROOM];
     size_t written = 0;
     list = out;
-    if (nelgvasti_canonical(message, length, out, ROOM, &written, &place) != NELGVASTI_DONE) stop("no message");
+    if (nelgvasti_canonical(message, length, out, ROOM, &written, &position) != NELGVASTI_DONE) stop("no message");
     return written;
 }
 #endif
