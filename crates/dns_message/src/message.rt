@@ -55,6 +55,7 @@ impl<'a> Message<'a> {
     pub(crate) fn most_records(&self) -> usize
         ensures counted { result ≤ sum (drop 1 (counts_of self.now.slice.now)) }
         ensures held { FEWEST_OCTETS * result ≤ length (drop HEADER_SIZE self.now.slice.now) }
+        ensures most { (records : ℕ) → records ≤ sum (drop 1 (counts_of self.now.slice.now)) → FEWEST_OCTETS * records ≤ length (drop HEADER_SIZE self.now.slice.now) → records ≤ result }
     {
         let [_, answers, authorities, additional] = self.header().counts.as_array();
         let counted = usize::from(answers) + usize::from(authorities) + usize::from(additional);
