@@ -1,5 +1,5 @@
 #!/usr/bin/env python3
-"""Compares what ../include/nelgvasti.h declares with the sources of the library: the version, the numbers of the answers, the fields and layouts
+"""Compares what ../include/nelgvasti.h declares with the sources of the library: the version, the numbers of the answers and of the formats, the fields and layouts
 of the structures, and the parameters of the calls. It needs gcc, and no built library. README.md says more."""
 import re
 import subprocess
@@ -61,7 +61,7 @@ class Library:
     def __init__(self, folder):
         sources = {path.name: without_comments(path.read_text()) for path in folder.glob("*.rt") if path.name != "tests.rt"}
         self.version = self.constants(sources["version.rt"])["VERSION"]
-        self.answers = self.constants(sources["answers.rt"])
+        self.answers = self.constants(sources["answers.rt"]) | self.constants(sources["formats.rt"])
         text = "\n".join(sources.values())
         structures = re.findall(r"#\[repr\(C\)\]\s*(?:#\[[^\n]*\]\s*)*pub struct (\w+) \{(.*?)\}", text, re.DOTALL)
         self.structures = {name: self.fields(body) for name, body in structures}

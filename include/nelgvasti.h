@@ -19,9 +19,10 @@
  * its last item do not count. Compression pointers are followed in messages, and nowhere else.
  *
  * In canonical form a record's names are in full, and in lowercase if it is the owner, or a name in data of NS, CNAME, SOA, PTR, MX, RP, SRV,
- * DNAME or RRSIG. RFC 4034 section 6.2 has names in lowercase in data of fourteen more types, which are octets here: MD, MF, MB, MG, MR, MINFO,
- * AFSDB, RT, SIG, PX, NXT, NAPTR, KX and A6. A pointer or a capital letter in a name of theirs stays. Servers write such names, and then the
- * canonical octets and the digest of a zone are not those that a signer has.
+ * DNAME or RRSIG. RFC 4034 section 6.2 has names in lowercase in data of fourteen more types: MD, MF, MB, MG, MR, MINFO, AFSDB, RT, SIG, PX, NXT,
+ * NAPTR, KX and A6. They are octets here, in which a pointer or a capital letter of a name stays. Calls whose names end in _by take a number:
+ * with NELGVASTI_LISTED all of them but A6 have their names in full and in lowercase. That is what a signer, a validator or a zone's digest
+ * wants, since servers write such names with capital letters and pointers.
  */
 #ifndef NELGVASTI_H
 #define NELGVASTI_H
@@ -50,6 +51,12 @@ enum {
     NELGVASTI_NO_SOA = 10,    /* the messages have no SOA record of the apex */
     NELGVASTI_TOO_LARGE = 11, /* the normal form has more than 65,535 octets */
     NELGVASTI_TOO_SMALL = 20  /* the buffer has too little room; its length says how much is needed */
+};
+
+/* By which formats of RDATA a call whose name ends in _by reads messages and makes canonical forms. */
+enum {
+    NELGVASTI_USUAL = 0, /* those of the calls without this argument */
+    NELGVASTI_LISTED = 1 /* and those of MD, MF, MB, MG, MR, MINFO, AFSDB, RT, SIG, PX, NXT, NAPTR and KX (RFC 4034 section 6.2) */
 };
 
 /* Which message is refused, from 0, and which of its items is the first that can't be read: sections are 0 to 3 (question, answer, authority,
@@ -93,6 +100,16 @@ uint32_t nelgvasti_canonical_size(const uint8_t *message, size_t message_length,
                                   size_t *octets, size_t *records,
                                   struct nelgvasti_item_position *position);
 
+/* The same by formats: NELGVASTI_USUAL or NELGVASTI_LISTED. Under NELGVASTI_LISTED pointers in the names of these types are followed, except in
+ * KX (RFC 3597 section 4), and an item is refused whose data are not those of its type, or have more than 65,535 octets with names in full.
+ *
+ * DONE; USAGE: it is another number; SHORT, ITEM, MEMORY. At all but DONE the numbers are as they were.
+ */
+uint32_t nelgvasti_canonical_size_by(uint32_t formats,
+                                     const uint8_t *message, size_t message_length,
+                                     size_t *octets, size_t *records,
+                                     struct nelgvasti_item_position *position);
+
 /* Writes the canonical list of a message to `out`, and the number of its octets to `out_length`: the canonical octets of each record other than
  * OPT, one record after the other in canonical order (RFC 4034 section 6). Records that are alike except for TTL and ASCII case occur once,
  * with the least TTL (RFC 2181 section 5.2). A record says itself where it ends: an owner without pointers, type, class, TTL, the number of
@@ -113,6 +130,15 @@ uint32_t nelgvasti_canonical_size(const uint8_t *message, size_t message_length,
 uint32_t nelgvasti_canonical(const uint8_t *message, size_t message_length,
                              uint8_t *out, size_t out_capacity, size_t *out_length,
                              struct nelgvasti_item_position *position);
+
+/* The same by formats, as nelgvasti_canonical_size_by, which gives the exact size of the list.
+ *
+ * DONE; TOO_SMALL; USAGE: it is another number; SHORT, ITEM, MEMORY. What is written at each is as for nelgvasti_canonical.
+ */
+uint32_t nelgvasti_canonical_by(uint32_t formats,
+                                const uint8_t *message, size_t message_length,
+                                uint8_t *out, size_t out_capacity, size_t *out_length,
+                                struct nelgvasti_item_position *position);
 
 /* Writes 1 to `same` if two messages carry the same records other than OPT, and else 0. Order, sections, duplicates, header, RCODE and questions
  * do not count, nor does ASCII case in names that are in lowercase in canonical form. Of records that are alike except for TTL the least
@@ -159,6 +185,19 @@ uint32_t nelgvasti_zone_digest(const uint8_t *messages, size_t messages_length,
                                const uint8_t *apex, size_t apex_length,
                                struct nelgvasti_digest *digest,
                                struct nelgvasti_item_position *position);
+
+/* The same by formats, as nelgvasti_canonical_size_by. The digest under NELGVASTI_LISTED is the one to compare with a zone's ZONEMD.
+ *
+ *     uint32_t answer = nelgvasti_zone_digest_by(NELGVASTI_LISTED, both, first_length + second_length, lengths, 2, apex, sizeof apex, &digest, &position);
+ *
+ * DONE; USAGE: it is another number, or as for nelgvasti_zone_digest; NO_SOA, SHORT, ITEM, MEMORY. At all but DONE `digest` is as it was.
+ */
+uint32_t nelgvasti_zone_digest_by(uint32_t formats,
+                                  const uint8_t *messages, size_t messages_length,
+                                  const size_t *lengths, size_t lengths_count,
+                                  const uint8_t *apex, size_t apex_length,
+                                  struct nelgvasti_digest *digest,
+                                  struct nelgvasti_item_position *position);
 
 /* Writes the hash of a name in wire format for NSEC3 (RFC 5155 section 5). It takes no memory.
  *

@@ -55,7 +55,7 @@ item_alike reads others section contents at item end e agrees = by (section == 0
 
 -- ---- a message
 
-whole_of : (item : Item) (reading : Reading) (items : List Item) (end : ℕ) → with_item item reading ≡ Whole items end → (rest : List Item) × (reading ≡ Whole rest end) × (item ∷ rest ≡ items)
+pub whole_of : (item : Item) (reading : Reading) (items : List Item) (end : ℕ) → with_item item reading ≡ Whole items end → (rest : List Item) × (reading ≡ Whole rest end) × (item ∷ rest ≡ items)
 whole_of item Short items end e = absurd cc
 whole_of item (Stopped rest section index place) items end e = absurd cc
 whole_of item (Whole rest last) items end e =

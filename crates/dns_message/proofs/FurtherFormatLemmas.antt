@@ -1,4 +1,4 @@
--- Formats of further types: fields of few octets, and what the table of these types has.
+-- What the table of further types has.
 use Rattle.std.proofs.Common.{◌≡◌, ℕ, Bool, true, false, cond, List, [], ◌∷◌, Some, refl, sym, subst}
 use Rattle.std.specs.Prelude.{◌&&◌, ◌==◌, not, Option, None, ⊤}
 use Rattle.std.specs.Cmp.{first_so, second_so}
@@ -7,7 +7,6 @@ use Rattle.dns_record.specs.Kinds.{Kind}
 use Rattle.dns_record.specs.Formats.{format_under}
 use Rattle.dns_record.specs.Types.{is_lowercased, opt_number}
 use Rattle.dns_record.specs.FurtherFormats.{further_by, further_formats}
-use Rattle.dns_record.proofs.Sizes.{is_measured}
 use Rattle.dns_message.proofs.JoinedFields.{all_usual}
 use Rattle.dns_record.specs.declared.formats.Formats.{Formats}
 use Rattle.dns_record.specs.declared.formats.Formats.TheVariants.{Usual, Listed}
@@ -17,10 +16,10 @@ use Rattle.dns_record.specs.declared.formats.Formats.TheVariants.{Usual, Listed}
 -- a further type is none of the usual ones whose names are in lowercase, and not OPT
 abbrev pub Allowed : Option (List Kind) → ℕ → Type 0
 Allowed None rtype = ⊤
-Allowed (Some kinds) rtype = (is_measured kinds ≡ true) × (is_lowercased rtype ≡ false) × ((rtype == opt_number) ≡ false) × (all_usual kinds ≡ true)
+Allowed (Some kinds) rtype = (is_lowercased rtype ≡ false) × ((rtype == opt_number) ≡ false) × (all_usual kinds ≡ true)
 
 abbrev is_allowed : ℕ × List Kind → Bool
-is_allowed (rtype, kinds) = is_measured kinds && (not (is_lowercased rtype) && (not (rtype == opt_number) && all_usual kinds))
+is_allowed (rtype, kinds) = not (is_lowercased rtype) && (not (rtype == opt_number) && all_usual kinds)
 
 abbrev all_allowed : List (ℕ × List Kind) → Bool
 all_allowed [] = true
@@ -32,10 +31,8 @@ negated false e = refl
 
 allowed_first : (number : ℕ) (kinds : List Kind) → is_allowed (number, kinds) ≡ true → Allowed (Some kinds) number
 allowed_first number kinds e =
-    let later = second_so (is_measured kinds) (not (is_lowercased number) && (not (number == opt_number) && all_usual kinds)) e in
-    let last = second_so (not (is_lowercased number)) (not (number == opt_number) && all_usual kinds) later in (
-      first_so (is_measured kinds) (not (is_lowercased number) && (not (number == opt_number) && all_usual kinds)) e,
-      negated (is_lowercased number) (first_so (not (is_lowercased number)) (not (number == opt_number) && all_usual kinds) later),
+    let last = second_so (not (is_lowercased number)) (not (number == opt_number) && all_usual kinds) e in (
+      negated (is_lowercased number) (first_so (not (is_lowercased number)) (not (number == opt_number) && all_usual kinds) e),
       negated (number == opt_number) (first_so (not (number == opt_number)) (all_usual kinds) last),
       second_so (not (number == opt_number)) (all_usual kinds) last,
     )

@@ -53,3 +53,4 @@ pub mod LowercasedFields
 pub mod PlainFieldLemmas
 pub mod FurtherFormatLemmas
 pub mod FormatSameness
+pub mod EachRead

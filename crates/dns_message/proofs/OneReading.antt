@@ -1,7 +1,10 @@
 -- A message has one reading.
 use Rattle.std.proofs.Common.{◌≡◌, ℕ, ◌<◌, ◌⊎◌, inl, inr, false, List, length, drop, refl, sym, ap, ◌∙◌, Option, Some, None, ltb, [], ◌∷◌}
 use Rattle.std.proofs.lemmas.Bool.{cases_lt, le-ltb}
-use Rattle.dns_message.specs.Messages.{Item as MessageItem, RecordValue, Reading, item_at, with_item, then_read, reading_from, slots_from, counts_of, message_reading, records_among, Valid, StopsAt, BadAt, reading_by, message_by}
+use Rattle.dns_record.specs.FurtherFormats.{DataReading}
+use Rattle.dns_wire.specs.Pointers.{name_at}
+use Rattle.dns_record.specs.Data.{data_in}
+use Rattle.dns_message.specs.Messages.{Item as MessageItem, RecordValue, Reading, item_by, with_item, then_read, slots_from, counts_of, records_among, Valid, ValidBy, StopsAt, BadAt, BadBy, reading_by, message_by}
 use Rattle.dns_message.specs.Messages.Reading.{Short, Stopped, Whole}
 use Rattle.dns_message.proofs.Phrased.{short_reading}
 
@@ -37,25 +40,28 @@ with_item_long item Short e = refl
 with_item_long item (Stopped items s i p) e = absurd cc
 with_item_long item (Whole items end) e = absurd cc
 
-never_short : (c : List ℕ) (slots : List (ℕ × ℕ)) (at : ℕ) → reading_from c slots at ≡ Short → ⊥
+never_short : (reads : DataReading) (c : List ℕ) (slots : List (ℕ × ℕ)) (at : ℕ) → reading_by reads c slots at ≡ Short → ⊥
 unfolding reading_by
-never_short c [] at e = cc
-never_short c (slot ∷ slots) at e = by (item_at slot.0 c at) e (λ next h. never_short c slots next h) where
-  by : (read : Option (MessageItem × ℕ)) → then_read slot at (reading_from c slots) read ≡ Short → ((next : ℕ) → reading_from c slots next ≡ Short → ⊥) → ⊥
+never_short reads c [] at e = cc
+never_short reads c (slot ∷ slots) at e = by (item_by reads slot.0 c at) e (λ next h. never_short reads c slots next h) where
+  by : (read : Option (MessageItem × ℕ)) → then_read slot at (reading_by reads c slots) read ≡ Short → ((next : ℕ) → reading_by reads c slots next ≡ Short → ⊥) → ⊥
   by None e more = cc
-  by (Some (item, next)) e more = more next (with_item_long item (reading_from c slots next) e)
+  by (Some (item, next)) e more = more next (with_item_long item (reading_by reads c slots next) e)
 
-pub three_kinds : (m : List ℕ) → (length m < 12) ⊎ (((rs : List RecordValue) × Valid m rs) ⊎ ((s i : ℕ) × BadAt m s i))
+pub three_kinds_by : (reads : DataReading) (m : List ℕ) → (length m < 12) ⊎ (((rs : List RecordValue) × ValidBy reads m rs) ⊎ ((s i : ℕ) × BadBy reads m s i))
 unfolding message_by
-three_kinds m = elim (cases_lt (length m) 12) [
+three_kinds_by reads m = elim (cases_lt (length m) 12) [
   | inl short ↦ inl short
   | inr long ↦
       let fits : ltb (length m) 12 ≡ false = le-ltb _ _ long in
-      let same : message_reading m ≡ reading_from (drop 12 m) (slots_from 0 (counts_of m)) 0 = rw fits refl in
-      inr (by (reading_from (drop 12 m) (slots_from 0 (counts_of m)) 0) refl same)
+      let same : message_by reads m ≡ reading_by reads (drop 12 m) (slots_from 0 (counts_of m)) 0 = rw fits refl in
+      inr (by (reading_by reads (drop 12 m) (slots_from 0 (counts_of m)) 0) refl same)
 ] where
-  by : (reading : Reading) → reading_from (drop 12 m) (slots_from 0 (counts_of m)) 0 ≡ reading → message_reading m ≡ reading_from (drop 12 m) (slots_from 0 (counts_of m)) 0
-      → ((rs : List RecordValue) × Valid m rs) ⊎ ((s i : ℕ) × BadAt m s i)
-  by Short e is = absurd (never_short (drop 12 m) (slots_from 0 (counts_of m)) 0 e)
+  by : (reading : Reading) → reading_by reads (drop 12 m) (slots_from 0 (counts_of m)) 0 ≡ reading → message_by reads m ≡ reading_by reads (drop 12 m) (slots_from 0 (counts_of m)) 0
+      → ((rs : List RecordValue) × ValidBy reads m rs) ⊎ ((s i : ℕ) × BadBy reads m s i)
+  by Short e is = absurd (never_short reads (drop 12 m) (slots_from 0 (counts_of m)) 0 e)
   by (Stopped items s i p) e is = inr (s, i, (p, (items, is ∙ e)))
   by (Whole items end) e is = inl (records_among items, (items, end, is ∙ e, refl))
+
+pub three_kinds : (m : List ℕ) → (length m < 12) ⊎ (((rs : List RecordValue) × Valid m rs) ⊎ ((s i : ℕ) × BadAt m s i))
+three_kinds m = three_kinds_by (data_in name_at) m

@@ -1,6 +1,7 @@
 -- The forms of records whose canonical parts are known.
 use Rattle.std.proofs.Common.{◌≡◌, ℕ, ◌+◌, ◌<◌, ◌≤◌, ◌^◌, Bool, true, false, cond, List, [], ◌∷◌, ◌++◌, length, map, take, Some, None, append-nil, append_assoc, refl, sym, ap, subst, ◌∙◌, arith}
-use Rattle.std.specs.Prelude.{not, option_map, Option, None, ◌==◌}
+use Rattle.std.specs.Prelude.{nat_lt, not, option_map, Option, None, ◌==◌}
+use Rattle.std.proofs.lemmas.Bool.{le-ltb, lt-ltb}
 use Rattle.std.specs.Int.{w16, w32, to_be_bytes}
 use Rattle.dns_wire.specs.Names.{IsName, lowered, plain_name, wire}
 use Rattle.dns_wire.specs.Pointers.{name_at}
@@ -12,7 +13,7 @@ use Rattle.dns_record.specs.Formats.{rdata_format}
 use Rattle.dns_record.specs.Kinds.{Kind, fields_in}
 use Rattle.dns_record.specs.Records.{octets_of_parts}
 use Rattle.dns_record.specs.Types.{is_lowercased, opt_number}
-use Rattle.dns_record.proofs.Sizes.{data_short, data_short_by, lowercased_long}
+use Rattle.dns_record.proofs.Sizes.{data_short, lowercased_long}
 use Rattle.dns_rdata.proofs.FormatLemmas.{data_spelled}
 use Rattle.dns_rdata.proofs.UncompressedData.{uncompressed_unless_compressible}
 use Rattle.dns_name.specs.Order.{key}
@@ -25,7 +26,7 @@ use Rattle.dns_message.proofs.FormLemmas.{record_put}
 use Rattle.dns_record.specs.FieldKinds.{kind_of, row_of}
 use Rattle.dns_message.specs.LowercaseFields.{PutsFields}
 use Rattle.dns_record.specs.declared.field_kind.FieldKind.{FieldKind}
-use Rattle.dns_record.specs.FurtherFormats.{data_or, kinds_or, lowercased_or}
+use Rattle.dns_record.specs.FurtherFormats.{data_or, if_short, kinds_or, lowercased_or}
 use Rattle.dns_message.proofs.FurtherFormatLemmas.{Allowed}
 use Rattle.dns_message.proofs.JoinedFields.{joined_kinds, joined_puts}
 use Rattle.dns_message.specs.FormsRead.{AddsData, forms_of}
@@ -94,23 +95,26 @@ module _ (rtype : ℕ) (row : List FieldKind) (contents : List ℕ) (start : ℕ
 
   pub refused_by : (further : Option (List Kind)) → Allowed further rtype → row ≡ row_of (kinds_or further rtype) → Found false → data_or further rtype contents start ≡ None
   refused_by None allowed is none = joined_puts rtype row contents start [] false body is are none
-  refused_by (Some kinds) allowed is none = ap (option_map (map lowercased_field)) (joined_kinds kinds row contents start [] false body allowed.3 is are none)
+  refused_by (Some kinds) allowed is none = ap (λ (read : Option (List Field)). if_short (option_map (map lowercased_field) read)) (joined_kinds kinds row contents start [] false body allowed.2 is are none)
 
-  pub short_by : (further : Option (List Kind)) → Allowed further rtype → length contents < start + 2 ^ 16 → row ≡ row_of (kinds_or further rtype) → Found true → length body < 2 ^ 16
-  short_by None allowed few is put = lowercase_short rtype contents start body few (joined_puts rtype row contents start [] true body is are put)
-  short_by (Some kinds) allowed few is put =
-      let found = joined_kinds kinds row contents start [] true body allowed.3 is are put in
-      omega (arith, ap length found.2, lowercased_long found.0, data_short_by kinds contents start found.0 allowed.0 few found.1)
+  -- too many octets for their number; those of a type with a usual format never are
+  pub long_by : (further : Option (List Kind)) → Allowed further rtype → length contents < start + 2 ^ 16 → row ≡ row_of (kinds_or further rtype) → 65535 < length body → Found true → data_or further rtype contents start ≡ None
+  long_by None allowed few is long put = absurd (omega (arith, long, lowercase_short rtype contents start body few (joined_puts rtype row contents start [] true body is are put)))
+  long_by (Some kinds) allowed few is long put =
+      let found = joined_kinds kinds row contents start [] true body allowed.2 is are put in
+      let many : nat_lt 65535 (length (fields_octets (map lowercased_field found.0))) ≡ true = lt-ltb _ _ (omega (arith, long, ap length found.2)) in
+      ap (λ (read : Option (List Field)). if_short (option_map (map lowercased_field) read)) found.1 ∙ rw many refl
 
 pub added_by : (r : UnparsedValue) (row : List FieldKind) (contents : List ℕ) (start : ℕ) (body : List ℕ) (old new : List SortKey) → AreOctets contents → (further : Option (List Kind)) → Allowed further r.rtype → lowercased_or further r.rtype ≡ true
-    → row ≡ row_of (kinds_or further r.rtype) → PutsFields (all_at contents (fields_in name_at (map kind_of row) contents start)) [] true body → new ≡ old ++ part_key r body ∷ [] → AddsData old r (data_or further r.rtype contents start) (Some new)
-added_by r row contents start body old new are None allowed low is put added = lowercase_added r contents start body old new low (joined_puts r.rtype row contents start [] true body is are put) added
-added_by r row contents start body old new are (Some kinds) allowed low is put added =
-    let found = joined_kinds kinds row contents start [] true body allowed.3 is are put in
+    → row ≡ row_of (kinds_or further r.rtype) → PutsFields (all_at contents (fields_in name_at (map kind_of row) contents start)) [] true body → length body ≤ 65535 → new ≡ old ++ part_key r body ∷ [] → AddsData old r (data_or further r.rtype contents start) (Some new)
+added_by r row contents start body old new are None allowed low is put few added = lowercase_added r contents start body old new low (joined_puts r.rtype row contents start [] true body is are put) added
+added_by r row contents start body old new are (Some kinds) allowed low is put few added =
+    let found = joined_kinds kinds row contents start [] true body allowed.2 is are put in
     let content = map lowercased_field found.0 in
-    let stays : canonical_fields r.rtype content ≡ content = rw allowed.1 refl in
+    let stays : canonical_fields r.rtype content ≡ content = rw allowed.0 refl in
+    let short : nat_lt 65535 (length (fields_octets content)) ≡ false = le-ltb _ _ (omega (arith, few, ap length found.2)) in
     let octets : body ≡ fields_octets (canonical_fields r.rtype content) = found.2 ∙ ap fields_octets (sym stays) in
-    (content, ap (option_map (map lowercased_field)) found.1, key_added (with_content r content) old new (ap not allowed.2) (added ∙ ap (λ (l : List ℕ). old ++ part_key r l ∷ []) octets))
+    (content, ap (λ (read : Option (List Field)). if_short (option_map (map lowercased_field) read)) found.1 ∙ rw short refl, key_added (with_content r content) old new (ap not allowed.1) (added ∙ ap (λ (l : List ℕ). old ++ part_key r l ∷ []) octets))
 
 -- a further type has names in lowercase
 pub cased_usual : (further : Option (List Kind)) (rtype : ℕ) → lowercased_or further rtype ≡ false → (kinds_or further rtype ≡ rdata_format rtype) × (is_lowercased rtype ≡ false)

@@ -21,7 +21,7 @@ use crate::parser::MessageParser;
 use crate::plain_fields::are_fields;
 use crate::unparsed_parts::{UnparsedParts, split_unparsed_parts};
 use dns_name::Name;
-use dns_record::{Formats, RType};
+use dns_record::{Formats, MAX_DATA_SIZE, RType};
 use std::alloc::{AllocError, Global};
 use std::mem;
 
@@ -80,6 +80,9 @@ fn with_data(
     }
     data.clear();
     if !push_fields(alloc, items, name, data, kinds, end - octets.len(), end)? {
+        return Ok(None);
+    }
+    if data.len() > MAX_DATA_SIZE {
         return Ok(None);
     }
     let more = forms.with_canonical(owner.owner(), rtype, rclass, ttl, data)?;

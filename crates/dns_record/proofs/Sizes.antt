@@ -1,9 +1,8 @@
 -- The octets of data that are read, their names whole, are no more than a size can say.
-use Rattle.std.proofs.Common.{◌≡◌, ℕ, ◌+◌, ◌*◌, ◌<◌, ◌≤◌, ◌^◌, ◌⊎◌, inl, inr, Bool, true, false, cond, List, [], ◌∷◌, length, Option, Some, None, refl, sym, ap, ◌∙◌, arith}
-use Rattle.std.specs.Prelude.{◌||◌, ◌&&◌, ◌==◌, map, nat_le}
+use Rattle.std.proofs.Common.{◌≡◌, ℕ, ◌+◌, ◌*◌, ◌<◌, ◌≤◌, ◌^◌, ◌⊎◌, inl, inr, Bool, true, false, cond, List, [], ◌∷◌, length, Some, refl, sym, ap, ◌∙◌, arith}
+use Rattle.std.specs.Prelude.{◌||◌, ◌&&◌, map, nat_le}
 use Rattle.std.specs.Cmp.{first_so, second_so}
 use Rattle.std.specs.Int.{Width, w8, w16, w32, w64, w128, byte_len, to_be_bytes}
-use Rattle.std.proofs.lemmas.Bool.{eqb-true}
 use Rattle.std.proofs.lemmas.Bool.Decides.{nat_tests}
 use Rattle.std.proofs.lemmas.List.{length-append}
 use Rattle.dns_wire.proofs.Lowered.{lowered_long}
@@ -11,15 +10,14 @@ use Rattle.dns_record.specs.Data.{data_in}
 use Rattle.dns_record.specs.Fields.{Field, field_octets, fields_octets, lowercased_field, canonical_octets}
 use Rattle.dns_record.specs.Fields.FieldOf.{Compressible, Uncompressed, Raw, Sized, Byte, Number}
 use Rattle.dns_record.specs.InPlace.{FieldAt, FieldsAt, DataAt}
-use Rattle.dns_record.specs.Kinds.{Kind, fields_in}
+use Rattle.dns_record.specs.Kinds.{Kind}
 use Rattle.dns_record.specs.Kinds.Kind.{OneByte, OneNumber, SoMany, CompressibleName, UncompressedName, CharacterString, CharacterStrings, Options, TypeBitMaps, NonEmptyTypeBitMaps, Rest}
 use Rattle.dns_record.specs.Formats.{rdata_format}
 use Rattle.dns_record.specs.Types.{is_lowercased}
 use Rattle.dns_record.proofs.EachFormat.{of_each_format}
 use Rattle.dns_record.proofs.UncompressedNames.{is_uncompressed, all_uncompressed}
 use Rattle.dns_wire.specs.Pointers.{name_at}
-use Rattle.dns_wire.specs.Reading.{all_at}
-use Rattle.dns_record.proofs.Worded.{data_is, fields_are}
+use Rattle.dns_record.proofs.Worded.{data_is}
 
 -- ---- in lowercase
 
@@ -110,7 +108,7 @@ fields_small (kind ∷ kinds) contents at fields end small (field, next, others,
 
 -- ---- RDATA formats
 
-abbrev pub is_measured : List Kind → Bool
+abbrev is_measured : List Kind → Bool
 is_measured kinds = all_uncompressed kinds || (all_small kinds && nat_le (length kinds) 7)
 
 abbrev Measured : List Kind → Type 0
@@ -122,31 +120,16 @@ measured kinds e = by (all_uncompressed kinds) refl e where
   by true is e = inl is
   by false is e = let few : nat_le (length kinds) 7 ≡ true = second_so _ _ e in inr (first_so _ _ e, grind (arith, nat_tests))
 
--- fields that end with the contents are no more octets than a size can say
-fields_short : (kinds : List Kind) (contents : List ℕ) (at : ℕ) (fields : List Field) → is_measured kinds ≡ true → length contents < at + 2 ^ 16 → FieldsAt kinds contents at fields (length contents) → length (fields_octets fields) < 2 ^ 16
-fields_short kinds contents at fields e short is = elim (measured kinds e) [
-  | inl uncompressed ↦ omega (arith, short, fields_long kinds contents at fields (length contents) uncompressed is)
-  | inr small ↦ omega (arith, fields_small kinds contents at fields (length contents) small.0 is, small.1)
-]
-
-ends_there : {Y : Type 0} (contents : List ℕ) (read : Option (Y × ℕ)) (y : Y) → all_at contents read ≡ Some y → read ≡ Some (y, length contents)
-ends_there contents None y e = absurd cc
-ends_there {Y} contents (Some (found, end)) y e = by (end == length contents) refl e where
-  by : (b : Bool) → (end == length contents) ≡ b → cond {A = Option Y} b (Some found) None ≡ Some y → ◌≡◌ {A = Option (Y × ℕ)} (Some (found, end)) (Some (y, length contents))
-  by false is e = absurd cc
-  by true is e =
-      let same : found ≡ y = cc in
-      let there : end ≡ length contents = eqb-true end (length contents) is in
-      ap (λ (n : ℕ). Some (found, n)) there ∙ ap (λ (f : Y). Some (f, length contents)) same
-
-pub data_short_by : (kinds : List Kind) (contents : List ℕ) (at : ℕ) (fields : List Field) → is_measured kinds ≡ true → length contents < at + 2 ^ 16 → all_at contents (fields_in name_at kinds contents at) ≡ Some fields → length (fields_octets fields) < 2 ^ 16
-data_short_by kinds contents at fields measured short e =
-    fields_short kinds contents at fields measured short (fields_are kinds contents at fields (length contents) (ends_there contents (fields_in name_at kinds contents at) fields e))
+format_measured : (rtype : ℕ) → Measured (rdata_format rtype)
+format_measured rtype = measured (rdata_format rtype) (of_each_format is_measured refl rtype)
 
 -- ---- data
 
 pub data_short_at : (rtype : ℕ) (contents : List ℕ) (at : ℕ) (fields : List Field) → length contents < at + 2 ^ 16 → DataAt rtype contents at fields → length (fields_octets fields) < 2 ^ 16
-data_short_at rtype contents at fields short is = fields_short (rdata_format rtype) contents at fields (of_each_format is_measured refl rtype) short is
+data_short_at rtype contents at fields short is = elim (format_measured rtype) [
+  | inl uncompressed ↦ omega (arith, short, fields_long (rdata_format rtype) contents at fields (length contents) uncompressed is)
+  | inr small ↦ omega (arith, fields_small (rdata_format rtype) contents at fields (length contents) small.0 is, small.1)
+]
 
 pub data_short : (rtype : ℕ) (contents : List ℕ) (at : ℕ) (fields : List Field) → length contents < at + 2 ^ 16 → data_in name_at rtype contents at ≡ Some fields → length (fields_octets fields) < 2 ^ 16
 data_short rtype contents at fields short is = data_short_at rtype contents at fields short (data_is rtype contents at fields is)

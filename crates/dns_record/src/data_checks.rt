@@ -7,17 +7,15 @@ ghost use Rattle.dns_record.specs.TypeBitMaps.{is_bitmap, window};
 ghost use Rattle.dns_record.specs.DataChecks.{AfterOption, AfterWindow};
 
 use crate::charstr::CharStr;
+use crate::unparsed::MAX_DATA_SIZE;
 use dns_num::U16;
 use dns_wire::{SplitBytes, split_octets};
-
-/// The most octets that the size of a record can say (RFC 1035 section 3.2.1).
-const MOST_OCTETS: usize = 65_535;
 
 /// Whether the octets are one string or more, and at most 65,535.
 pub fn are_character_strings(bytes: &[u8]) -> bool
     ensures { result ≡ is_txt_data bytes.now }
 {
-    if bytes.is_empty() || bytes.len() > MOST_OCTETS {
+    if bytes.is_empty() || bytes.len() > MAX_DATA_SIZE {
         return false;
     }
     let mut rest = bytes;
@@ -50,7 +48,7 @@ fn after_option(bytes: &[u8]) -> Option<&[u8]>
 pub fn are_options(bytes: &[u8]) -> bool
     ensures { result ≡ is_option_data bytes.now }
 {
-    bytes.len() <= MOST_OCTETS && are_all_options(bytes)
+    bytes.len() <= MAX_DATA_SIZE && are_all_options(bytes)
 }
 
 /// Whether the octets are options one after another, perhaps none.

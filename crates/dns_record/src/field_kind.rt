@@ -70,7 +70,7 @@ const OPTIONS: &[FieldKind] = &[FieldKind::Options];
 const KEY: &[FieldKind] = &[FieldKind::Fixed(4), FieldKind::Rest];
 
 /// RRSIG.
-pub(crate) const SIGNATURE: &[FieldKind] = &[
+const SIGNATURE: &[FieldKind] = &[
     FieldKind::Fixed(18),
     FieldKind::UncompressedName,
     FieldKind::Rest,

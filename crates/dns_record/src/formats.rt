@@ -5,7 +5,7 @@ ghost use Rattle.dns_record.specs.FieldKinds.{row_of};
 ghost use Rattle.dns_record.specs.FurtherFormats.{further_by, kinds_by, lowercased_by};
 ghost use Rattle.dns_record.specs.ListedFormats.{IsFormat};
 
-use crate::field_kind::{EXCHANGE, FieldKind, NAME, NAMES, SIGNATURE, rdata_format};
+use crate::field_kind::{EXCHANGE, FieldKind, NAME, NAMES, rdata_format};
 use crate::rtype::RType;
 
 /// The types that have an RDATA format of their own.
@@ -13,7 +13,8 @@ use crate::rtype::RType;
 pub enum Formats {
     /// Those of this library.
     Usual,
-    /// And those whose data have names in lowercase in canonical form (RFC 4034 section 6.2).
+    /// And those whose data have names in lowercase in canonical form (RFC 4034 section 6.2). Pointers in these names are followed where
+    /// RFC 3597 section 4 has receivers do so; data that have more than 65,535 octets with their names in full are refused.
     Listed,
 }
 
@@ -24,8 +25,15 @@ const MAPPING: &[FieldKind] = &[
     FieldKind::CompressibleName,
 ];
 
+/// SIG.
+const OLD_SIGNATURE: &[FieldKind] = &[
+    FieldKind::Fixed(18),
+    FieldKind::CompressibleName,
+    FieldKind::Rest,
+];
+
 /// NXT.
-const OLD_NEXT: &[FieldKind] = &[FieldKind::UncompressedName, FieldKind::Rest];
+const OLD_NEXT: &[FieldKind] = &[FieldKind::CompressibleName, FieldKind::Rest];
 
 /// NAPTR.
 const REWRITING: &[FieldKind] = &[
@@ -33,7 +41,7 @@ const REWRITING: &[FieldKind] = &[
     FieldKind::CharacterString,
     FieldKind::CharacterString,
     FieldKind::CharacterString,
-    FieldKind::UncompressedName,
+    FieldKind::CompressibleName,
 ];
 
 /// KX.
@@ -47,7 +55,7 @@ fn further_format(rtype: RType) -> Option<&'static [FieldKind]>
         3 | 4 | 7 | 8 | 9 => Some(NAME),
         14 => Some(NAMES),
         18 | 21 => Some(EXCHANGE),
-        24 => Some(SIGNATURE),
+        24 => Some(OLD_SIGNATURE),
         26 => Some(MAPPING),
         30 => Some(OLD_NEXT),
         35 => Some(REWRITING),

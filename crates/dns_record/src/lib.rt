@@ -48,4 +48,4 @@ pub use record_data::{DataOfType, ParseRecordData, ParseRecordDataBytes};
 pub use rtype::RType;
 pub use serial::Serial;
 pub use ttl::TTL;
-pub use unparsed::UnparsedRecordData;
+pub use unparsed::{MAX_DATA_SIZE, UnparsedRecordData};

@@ -14,6 +14,9 @@ use dns_wire::{
     put,
 };
 
+/// The most octets of a record's data: their number is sent in 16 bits (RFC 1035 section 3.2.1).
+pub const MAX_DATA_SIZE: usize = 65_535;
+
 /// The data of a record as they are, whatever its type: at most 65,535 octets, which is what a record's
 /// size can say (RFC 1035 section 3.2.1). Pointers in them are octets like others.
 #[derive(Clone, Copy, Debug)]
@@ -48,7 +51,7 @@ impl<'a> ParseRecordDataBytes<'a> for UnparsedRecordData<'a> {
         bytes: &'a [u8],
         _rtype: RType,
     ) -> Result<UnparsedRecordData<'a>, ParseError> {
-        if bytes.len() > 65_535 {
+        if bytes.len() > MAX_DATA_SIZE {
             return Err(ParseError);
         }
         Ok(UnparsedRecordData { octets: bytes })

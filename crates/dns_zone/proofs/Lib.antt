@@ -1,5 +1,6 @@
 -- The crate's own lemmas.
 pub mod Lines
+pub mod MemberForms
 pub mod Members
 pub mod ReadSoFar
 pub mod SameZones

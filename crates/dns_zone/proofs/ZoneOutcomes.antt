@@ -15,15 +15,18 @@ use Rattle.dns_text.specs.declared.outcome.PrintError.{PrintError}
 use Rattle.dns_text.specs.declared.outcome.PrintError.TheVariants as print
 use Rattle.dns_name.specs.Text.{parsed_name}
 use Rattle.dns_name.specs.declared.text_error.NameParseError.{NameParseError}
-use Rattle.dns_message.specs.Messages.{RecordValue, message_reading}
+use Rattle.dns_wire.specs.Pointers.{name_at}
+use Rattle.dns_record.specs.Data.{data_in}
+use Rattle.dns_record.specs.FurtherFormats.{DataReading}
+use Rattle.dns_message.specs.Messages.{RecordValue, message_by, message_reading}
 use Rattle.dns_message.specs.Refusals.{first_refused}
 use Rattle.dns_message.specs.Same.{Same}
-use Rattle.dns_message.specs.Several.{all_records}
+use Rattle.dns_message.specs.Several.{all_records, all_records_by}
 use Rattle.dns_message.specs.declared.canon_error.CanonError.{CanonError}
 use Rattle.dns_message.specs.declared.canon_error.CanonError.TheVariants as canon
 use Rattle.dns_message.proofs.CanonicalListSameness.{canonical_list_from_same}
 use Rattle.dns_message.proofs.SeveralMessages.{first_words, none_valid, valid_none, valid_records}
-use Rattle.dns_zone.specs.Texts.{HasRecords, PrintsZone, RefusesMessage, apex_named, apex_of, first_refusal, on_first, on_messages, on_records, spelling_refusal, texts_in, zone_outcome, zone_refusal}
+use Rattle.dns_zone.specs.Texts.{HasRecords, PrintsZone, RefusesMessage, apex_named, apex_of, first_refusal, first_refusal_by, on_first, on_messages, on_messages_by, on_records, spelling_refusal, texts_in, zone_outcome, zone_refusal}
 use Rattle.dns_zone.specs.Zone.{HasSoa, has_soa, in_zone, zone_output, zone_text}
 use Rattle.dns_zone.specs.declared.refusal.Refusal.{Refusal}
 use Rattle.dns_zone.specs.declared.refusal.Refusal.TheVariants.{BadHex, Short, Item, NoSoa}
@@ -40,14 +43,14 @@ unspelled apex text error refuses = by (all_spelled (texts_in text)) error refus
   by (Some messages) (print.Refused r) h = absurd cc
 
 -- the refusal of the first message that is not valid
-pub first_refusal_of : (apex : List (List ℕ)) (messages : List (List ℕ)) (error : PrintError Refusal) → RefusesFor (first_refusal messages) error → RefusesFor (on_messages apex (Some messages)) error
-first_refusal_of apex messages (print.Refused r) is = ap (on_records apex (all_records messages)) is
-first_refusal_of apex messages print.Memory is = tt
+pub first_refusal_of : (reads : DataReading) (apex : List (List ℕ)) (messages : List (List ℕ)) (error : PrintError Refusal) → RefusesFor (first_refusal_by reads messages) error → RefusesFor (on_messages_by reads apex (Some messages)) error
+first_refusal_of reads apex messages (print.Refused r) is = ap (on_records apex (all_records_by reads messages)) is
+first_refusal_of reads apex messages print.Memory is = tt
 
 -- why valid messages are refused
-pub on_valid_records : (apex : List (List ℕ)) (messages : List (List ℕ)) (soa : Bool) → first_refused 0 (map message_reading messages) ≡ None → has_soa apex (all_records messages) ≡ soa
-    → on_messages apex (Some messages) ≡ cond soa None (Some NoSoa)
-on_valid_records apex messages soa none has = ap (λ (o : Option (ℕ × CanonError)). on_records apex (all_records messages) (on_first o)) none ∙ ap (λ (b : Bool). cond b None (Some NoSoa)) has
+pub on_valid_records : (reads : DataReading) (apex : List (List ℕ)) (messages : List (List ℕ)) (soa : Bool) → first_refused 0 (map (message_by reads) messages) ≡ None → has_soa apex (all_records_by reads messages) ≡ soa
+    → on_messages_by reads apex (Some messages) ≡ cond soa None (Some NoSoa)
+on_valid_records reads apex messages soa none has = ap (λ (o : Option (ℕ × CanonError)). on_records apex (all_records_by reads messages) (on_first o)) none ∙ ap (λ (b : Bool). cond b None (Some NoSoa)) has
 
 module _ (apex : List (List ℕ)) (text : List ℕ) (messages : List (List ℕ)) (spells : all_spelled (texts_in text) ≡ Some messages) where
   -- what messages call for, the text that spells them does
@@ -55,20 +58,20 @@ module _ (apex : List (List ℕ)) (text : List ℕ) (messages : List (List ℕ))
   spelled_refusal = ap (on_messages apex) spells
 
   pub first_error : (error : PrintError Refusal) → RefusesFor (first_refusal messages) error → RefusesFor (zone_refusal apex text) error
-  first_error error refuses = subst (λ (o : Option Refusal). RefusesFor o error) (sym spelled_refusal) (first_refusal_of apex messages error refuses)
+  first_error error refuses = subst (λ (o : Option Refusal). RefusesFor o error) (sym spelled_refusal) (first_refusal_of (data_in name_at) apex messages error refuses)
 
   pub valid_refusal : (soa : Bool) → first_refused 0 (map message_reading messages) ≡ None → has_soa apex (all_records messages) ≡ soa → zone_refusal apex text ≡ cond soa None (Some NoSoa)
-  valid_refusal soa none has = spelled_refusal ∙ on_valid_records apex messages soa none has
+  valid_refusal soa none has = spelled_refusal ∙ on_valid_records (data_in name_at) apex messages soa none has
 
   pub has_records : first_refused 0 (map message_reading messages) ≡ None → HasRecords text (all_records messages)
-  has_records none = let valid = none_valid messages 0 none in (messages, valid.0, spells, valid.1, valid_records messages valid.0 valid.1)
+  has_records none = let valid = none_valid (data_in name_at) messages 0 none in (messages, valid.0, spells, valid.1, valid_records (data_in name_at) messages valid.0 valid.1)
 
 -- ---- records
 
 -- what the text has
 spelled_records : (text : List ℕ) (rs : List RecordValue) → HasRecords text rs
     → (messages : List (List ℕ)) × (all_spelled (texts_in text) ≡ Some messages) × (first_refused 0 (map message_reading messages) ≡ None) × (rs ≡ all_records messages)
-spelled_records text rs (messages, rss, spells, valid, are) = (messages, spells, valid_none messages rss 0 valid, are ∙ sym (valid_records messages rss valid))
+spelled_records text rs (messages, rss, spells, valid, are) = (messages, spells, valid_none (data_in name_at) messages rss 0 valid, are ∙ sym (valid_records (data_in name_at) messages rss valid))
 
 pub one_records : (text : List ℕ) (rs ss : List RecordValue) → HasRecords text rs → HasRecords text ss → rs ≡ ss
 one_records text rs ss first second =
@@ -129,7 +132,7 @@ module _ (apex : List (List ℕ)) (t : List ℕ) where
 
   on_refused : (message : ℕ) (error : CanonError) (refusal : Refusal) → RefusesMessage t message error → on_first (Some (message, error)) ≡ Some refusal → zone_refusal apex t ≡ Some refusal
   on_refused message error refusal (messages, spells, first) is =
-      first_error apex t messages spells (print.Refused refusal) (ap on_first ((first_words messages message error).1 first) ∙ is)
+      first_error apex t messages spells (print.Refused refusal) (ap on_first ((first_words (data_in name_at) messages message error).1 first) ∙ is)
 
   pub called : (o : Outcome Refusal) → CallsFor apex t o → zone_outcome (Some apex) t ≡ o
   called Done (within, (rs, has, soa)) = within_limit within ∙ ap refused_or_done (on_valid true rs has ((soa_words apex rs).1 soa))
@@ -153,10 +156,10 @@ module _ (apex : List (List ℕ)) (t : List ℕ) where
 
     on_reading : length t ≤ 4194304 → (messages : List (List ℕ)) → all_spelled (texts_in t) ≡ Some messages → (o : Option (ℕ × CanonError)) → first_refused 0 (map message_reading messages) ≡ o → (o : Outcome Refusal) × CallsFor apex t o
     on_reading within messages spells None none = on_soa within (all_records messages) (has_records apex t messages spells none) (has_soa apex (all_records messages)) refl
-    on_reading within messages spells (Some (message, canon.Short)) is = (Refused (Short message), (within, (messages, spells, (first_words messages message canon.Short).0 is)))
+    on_reading within messages spells (Some (message, canon.Short)) is = (Refused (Short message), (within, (messages, spells, (first_words (data_in name_at) messages message canon.Short).0 is)))
     on_reading within messages spells (Some (message, canon.Item section index)) is =
-        (Refused (Item message section index), (within, (messages, spells, (first_words messages message (canon.Item section index)).0 is)))
-    on_reading within messages spells (Some (message, canon.Memory)) is = absurd ((first_words messages message canon.Memory).0 is).refused
+        (Refused (Item message section index), (within, (messages, spells, (first_words (data_in name_at) messages message (canon.Item section index)).0 is)))
+    on_reading within messages spells (Some (message, canon.Memory)) is = absurd ((first_words (data_in name_at) messages message canon.Memory).0 is).refused
 
     on_spelled : length t ≤ 4194304 → (o : Option (List (List ℕ))) → all_spelled (texts_in t) ≡ o → (o : Outcome Refusal) × CallsFor apex t o
     on_spelled within None nothing = (Refused BadHex, (within, nothing_among (texts_in t) nothing))

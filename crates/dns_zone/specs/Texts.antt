@@ -14,9 +14,12 @@ use Rattle.dns_text.specs.declared.outcome.Outcome.TheVariants as outcome
 use Rattle.dns_text.specs.declared.outcome.PrintError.{PrintError}
 use Rattle.dns_text.specs.declared.outcome.PrintError.TheVariants as print
 use Rattle.dns_name.specs.Text.{parsed_name}
-use Rattle.dns_message.specs.Messages.{RecordValue, message_reading}
+use Rattle.dns_wire.specs.Pointers.{name_at}
+use Rattle.dns_record.specs.Data.{data_in}
+use Rattle.dns_record.specs.FurtherFormats.{DataReading}
+use Rattle.dns_message.specs.Messages.{RecordValue, message_by}
 use Rattle.dns_message.specs.Refusals.{first_refused}
-use Rattle.dns_message.specs.Several.{AreValid, IsFirstRefused, all_records}
+use Rattle.dns_message.specs.Several.{AreValid, IsFirstRefused, all_records_by}
 use Rattle.dns_message.specs.declared.canon_error.CanonError.{CanonError}
 use Rattle.dns_message.specs.declared.canon_error.CanonError.TheVariants as canon
 use Rattle.dns_zone.specs.Zone.{has_soa, zone_text}
@@ -74,8 +77,11 @@ abbrev pub on_first : Option (ℕ × CanonError) → Option Refusal
 on_first None = None
 on_first (Some (message, error)) = message_refusal message error
 
+abbrev pub first_refusal_by : DataReading → List Octets → Option Refusal
+first_refusal_by reads messages = on_first (first_refused 0 (map (message_by reads) messages))
+
 abbrev pub first_refusal : List Octets → Option Refusal
-first_refusal messages = on_first (first_refused 0 (map message_reading messages))
+first_refusal = first_refusal_by (data_in name_at)
 
 -- if all messages are valid, they are refused exactly if they have no SOA record of the apex
 abbrev pub on_records : Labels → List RecordValue → Option Refusal → Option Refusal
@@ -83,9 +89,12 @@ on_records apex rs (Some refusal) = Some refusal
 on_records apex rs None = if has_soa apex rs then None else Some NoSoa
 
 -- texts that are no digits are refused before any message
+abbrev pub on_messages_by : DataReading → Labels → Option (List Octets) → Option Refusal
+on_messages_by reads apex None = Some BadHex
+on_messages_by reads apex (Some messages) = on_records apex (all_records_by reads messages) (first_refusal_by reads messages)
+
 abbrev pub on_messages : Labels → Option (List Octets) → Option Refusal
-on_messages apex None = Some BadHex
-on_messages apex (Some messages) = on_records apex (all_records messages) (first_refusal messages)
+on_messages = on_messages_by (data_in name_at)
 
 -- why a text is refused; `None` if the zone's digest is printed for it
 abbrev pub zone_refusal : Labels → Octets → Option Refusal

@@ -1,5 +1,5 @@
 -- Which records are the input of a zone's digest (RFC 8976 section 3.3.1), and the digest.
-use Rattle.std.specs.Prelude.{◌≡◌, ◌≢◌, ℕ, ◌==◌, ◌&&◌, ◌||◌, not, Bool, true, List, [], ◌∷◌, ◌++◌, codes, Contains, decimal, filter, length, nat_eq}
+use Rattle.std.specs.Prelude.{◌≡◌, ◌≢◌, ℕ, ◌==◌, ◌&&◌, ◌||◌, not, Bool, true, List, [], ◌∷◌, ◌++◌, codes, Contains, decimal, filter, length, nat_eq, reverse}
 use Rattle.std.specs.Cmp.Lexicographic.{pointwise}
 use Rattle.std.specs.List.{concat, ends_with, list_any, starts_with}
 use Rattle.sha2.specs.Sha512.{sha384}
@@ -9,7 +9,7 @@ use Rattle.dns_wire.specs.Names.{lowered}
 use Rattle.dns_record.specs.Fields.{Field, fields_octets}
 use Rattle.dns_message.specs.Canonical.{is_not_opt}
 use Rattle.dns_message.specs.Messages.{RecordValue}
-use Rattle.dns_message.specs.Order.{canonical_list}
+use Rattle.dns_message.specs.Order.{SortKey, canonical_list}
 
 -- ---- the numbers of types and of a class
 
@@ -71,6 +71,24 @@ is_soa_of apex r = r.rtype == soa_number && r.class == internet_number && is_ape
 -- whether one of the records is the apex's SOA
 abbrev pub has_soa : Labels → List RecordValue → Bool
 has_soa apex rs = list_any (is_soa_of apex) rs
+
+-- ---- the same of what records are compared by
+
+-- whether it is that of a ZONEMD record, or of a signature over such records
+abbrev pub is_digest_form : SortKey → Bool
+is_digest_form k = k.rtype == zonemd_number || (k.rtype == rrsig_number && starts_with nat_eq k.octets (0 ∷ zonemd_number ∷ []))
+
+-- whether the record is in the zone
+abbrev pub belongs_form : Labels → SortKey → Bool
+belongs_form apex k = k.class == internet_number && is_at_or_below apex (reverse k.owner) && not (is_apex apex (reverse k.owner) && is_digest_form k)
+
+-- whether it is the SOA record of the apex
+abbrev pub is_soa_form : Labels → SortKey → Bool
+is_soa_form apex k = k.rtype == soa_number && k.class == internet_number && is_apex apex (reverse k.owner)
+
+-- whether one of the records is the apex's SOA
+abbrev pub has_soa_form : Labels → List SortKey → Bool
+has_soa_form apex ks = list_any (is_soa_form apex) ks
 
 -- ---- the digest
 

@@ -3,20 +3,22 @@
 ghost use Rattle.std.specs.Prelude.{◌≡◌, ◌^◌, ◌<◌, true, List, Some, None, IfOk, IfErr, OnOk, length, map};
 ghost use Rattle.std.specs.List.{concat};
 ghost use Rattle.sha2.specs.Sha512.{sha384};
-ghost use Rattle.dns_message.specs.Messages.{message_reading};
+ghost use Rattle.dns_message.specs.Messages.{message_by, message_reading};
 ghost use Rattle.dns_message.specs.Order.{octets_of_key};
 ghost use Rattle.dns_message.specs.Refusals.{first_refused};
-ghost use Rattle.dns_message.specs.Several.{all_records};
+ghost use Rattle.dns_message.specs.Several.{all_records, all_records_by};
+ghost use Rattle.dns_record.specs.FurtherFormats.{data_by};
 ghost use Rattle.dns_text.specs.Outcomes.{RefusesFor};
 ghost use Rattle.dns_wire.specs.Octets.{Octets};
 ghost use Rattle.dns_zone.specs.Digests.{IsDigestOf};
-ghost use Rattle.dns_zone.specs.Texts.{on_messages};
+ghost use Rattle.dns_zone.specs.Texts.{on_messages, on_messages_by};
 ghost use Rattle.dns_zone.specs.Zone.{has_soa, members, zone_output};
 
 use crate::messages::zone_records;
 use crate::refusal::Refusal;
 use dns_message::CanonicalForm;
 use dns_name::RevNameBuf;
+use dns_record::Formats;
 use dns_text::PrintError;
 use sha2::{Digest, Sha384};
 use std::alloc::{AllocError, Global};
@@ -79,7 +81,24 @@ pub fn zone_digest(
     ensures soa { OnOk result (has_soa apex.now (all_records (map (λ m. m.items) messages.now)) ≡ true) }
     ensures refused { IfErr result (RefusesFor (on_messages apex.now (Some (map (λ m. m.items) messages.now)))) }
 {
-    let found = zone_records(alloc, messages, apex)?;
+    zone_digest_by(alloc, messages, apex, Formats::Usual)
+}
+
+/// The digest of the zone of an apex as `zone_digest`, for records that are read by these formats of RDATA. `Formats::Listed` has the types of
+/// RFC 4034 section 6.2, as signers have them.
+pub fn zone_digest_by(
+    alloc: Global,
+    messages: &[Vec<u8>],
+    apex: &RevNameBuf,
+    formats: Formats,
+) -> Result<ZoneDigest, PrintError<Refusal>>
+    requires { length messages.now < 2 ^ 32 }
+    ensures digest { IfOk result (IsDigestOf (members apex.now (all_records_by (data_by formats) (map (λ m. m.items) messages.now)))) }
+    ensures valid { OnOk result (first_refused 0 (map (message_by (data_by formats)) (map (λ m. m.items) messages.now)) ≡ None) }
+    ensures soa { OnOk result (has_soa apex.now (all_records_by (data_by formats) (map (λ m. m.items) messages.now)) ≡ true) }
+    ensures refused { IfErr result (RefusesFor (on_messages_by (data_by formats) apex.now (Some (map (λ m. m.items) messages.now)))) }
+{
+    let found = zone_records(alloc, messages, apex, formats)?;
     if !found.has_soa {
         return Err(PrintError::Refused(Refusal::NoSoa));
     }

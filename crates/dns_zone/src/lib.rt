@@ -10,7 +10,7 @@ mod refusal;
 mod status;
 
 pub use command::run_zone;
-pub use digest::{ZoneDigest, digest_of, zone_digest};
+pub use digest::{ZoneDigest, digest_of, zone_digest, zone_digest_by};
 pub use laws::{
     apex_soas, equal_statuses, equal_streams, equal_zones, limits, members_in_words, same_zones,
     words_of_zones, zone_statuses_in_words,

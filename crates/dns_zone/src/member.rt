@@ -1,15 +1,15 @@
 //! Which records are in a zone.
 
-ghost use Rattle.std.specs.Prelude.{◌≡◌};
-ghost use Rattle.dns_rdata.specs.Data.{IsDataOf};
-ghost use Rattle.dns_message.specs.Seen.{data_seen};
-ghost use Rattle.dns_zone.specs.Zone.{belongs, has_soa, is_apex, is_at_or_below, is_digest_record, is_soa_of, rrsig_number, signs_zonemd};
+ghost use Rattle.std.specs.Prelude.{◌≡◌, reverse};
+ghost use Rattle.dns_zone.specs.Zone.{belongs_form, has_soa_form, is_apex, is_at_or_below, is_digest_form, is_soa_form};
 
-use dns_message::CanonicalRecord;
-use dns_name::{NameBuf, RevNameBuf};
-use dns_rdata::RecordData;
+use dns_message::CanonicalForm;
+use dns_name::RevNameBuf;
 use dns_record::{RClass, RType};
 use dns_wire::agreement_from_start;
+
+/// The number of ZONEMD in two octets, with which the data of a signature over ZONEMD records begin (RFC 4034 section 3.1.1).
+const ZONEMD_COVERED: [u8; 2] = [0, 63];
 
 /// Whether a name is the apex or below it: its last labels are those of the apex, ignoring ASCII case. From the root on, the apex's octets
 /// are then the first of the name's.
@@ -29,46 +29,42 @@ fn is_apex(owner: &RevNameBuf, apex: &RevNameBuf) -> bool
     owner == apex
 }
 
-/// Whether data are a signature over ZONEMD records (RFC 4034 section 3.1.1).
-fn signs_zonemd(rdata: &RecordData<'_, NameBuf>) -> bool
-    requires { IsDataOf rdata.now rrsig_number }
-    ensures { result ≡ signs_zonemd (data_seen rdata.now) }
+/// The owner of a record, from the root on.
+fn owner_of(form: &CanonicalForm<'_>) -> RevNameBuf
+    ensures { result ≡ reverse form.now.owner }
 {
-    match rdata {
-        RecordData::Rrsig(signature) => signature.type_covered() == RType::ZONEMD,
-        _ => false,
-    }
+    form.owner().to_revname()
 }
 
 /// Whether a record is a ZONEMD record, or a signature over such records.
-fn is_digest_record(found: &CanonicalRecord<'_>) -> bool
-    ensures { result ≡ is_digest_record found.now }
+fn is_digest_form(form: &CanonicalForm<'_>) -> bool
+    ensures { result ≡ is_digest_form form.now }
 {
-    let rtype = found.rtype();
-    rtype == RType::ZONEMD || rtype == RType::RRSIG && signs_zonemd(found.rdata())
+    let rtype = form.rtype();
+    rtype == RType::ZONEMD || rtype == RType::RRSIG && form.data().starts_with(&ZONEMD_COVERED)
 }
 
 /// Whether a record of another type than OPT is in the zone of the apex (RFC 8976 section 3.3.1.1): of class IN, at the apex or below it,
 /// and at the apex neither a ZONEMD record nor a signature over one.
-pub(crate) fn belongs(found: &CanonicalRecord<'_>, apex: &RevNameBuf) -> bool
-    ensures { result ≡ belongs apex.now found.now }
+pub(crate) fn belongs(form: &CanonicalForm<'_>, apex: &RevNameBuf) -> bool
+    ensures { result ≡ belongs_form apex.now form.now }
 {
-    let owner = found.owner();
-    found.rclass() == RClass::IN
-        && is_at_or_below(owner, apex)
-        && !(is_apex(owner, apex) && is_digest_record(found))
+    let owner = owner_of(form);
+    form.rclass() == RClass::IN
+        && is_at_or_below(&owner, apex)
+        && !(is_apex(&owner, apex) && is_digest_form(form))
 }
 
 /// Whether a record is the SOA record of the apex.
-fn is_soa_of(found: &CanonicalRecord<'_>, apex: &RevNameBuf) -> bool
-    ensures { result ≡ is_soa_of apex.now found.now }
+fn is_soa_of(form: &CanonicalForm<'_>, apex: &RevNameBuf) -> bool
+    ensures { result ≡ is_soa_form apex.now form.now }
 {
-    found.rtype() == RType::SOA && found.rclass() == RClass::IN && is_apex(found.owner(), apex)
+    form.rtype() == RType::SOA && form.rclass() == RClass::IN && is_apex(&owner_of(form), apex)
 }
 
 /// Whether one of the records is the SOA record of the apex.
-pub(crate) fn has_soa(records: &[CanonicalRecord<'_>], apex: &RevNameBuf) -> bool
-    ensures { result ≡ has_soa apex.now records.now }
+pub(crate) fn has_soa(forms: &[CanonicalForm<'_>], apex: &RevNameBuf) -> bool
+    ensures { result ≡ has_soa_form apex.now forms.now }
 {
-    records.iter().any(|found| is_soa_of(found, apex))
+    forms.iter().any(|form| is_soa_of(form, apex))
 }

@@ -1,21 +1,23 @@
 //! The messages in a text, and what they hold of a zone.
 
-ghost use Rattle.std.specs.Prelude.{◌≡◌, ◌≤◌, ◌<◌, ◌+◌, ◌^◌, [], ◌∷◌, ◌++◌, Some, None, IfOk, IfErr, filter, length, map, vec_len};
+ghost use Rattle.std.specs.Prelude.{◌≡◌, ◌≤◌, ◌<◌, ◌+◌, ◌^◌, [], ◌∷◌, ◌++◌, ◌||◌, Some, None, IfOk, IfErr, OnOk, filter, length, map, vec_len};
 ghost use Rattle.dns_wire.specs.Hexadecimal.{Spells, SpellsNothing, spelled, trim};
 ghost use Rattle.dns_text.specs.Outcomes.{RefusesFor};
 ghost use Rattle.dns_text.specs.Spelled.{all_spelled};
 ghost use Rattle.dns_message.specs.Canonical.{is_not_opt};
-ghost use Rattle.dns_message.specs.Messages.{message_reading};
+ghost use Rattle.dns_message.specs.Messages.{message_by};
 ghost use Rattle.dns_message.specs.Order.{sort_key};
 ghost use Rattle.dns_message.specs.Refusals.{first_refused};
-ghost use Rattle.dns_message.specs.Several.{all_records};
-ghost use Rattle.dns_zone.specs.Texts.{first_refusal, message_error, spelling_refusal, texts_in};
-ghost use Rattle.dns_zone.specs.Zone.{belongs, has_soa};
+ghost use Rattle.dns_message.specs.Several.{all_records_by};
+ghost use Rattle.dns_record.specs.FurtherFormats.{data_by};
+ghost use Rattle.dns_zone.specs.Texts.{first_refusal_by, message_error, spelling_refusal, texts_in};
+ghost use Rattle.dns_zone.specs.Zone.{belongs, belongs_form, has_soa, has_soa_form};
 
 use crate::member::{belongs, has_soa};
 use crate::refusal::Refusal;
-use dns_message::{CanonError, CanonicalForms, CanonicalRecord, read_records};
+use dns_message::{CanonError, CanonicalForm, CanonicalForms, FormsReader};
 use dns_name::RevNameBuf;
+use dns_record::Formats;
 use dns_text::{HexError, PrintError, octets_of, trimmed};
 use std::alloc::{AllocError, Global};
 
@@ -72,48 +74,63 @@ pub(crate) struct ZoneRecords {
     pub(crate) has_soa: bool,
 }
 
-/// The forms, and after them those of the records that are in the zone of the apex. `AllocError` is out of memory.
-fn with_members(
-    forms: CanonicalForms,
-    records: &[CanonicalRecord<'_>],
+/// Puts the forms that are in the zone of the apex after the members. `AllocError` is out of memory.
+fn push_members(
+    members: &mut CanonicalForms,
+    forms: &[CanonicalForm<'_>],
     apex: &RevNameBuf,
-) -> Result<CanonicalForms, AllocError>
-    ensures { IfOk result (λ more. more ≡ forms ++ map sort_key (filter (belongs apex.now) records.now)) }
+) -> Result<(), AllocError>
+    ensures { OnOk result (members.new ≡ members.old ++ filter (belongs_form apex.now) forms.now) }
 {
-    let mut forms = forms;
-    for found in records {
-        if belongs(found, apex) {
-            forms = forms.with(found)?;
+    for form in forms {
+        if belongs(form, apex) {
+            members.push(form)?;
         }
     }
-    Ok(forms)
+    Ok(())
 }
 
-/// What the messages hold of the zone of the apex.
+impl ZoneRecords {
+    /// Adds what the forms of one more message hold of the zone of the apex. `AllocError` is out of memory.
+    fn add(
+        &mut self,
+        alloc: Global,
+        forms: &CanonicalForms,
+        apex: &RevNameBuf,
+    ) -> Result<(), AllocError>
+        ensures members { OnOk result (self.new.forms ≡ self.old.forms ++ filter (belongs_form apex.now) forms.now) }
+        ensures soa { OnOk result (self.new.has_soa ≡ (self.old.has_soa || has_soa_form apex.now forms.now)) }
+    {
+        let views = forms.views(alloc)?;
+        push_members(&mut self.forms, &views, apex)?;
+        self.has_soa = self.has_soa || has_soa(&views, apex);
+        Ok(())
+    }
+}
+
+/// What the messages hold of the zone of the apex, by these formats of RDATA.
 pub(crate) fn zone_records(
     alloc: Global,
     messages: &[Vec<u8>],
     apex: &RevNameBuf,
+    formats: Formats,
 ) -> Result<ZoneRecords, PrintError<Refusal>>
     requires { length messages.now < 2 ^ 32 }
-    ensures valid { IfOk result (λ _. first_refused 0 (map message_reading (map (λ m. m.items) messages.now)) ≡ None) }
-    ensures members { IfOk result (λ found. found.forms ≡ map sort_key (filter (belongs apex.now) (filter is_not_opt (all_records (map (λ m. m.items) messages.now))))) }
-    ensures soa { IfOk result (λ found. found.has_soa ≡ has_soa apex.now (filter is_not_opt (all_records (map (λ m. m.items) messages.now)))) }
-    ensures refused { IfErr result (RefusesFor (first_refusal (map (λ m. m.items) messages.now))) }
+    ensures valid { IfOk result (λ _. first_refused 0 (map (message_by (data_by formats)) (map (λ m. m.items) messages.now)) ≡ None) }
+    ensures members { IfOk result (λ found. found.forms ≡ map sort_key (filter (belongs apex.now) (filter is_not_opt (all_records_by (data_by formats) (map (λ m. m.items) messages.now))))) }
+    ensures soa { IfOk result (λ found. found.has_soa ≡ has_soa apex.now (filter is_not_opt (all_records_by (data_by formats) (map (λ m. m.items) messages.now)))) }
+    ensures refused { IfErr result (RefusesFor (first_refusal_by (data_by formats) (map (λ m. m.items) messages.now))) }
 {
-    let mut forms = CanonicalForms::new(alloc);
-    let mut soa = false;
+    let mut found = ZoneRecords {
+        forms: CanonicalForms::new(alloc),
+        has_soa: false,
+    };
+    let mut reader = FormsReader::new(alloc);
     for (number, message) in messages.iter().enumerate() {
-        match read_records(alloc, message) {
-            Ok(records) => {
-                soa = soa || has_soa(&records, apex);
-                forms = with_members(forms, &records, apex)?;
-            }
+        match reader.read_by(alloc, message, formats) {
+            Ok(forms) => found.add(alloc, forms, apex)?,
             Err(error) => return Err(refused(number as u32, error)),
         }
     }
-    Ok(ZoneRecords {
-        forms,
-        has_soa: soa,
-    })
+    Ok(found)
 }

@@ -1,15 +1,16 @@
 -- A message has few records.
-use Rattle.std.proofs.Common.{◌≡◌, ◌+◌, ◌*◌, ◌≤◌, ℕ, zero, suc, Bool, true, false, cond, List, [], ◌∷◌, ◌++◌, length, map, filter, drop, refl, ap, arith}
-use Rattle.std.specs.Prelude.{slice_index}
+use Rattle.std.proofs.Common.{◌≡◌, ◌+◌, ◌*◌, ◌≤◌, ℕ, zero, suc, Bool, true, false, cond, List, [], ◌∷◌, ◌++◌, length, map, filter, drop, refl, sym, ap, arith, Option, Some, None}
+use Rattle.std.specs.Prelude.{nat_lt, slice_index}
 use Rattle.std.specs.List.{dedup, dedup_from}
 use Rattle.std.proofs.lemmas.List.{length-append, length-map}
 use Rattle.dns_wire.specs.Reading.{AreOctets}
 use Rattle.dns_message.specs.Canonical.{canonical_wire, is_not_opt}
-use Rattle.dns_message.specs.Messages.{Item, RecordValue, Valid, counts_of, records_among, slots, slots_from}
+use Rattle.dns_record.specs.FurtherFormats.{DataReading}
+use Rattle.dns_message.specs.Messages.{Item, RecordValue, ValidBy, counted_slots, item_by, message_by, reading_by, records_among, slots, slots_from, then_read}
+use Rattle.dns_message.specs.Messages.Reading.{Short, Whole}
+use Rattle.dns_message.proofs.FormatSameness.{whole_of}
 use Rattle.dns_message.specs.Messages.Item.{QuestionItem, RecordItem}
 use Rattle.dns_message.specs.Order.{SortKey, are_alike, canonical_list, collapsed, in_order, inserted, octets_of_key, precedes}
-use Rattle.dns_message.specs.Worded.{ItemsAt}
-use Rattle.dns_message.proofs.Phrased.{read_whole}
 
 -- ---- items
 
@@ -32,9 +33,23 @@ four_long a b c d = omega (
   length-append (slots 3 0 d) [],
 )
 
-items_long : (contents : List ℕ) (places : List (ℕ × ℕ)) (at : ℕ) (items : List Item) (end : ℕ) → ItemsAt contents places at items end → length items ≡ length places
-items_long contents [] at items end is = ap length is.0
-items_long contents (place ∷ places) at items end (item, next, others, here, items-is, more) = omega (arith, ap length items-is, items_long contents places next others end more)
+items_long : (reads : DataReading) (contents : List ℕ) (places : List (ℕ × ℕ)) (at : ℕ) (items : List Item) (end : ℕ) → reading_by reads contents places at ≡ Whole items end → length items ≡ length places
+unfolding reading_by
+items_long reads contents [] at items end e = let none : [] ≡ items = cc in sym (ap length none)
+items_long reads contents (place ∷ places) at items end e = by (item_by reads place.0 contents at) e (λ next rest is. items_long reads contents places next rest end is) where
+  by : (found : Option (Item × ℕ)) → then_read place at (reading_by reads contents places) found ≡ Whole items end → ((next : ℕ) (rest : List Item) → reading_by reads contents places next ≡ Whole rest end → length rest ≡ length places)
+      → length items ≡ suc (length places)
+  by None e more = absurd cc
+  by (Some (item, next)) e more =
+      let rest = whole_of item (reading_by reads contents places next) items end e in
+      omega (arith, ap length rest.2, more next rest.0 rest.1)
+
+message_long : (reads : DataReading) (m : List ℕ) (items : List Item) (end : ℕ) → message_by reads m ≡ Whole items end → length items ≡ length (counted_slots m)
+unfolding message_by
+message_long reads m items end e = by (nat_lt (length m) 12) e where
+  by : (b : Bool) → cond b Short (reading_by reads (drop 12 m) (counted_slots m) 0) ≡ Whole items end → length items ≡ length (counted_slots m)
+  by true e = absurd cc
+  by false e = items_long reads (drop 12 m) (counted_slots m) 0 items end e
 
 among_short : (items : List Item) → length (records_among items) ≤ length items
 among_short [] = omega arith
@@ -42,16 +57,15 @@ among_short (QuestionItem q ∷ items) = omega (arith, among_short items)
 among_short (RecordItem r ∷ items) = omega (arith, among_short items)
 
 -- each of four counts is in two octets
-pub few_records : (m : List ℕ) (rs : List RecordValue) → AreOctets m → Valid m rs → length rs ≤ 262140
-few_records m rs are (items, end, is, rs-is) =
-    let read : ItemsAt (drop 12 m) (slots_from 0 (counts_of m)) 0 items end = (read_whole m items end is).read in
+few_records : (reads : DataReading) (m : List ℕ) (rs : List RecordValue) → AreOctets m → ValidBy reads m rs → length rs ≤ 262140
+few_records reads m rs are (items, end, is, rs-is) =
     let counts =
     four_long (slice_index m 4 * 256 + slice_index m 5) (slice_index m 6 * 256 + slice_index m 7) (slice_index m 8 * 256 + slice_index m 9) (slice_index m 10 * 256 + slice_index m 11) in
     omega (
       arith,
       ap length rs-is,
       among_short items,
-      items_long (drop 12 m) (slots_from 0 (counts_of m)) 0 items end read,
+      message_long reads m items end is,
       counts,
       are 4,
       are 5,
@@ -97,8 +111,8 @@ filter_short {X = X} p (x ∷ xs) = by (p x) (filter_short p xs) where
   by false more = omega (arith, more)
 
 -- so has its canonical list
-pub few_listed : (m : List ℕ) (rs : List RecordValue) (held : List SortKey) → AreOctets m → Valid m rs → map octets_of_key held ≡ canonical_list rs → length held ≤ 262140
-few_listed m rs held are valid list-is =
+pub few_listed : (reads : DataReading) (m : List ℕ) (rs : List RecordValue) (held : List SortKey) → AreOctets m → ValidBy reads m rs → map octets_of_key held ≡ canonical_list rs → length held ≤ 262140
+few_listed reads m rs held are valid list-is =
     let not_opt = filter is_not_opt rs in
     omega (
       arith,
@@ -108,5 +122,5 @@ few_listed m rs held are valid list-is =
       dedup_short are_alike (in_order not_opt),
       in_order_long not_opt,
       filter_short is_not_opt rs,
-      few_records m rs are valid,
+      few_records reads m rs are valid,
     )

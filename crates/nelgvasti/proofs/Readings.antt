@@ -1,13 +1,14 @@
 -- The answers to messages by what they are read as.
 use Rattle.std.proofs.Common.{◌≡◌, ◌<◌, ℕ, Bool, true, false, cond, List, ◌∷◌, ◌++◌, length, Option, Some, None, inl, inr, refl, sym, ap, ◌∙◌, arith}
-use Rattle.dns_message.specs.Messages.{BadAt, Reading, RecordValue, Valid, message_reading}
+use Rattle.dns_message.specs.Messages.{BadAt, Reading, RecordValue, ValidBy, message_by, message_reading}
+use Rattle.dns_record.specs.FurtherFormats.{DataReading}
 use Rattle.dns_message.specs.Messages.Reading.{Short as TooShort, Stopped, Whole}
-use Rattle.dns_message.specs.Refusals.{RefusedAs, RefusedOrMemory}
+use Rattle.dns_message.specs.Refusals.{RefusedAs, RefusedByOrMemory, RefusedOrMemory}
 use Rattle.dns_message.specs.Several.{AreValid, IsFirstRefused}
 use Rattle.dns_message.specs.declared.canon_error.CanonError.{CanonError}
 use Rattle.dns_message.specs.declared.canon_error.CanonError.TheVariants.{Short, Item, Memory}
 use Rattle.dns_message.proofs.OneReading.{three_kinds}
-use Rattle.dns_message.proofs.Phrased.{short_reading}
+use Rattle.dns_message.proofs.Phrased.{short_reading_by}
 use Rattle.dns_normal.specs.Texts.{form_refusal, reading_refusal}
 use Rattle.dns_normal.specs.declared.refusal.Refusal.{Refusal}
 use Rattle.dns_normal.specs.declared.refusal.Refusal.TheVariants as normal
@@ -19,12 +20,12 @@ use Rattle.nelgvasti.specs.Refused.{answer_of, form_answer, form_position, messa
 use Rattle.nelgvasti.specs.declared.answers.TheConstants.{SHORT, ITEM}
 use Rattle.nelgvasti.specs.declared.item_position.ItemPosition.{ItemPosition}
 
-module _ (answer : List RecordValue → ℕ) (m : List ℕ) where
-  pub valid_answer : (rs : List RecordValue) → Valid m rs → reading_answer answer (message_reading m) ≡ answer rs
+module _ (reads : DataReading) (answer : List RecordValue → ℕ) (m : List ℕ) where
+  pub valid_answer : (rs : List RecordValue) → ValidBy reads m rs → reading_answer answer (message_by reads m) ≡ answer rs
   valid_answer rs (items, end, is, rs-is) = ap (reading_answer answer) is ∙ ap answer (sym rs-is)
 
-  pub refused_answer : (error : CanonError) → RefusedOrMemory m error → AnswersOrMemory (reading_answer answer (message_reading m)) (answer_of error)
-  refused_answer Short few = inl (sym (ap (reading_answer answer) (short_reading m few)))
+  pub refused_answer : (error : CanonError) → RefusedByOrMemory reads m error → AnswersOrMemory (reading_answer answer (message_by reads m)) (answer_of error)
+  refused_answer Short few = inl (sym (ap (reading_answer answer) (short_reading_by reads m few)))
   refused_answer (Item section index) (place, (items, is)) = inl (sym (ap (reading_answer answer) is))
   refused_answer Memory none = inr refl
 

@@ -4,11 +4,12 @@ ghost use Rattle.std.specs.Prelude.{◌≡◌, ◌↔◌, IsTrue};
 
 use crate::answers::{DONE, ITEM, MEMORY, NO_SOA, SHORT, TOO_LARGE, TOO_SMALL, USAGE};
 use crate::denial::Nsec3Hash;
+use crate::formats::{LISTED, USUAL};
 use crate::item_position::ItemPosition;
 use crate::version::VERSION;
 use crate::zone::ZoneDigest;
 
-/// The numbers of the answers, which are the exit statuses of `dnscanon` and one more, and that of version 0.1.0.
+/// The numbers of the answers, which are the exit statuses of `dnscanon` and one more, that of version 0.1.0, and those of formats.
 pub fn limits()
     ensures done { DONE ≡ 0 }
     ensures short { SHORT ≡ 1 }
@@ -19,6 +20,8 @@ pub fn limits()
     ensures too_large { TOO_LARGE ≡ 11 }
     ensures too_small { TOO_SMALL ≡ 20 }
     ensures version { VERSION ≡ 256 }
+    ensures usual { USUAL ≡ 0 }
+    ensures listed { LISTED ≡ 1 }
 {}
 
 /// Positions, hashes and digests are equal exactly if they are the same.

@@ -6,7 +6,9 @@
 #![tactic(auto)]
 
 mod answers;
+mod canonical;
 mod denial;
+mod formats;
 mod item_position;
 mod laws;
 mod message;

@@ -8,7 +8,7 @@ use Rattle.dns_record.specs.FurtherFormats.{further_by}
 use Rattle.dns_message.proofs.FurtherFormatLemmas.{allowed_by}
 use Rattle.dns_message.proofs.JoinedFields.{joined_are}
 use Rattle.dns_message.proofs.Octets.{octets_up_to}
-use Rattle.dns_message.proofs.PartsAdded.{added_by, cased_in_place_by, cased_octets, cased_usual, opt_added, placed_octets, plain_added, refused_by, short_by}
+use Rattle.dns_message.proofs.PartsAdded.{added_by, cased_in_place_by, cased_octets, cased_usual, opt_added, placed_octets, plain_added, long_by, refused_by}
 use Rattle.dns_message.proofs.form_reader.with_data.Goals as goal
 
 -- ---- no name in lowercase
@@ -63,16 +63,13 @@ returns-then-not-branch-clause-adds c = λ labels has.
     refused_by rtype _ (take c.args.end c.args.items.now) _ [] (octets_up_to c.args.end c.args.items.now c.requires.octets) (further_by c.args.formats rtype) (allowed_by c.args.formats rtype) c.kinds-lowercase.ensures.kinds
     (rw (c.if-not-branch.true, c.octets-octets.ensures.octets) at c.in_ok-push_fields.ensures.put)
 
-pub with_canonical-requires-2 : goal.with_canonical-requires-2
-with_canonical-requires-2 c =
+pub returns-then-len-gt-MAX_DATA_SIZE-clause-adds : goal.returns-then-len-gt-MAX_DATA_SIZE-clause-adds
+returns-then-len-gt-MAX_DATA_SIZE-clause-adds c = λ labels has.
     let rtype = c.args.parts.now.rtype.code.value in
-    omega (
-      arith,
-      ap length c.deref.ensures.value,
-      short_by rtype _ (take c.args.end c.args.items.now) _ c.push_fields.new.data.items (octets_up_to c.args.end c.args.items.now c.requires.octets) (further_by c.args.formats rtype) (allowed_by c.args.formats rtype)
-          (omega (arith, length-take c.args.end c.args.items.now, c.octets-octets.ensures.short, ap length c.octets-octets.ensures.octets, c.requires.placed.0)) c.kinds-lowercase.ensures.kinds
-          (rw (c.if-not-branch.false, c.clear.ensures.items) at c.in_ok-push_fields.ensures.put),
-    )
+    long_by rtype _ (take c.args.end c.args.items.now) _ c.push_fields.new.data.items (octets_up_to c.args.end c.args.items.now c.requires.octets) (further_by c.args.formats rtype) (allowed_by c.args.formats rtype)
+    (omega (arith, length-take c.args.end c.args.items.now, c.octets-octets.ensures.short, ap length c.octets-octets.ensures.octets, c.requires.placed.0)) c.kinds-lowercase.ensures.kinds
+    (omega (arith, c.if-len-gt-MAX_DATA_SIZE.true, c.len.ensures))
+    (rw (c.if-not-branch.false, c.clear.ensures.items, c.octets-octets.ensures.octets) at c.in_ok-push_fields.ensures.put)
 
 pub returns-clause-adds : goal.returns-clause-adds
 returns-clause-adds c = λ labels has.
@@ -82,6 +79,6 @@ returns-clause-adds c = λ labels has.
     let owner = ap key (c.owner-2.ensures ∙ owner_labels c.args.room.now.owner labels has) ∙ lowered_key labels in
     let low = sym c.kinds-lowercase.ensures.lowercase ∙ c.if-not-lowercase.false in
     added_by (parts_value labels parts) _ (take c.args.end c.args.items.now) _ c.push_fields.new.data.items c.args.forms c.in_ok-more-2.more (octets_up_to c.args.end c.args.items.now c.requires.octets)
-    (further_by c.args.formats rtype) (allowed_by c.args.formats rtype) low c.kinds-lowercase.ensures.kinds put
+    (further_by c.args.formats rtype) (allowed_by c.args.formats rtype) low c.kinds-lowercase.ensures.kinds put (omega (arith, c.if-len-gt-MAX_DATA_SIZE.false, c.len.ensures))
     (c.in_ok-more-2.ensures
     ∙ (λ i. c.args.forms ++ record { owner = owner i; class = parts.rclass.code.value; rtype = parts.rtype.code.value; octets = c.deref.ensures.value i; ttl = parts.ttl.value.value } ∷ []))

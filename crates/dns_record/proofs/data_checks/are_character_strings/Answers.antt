@@ -2,13 +2,13 @@ use Rattle.std.proofs.Common.{arith, sym}
 use Rattle.std.proofs.lemmas.Bool.Decides.{nat_tests}
 use Rattle.dns_record.proofs.TestedOctets.{character_strings_start, character_strings_step, character_strings_bad, character_strings_done, none_read, many_read, text_shorter}
 use Rattle.dns_record.proofs.data_checks.are_character_strings.Goals as goal
-use Rattle.dns_record.proofs.data_checks.are_character_strings.Goals.{then-is_empty-via-then-is_empty, then-is_empty-via-else-is_empty+then-bytes-gt-MOST_OCTETS}
+use Rattle.dns_record.proofs.data_checks.are_character_strings.Goals.{then-is_empty-via-then-is_empty, then-is_empty-via-else-is_empty+then-bytes-gt-MAX_DATA_SIZE}
 
 pub returns-then-is_empty : goal.returns-then-is_empty
 returns-then-is_empty c =
     elim c.then-is_empty.branch [
       | then-is_empty-via-then-is_empty w ↦ sym (none_read _ (grind (arith, nat_tests, c.is_empty.ensures, w.if-is_empty)))
-      | then-is_empty-via-else-is_empty+then-bytes-gt-MOST_OCTETS w ↦ sym (many_read _ (grind (arith, nat_tests, w.if-bytes-gt-MOST_OCTETS)))
+      | then-is_empty-via-else-is_empty+then-bytes-gt-MAX_DATA_SIZE w ↦ sym (many_read _ (grind (arith, nat_tests, w.if-bytes-gt-MAX_DATA_SIZE)))
     ]
 
 pub loop-rest-init : goal.loop-rest-init

@@ -3,10 +3,10 @@ use Rattle.std.proofs.lemmas.Grind.{common_steps}
 use Rattle.dns_record.specs.Options.{is_option_data}
 use Rattle.dns_record.proofs.data_checks.are_options.Goals as goal
 
-pub returns-then-bytes-le-MOST_OCTETS : goal.returns-then-bytes-le-MOST_OCTETS
+pub returns-then-bytes-le-MAX_DATA_SIZE : goal.returns-then-bytes-le-MAX_DATA_SIZE
 unfolding is_option_data
-returns-then-bytes-le-MOST_OCTETS c = grind (arith, common_steps)
+returns-then-bytes-le-MAX_DATA_SIZE c = grind (arith, common_steps)
 
-pub returns-else-bytes-le-MOST_OCTETS : goal.returns-else-bytes-le-MOST_OCTETS
+pub returns-else-bytes-le-MAX_DATA_SIZE : goal.returns-else-bytes-le-MAX_DATA_SIZE
 unfolding is_option_data
-returns-else-bytes-le-MOST_OCTETS c = grind (arith, common_steps)
+returns-else-bytes-le-MAX_DATA_SIZE c = grind (arith, common_steps)

@@ -2,7 +2,8 @@ use Rattle.std.proofs.Common.{◌≡◌, List, filter, map, take}
 use Rattle.dns_message.specs.Canonical.{is_not_opt}
 use Rattle.dns_message.specs.Messages.{RecordValue}
 use Rattle.dns_message.specs.Order.{sort_key}
-use Rattle.dns_message.specs.Several.{AreValid, all_records}
+use Rattle.dns_message.specs.Several.{AreValidBy, all_records_by}
+use Rattle.dns_record.specs.FurtherFormats.{data_by}
 use Rattle.dns_zone.specs.Zone.{belongs, has_soa}
 use Rattle.dns_zone.proofs.messages.zone_records.Given as goal
 
@@ -10,7 +11,7 @@ use Rattle.dns_zone.proofs.messages.zone_records.Given as goal
 abbrev pub invariant-loop-number : goal.invariant-loop-number
 invariant-loop-number l = record {
   records : List (List RecordValue);
-  valid : AreValid (take l.number (map (λ m. m.items) l.messages)) records;
-  members : l.forms ≡ map sort_key (filter (belongs l.apex) (filter is_not_opt (all_records (take l.number (map (λ m. m.items) l.messages)))));
-  soa : l.soa ≡ has_soa l.apex (filter is_not_opt (all_records (take l.number (map (λ m. m.items) l.messages))));
+  valid : AreValidBy (data_by l.formats) (take l.number (map (λ m. m.items) l.messages)) records;
+  members : l.found.forms ≡ map sort_key (filter (belongs l.apex) (filter is_not_opt (all_records_by (data_by l.formats) (take l.number (map (λ m. m.items) l.messages)))));
+  soa : l.found.has_soa ≡ has_soa l.apex (filter is_not_opt (all_records_by (data_by l.formats) (take l.number (map (λ m. m.items) l.messages))));
 }

@@ -1,5 +1,7 @@
 use Rattle.std.proofs.Common.{[], ◌∷◌, arith, sym, subst}
 use Rattle.dns_canon.proofs.SortedForms.{keys_listed}
+use Rattle.dns_wire.specs.Pointers.{name_at}
+use Rattle.dns_record.specs.Data.{data_in}
 use Rattle.dns_message.specs.Messages.{message_reading}
 use Rattle.nelgvasti.specs.Calls.{AnswersOrMemory, reading_answer}
 use Rattle.nelgvasti.specs.declared.answers.TheConstants.{DONE}
@@ -14,7 +16,7 @@ pub returns-in-Err-clause-item : goal.returns-in-Err-clause-item
 returns-in-Err-clause-item c = item_refusal [] [] c.args.first.now (c.args.second.now ∷ []) tt c.in-Err.error c.refuse.result c.args.position.now c.refuse.new.self c.in-Err.ensures.refused c.refuse.ensures.answer c.refuse.ensures.position
 
 pub returns-in-Err-clause-expected : goal.returns-in-Err-clause-expected
-returns-in-Err-clause-expected c = rw c.refuse.ensures.answer (refused_answer (λ rs. reading_answer (λ ss. DONE) (message_reading c.args.second.now)) c.args.first.now c.in-Err.error c.in-Err.ensures.refused)
+returns-in-Err-clause-expected c = rw c.refuse.ensures.answer (refused_answer (data_in name_at) (λ rs. reading_answer (λ ss. DONE) (message_reading c.args.second.now)) c.args.first.now c.in-Err.error c.in-Err.ensures.refused)
 
 pub returns-in-Err-read_forms-clause-short : goal.returns-in-Err-read_forms-clause-short
 returns-in-Err-read_forms-clause-short c =
@@ -32,8 +34,8 @@ pub returns-in-Err-read_forms-clause-expected : goal.returns-in-Err-read_forms-c
 returns-in-Err-read_forms-clause-expected c =
     let read = c.in-Ok.ensures.read in
     subst (λ expected. AnswersOrMemory expected c.refuse-in-Err-read_forms.result)
-    (sym (valid_answer (λ rs. reading_answer (λ ss. DONE) (message_reading c.args.second.now)) c.args.first.now read.0 read.1))
-    (rw c.refuse-in-Err-read_forms.ensures.answer (refused_answer (λ ss. DONE) c.args.second.now c.in-Err-read_forms.error c.in-Err-read_forms.ensures.refused))
+    (sym (valid_answer (data_in name_at) (λ rs. reading_answer (λ ss. DONE) (message_reading c.args.second.now)) c.args.first.now read.0 read.1))
+    (rw c.refuse-in-Err-read_forms.ensures.answer (refused_answer (data_in name_at) (λ ss. DONE) c.args.second.now c.in-Err-read_forms.error c.in-Err-read_forms.ensures.refused))
 
 pub returns-clause-done : goal.returns-clause-done
 returns-clause-done c = λ _.
