@@ -16,9 +16,12 @@ whole_same e = (cc, cc)
 stopped_same : {xs ys : List MessageItem} {s i p t j q : ℕ} → Stopped xs s i p ≡ Stopped ys t j q → (s ≡ t) × (i ≡ j) × (p ≡ q)
 stopped_same e = (cc, cc, cc)
 
-pub valid_one : (m : List ℕ) (rs ss : List RecordValue) → Valid m rs → Valid m ss → rs ≡ ss
-valid_one m rs ss (items, end, is, rs-is) (others, other, js, ss-is) =
+pub valid_one_by : (reads : DataReading) (m : List ℕ) (rs ss : List RecordValue) → ValidBy reads m rs → ValidBy reads m ss → rs ≡ ss
+valid_one_by reads m rs ss (items, end, is, rs-is) (others, other, js, ss-is) =
     rs-is ∙ ap records_among (whole_same (sym is ∙ js)).0 ∙ sym ss-is
+
+pub valid_one : (m : List ℕ) (rs ss : List RecordValue) → Valid m rs → Valid m ss → rs ≡ ss
+valid_one = valid_one_by (data_in name_at)
 
 pub stops_one : (m : List ℕ) (s i p t j q : ℕ) → StopsAt m s i p → StopsAt m t j q → (s ≡ t) × (i ≡ j) × (p ≡ q)
 stops_one m s i p t j q (items, is) (others, js) = stopped_same (sym is ∙ js)

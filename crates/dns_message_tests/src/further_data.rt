@@ -6,7 +6,7 @@ use dns_message::{CanonicalForms, HeaderFlags, MessageBuilder, read_forms, read_
 use dns_num::U16;
 use dns_record::Formats;
 use dns_wire::NameCompressor;
-use std::alloc::Global;
+use std::alloc::{AllocError, Global};
 
 /// The owner of the record.
 const OWNER: &[u8] = b"\x04Host\x07Example\x03ORG\0";
@@ -97,7 +97,7 @@ const CASES: &[Case] = &[
 ];
 
 /// Names that are a pointer to the owner, or a label and a pointer to what follows the owner's first label. BIND writes MINFO so, NSD MB, MG,
-/// MR and MINFO, and Knot MINFO.
+/// MR and MINFO, and Knot MINFO; RFC 3597 section 4 has receivers follow pointers in the others.
 const COMPRESSED: &[Case] = &[
     (3, b"\xc0\x0c", b"\x04host\x07example\x03org\0"),
     (4, b"\xc0\x0c", b"\x04host\x07example\x03org\0"),
@@ -112,11 +112,32 @@ const COMPRESSED: &[Case] = &[
     (18, b"\0\x01\xc0\x0c", b"\0\x01\x04host\x07example\x03org\0"),
     (21, b"\0\x0a\xc0\x0c", b"\0\x0a\x04host\x07example\x03org\0"),
     (
+        24,
+        b"\0\x01\x08\x02\0\0\x0e\x10v\x80\xc4\x80c\xb0\xcd\009\xc0\x11\x01\x02\x03",
+        b"\0\x01\x08\x02\0\0\x0e\x10v\x80\xc4\x80c\xb0\xcd\009\x07example\x03org\0\x01\x02\x03",
+    ),
+    (
         26,
         b"\0\x32\x01A\xc0\x11\xc0\x0c",
         b"\0\x32\x01a\x07example\x03org\0\x04host\x07example\x03org\0",
     ),
+    (
+        30,
+        b"\x01A\xc0\x11`\0\0\x01",
+        b"\x01a\x07example\x03org\0`\0\0\x01",
+    ),
+    (
+        35,
+        b"\0d\02\x01S\x07SIP+D2U\x10!^Sip:(.*)$!Sip!\x04_Sip\xc0\x11",
+        b"\0d\02\x01S\x07SIP+D2U\x10!^Sip:(.*)$!Sip!\x04_sip\x07example\x03org\0",
+    ),
 ];
+
+/// KX with a pointer to the owner, which RFC 3597 section 4 does not have receivers follow.
+const COMPRESSED_KX: &[u8] = b"\0\x0a\xc0\x0c";
+
+/// SIG data up to the signature, with a pointer to the owner for a signer.
+const SIGNED: &[u8] = b"\0\x01\x08\x02\0\0\x0e\x10v\x80\xc4\x80c\xb0\xcd\009\xc0\x0c";
 
 /// Whether there is one form, with these data after the owner and ten octets.
 fn has_data(alloc: Global, forms: &CanonicalForms, wanted: &[u8]) -> bool {
@@ -182,6 +203,41 @@ fn is_malformed(alloc: Global, number: u16, data: &[u8]) -> bool {
     let mut builder = MessageBuilder::new(&mut buffer, &mut names, U16::new(0), flags);
     is_pushed(&mut builder, ('a', OWNER, number, 60, data))
         && read_forms_by(alloc, builder.message().as_bytes(), Formats::Listed).is_err()
+}
+
+#[test]
+fn pointers_are_refused_in_kx(rt: HostRuntime) {
+    assert!(rt; is_malformed(rt.alloc(), 36, COMPRESSED_KX));
+}
+
+/// SIG data with a signature of that many octets.
+fn signed_data(alloc: Global, size: usize) -> Result<Vec<u8>, AllocError> {
+    let mut data = Vec::from_slice(alloc, SIGNED)?;
+    data.resize(SIGNED.len() + size, 7)?;
+    Ok(data)
+}
+
+/// Whether a SIG record with a signature of that many octets is refused by the listed formats; none is by the usual ones.
+fn is_too_long(alloc: Global, size: usize) -> Result<bool, AllocError> {
+    let data = signed_data(alloc, size)?;
+    let mut buffer = vec![in alloc; 0; 65_600]?;
+    let mut names = NameCompressor::new();
+    let flags = HeaderFlags::default();
+    let mut builder = MessageBuilder::new(&mut buffer, &mut names, U16::new(0), flags);
+    let pushed = is_pushed(&mut builder, ('a', OWNER, 24, 60, &data));
+    let message = builder.message().as_bytes();
+    Ok(
+        pushed
+            && read_forms(alloc, message).is_ok()
+            && read_forms_by(alloc, message, Formats::Listed).is_err(),
+    )
+}
+
+#[test]
+fn data_of_more_octets_than_a_size_says_are_refused(rt: HostRuntime) {
+    // 18 octets, a signer of 18 in full, and 65,499 of a signature are 65,535.
+    assert!(rt; matches!(is_too_long(rt.alloc(), 65_499), Ok(false)));
+    assert!(rt; matches!(is_too_long(rt.alloc(), 65_500), Ok(true)));
 }
 
 /// SIG and NXT end in octets of any number, and so are whole after their names.
