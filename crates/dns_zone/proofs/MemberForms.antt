@@ -1,9 +1,9 @@
 -- The tests of membership, of what records are compared by.
-use Rattle.std.proofs.Common.{◌≡◌, ◌==◌, ◌&&◌, ◌||◌, ℕ, Bool, true, false, cond, List, [], ◌∷◌, ◌++◌, filter, map, take, reverse, refl, sym, ap, ap₂, ◌∙◌}
+use Rattle.std.proofs.Common.{◌≡◌, ◌==◌, ◌&&◌, ◌||◌, ℕ, Bool, true, false, cond, List, [], ◌∷◌, ◌++◌, filter, map, reverse, refl, sym, ap, ap₂, ◌∙◌}
 use Rattle.std.specs.Prelude.{nat_eq, not, Some}
 use Rattle.std.specs.Cmp.Lexicographic.{pointwise}
 use Rattle.std.specs.Int.{w16, to_be_bytes}
-use Rattle.std.specs.List.{All, AllByRecursion, ends_with, starts_with}
+use Rattle.std.specs.List.{AllByRecursion, ends_with, starts_with}
 use Rattle.std.proofs.lemmas.Bool.{eqb-true}
 use Rattle.std.proofs.lemmas.List.{reverse-reverse, take_at}
 use Rattle.std.proofs.lemmas.List.Elements.{All-filter, All-from_recursion, recursion_from_All}
@@ -20,7 +20,7 @@ use Rattle.dns_record.proofs.Worded.{data_is}
 use Rattle.dns_name.specs.Order.{key}
 use Rattle.dns_message.specs.Canonical.{is_not_opt}
 use Rattle.dns_message.specs.Messages.{RecordValue, ValidBy}
-use Rattle.dns_message.specs.Order.{SortKey, sort_key}
+use Rattle.dns_message.specs.Order.{sort_key}
 use Rattle.dns_message.proofs.EachRead.{IsReadBy, each_read}
 use Rattle.dns_message.proofs.Whole.{lowered_twice}
 use Rattle.dns_zone.specs.Zone.{belongs, belongs_form, has_soa, has_soa_form, is_apex, is_at_or_below, is_digest_form, is_digest_record, is_soa_form, is_soa_of, labels_eq, signs_zonemd}
@@ -70,11 +70,11 @@ begins_same n rest others = ap (pointwise nat_eq (0 ∷ 63 ∷ [])) (take_at (to
 
 signs_same : (r : RecordValue) → CoversType r → r.rtype ≡ 46 → starts_with nat_eq (sort_key r).octets (0 ∷ 63 ∷ []) ≡ signs_zonemd r.content
 signs_same r covers is =
-    let data = covers is in
-    let canonical : canonical_fields r.rtype r.content ≡ Number w16 data.0 ∷ map lowercased_field data.1 = ap₂ (λ (n : ℕ) (l : List Field). canonical_fields n l) is data.2 in
+    let found = covers is in
+    let canonical : canonical_fields r.rtype r.content ≡ Number w16 found.0 ∷ map lowercased_field found.1 = ap₂ (λ (n : ℕ) (l : List Field). canonical_fields n l) is found.2 in
     ap (λ (l : List Field). starts_with nat_eq (fields_octets l) (0 ∷ 63 ∷ [])) canonical
-    ∙ begins_same data.0 (fields_octets (map lowercased_field data.1)) (fields_octets data.1)
-    ∙ ap (λ (l : List Field). signs_zonemd l) (sym data.2)
+    ∙ begins_same found.0 (fields_octets (map lowercased_field found.1)) (fields_octets found.1)
+    ∙ ap (λ (l : List Field). signs_zonemd l) (sym found.2)
 
 digest_same : (r : RecordValue) → CoversType r → is_digest_form (sort_key r) ≡ is_digest_record r
 digest_same r covers = by (r.rtype == 46) refl where

@@ -55,7 +55,7 @@ soa_more apex records more all forms old all-is forms-are old-is =
 pub refuses_next : (reads : DataReading) (messages before after : List (List ℕ)) (m : List ℕ) (rss : List (List RecordValue)) (n : ℕ) (error : CanonError) → messages ≡ before ++ m ∷ after → length before ≡ n → AreValidBy reads before rss → RefusedByOrMemory reads m error
     → RefusesFor (first_refusal_by reads messages) (message_error n error)
 refuses_next reads messages before after m rss n error is place valid refused = by error refused where
-  first : (e : CanonError) → RefusedBy reads m e → first_refused 0 (map message_by reads messages) ≡ Some (n, e)
+  first : (e : CanonError) → RefusedBy reads m e → first_refused 0 (map (message_by reads) messages) ≡ Some (n, e)
   first e why =
       ap (λ (l : List (List ℕ)). first_refused 0 (map (message_by reads) l)) is ∙ valid_before reads before (m ∷ after) rss 0 valid ∙ refused_reading reads m (map (message_by reads) after) e (0 + length before) why
       ∙ ap (λ (k : ℕ). Some (k, e)) (omega (arith, place))

@@ -1,10 +1,10 @@
 -- Members one after another.
-use Rattle.std.proofs.Common.{◌≡◌, ◌<◌, ◌≤◌, ◌+◌, ℕ, List, [], ◌∷◌, ◌++◌, codes, length, map, flat_map, take, take_all, drop, get_or, filter, sym, ap, ◌∙◌, arith, append-nil}
+use Rattle.std.proofs.Common.{◌≡◌, ◌<◌, ◌≤◌, ◌+◌, ℕ, List, [], ◌∷◌, ◌++◌, codes, length, map, flat_map, take, take_all, get_or, filter, sym, ap, ◌∙◌, arith, append-nil}
 use Rattle.std.specs.Prelude.{decimal}
 use Rattle.std.specs.List.{concat}
 use Rattle.sha2.specs.Sha512.{sha384}
 use Rattle.dns_wire.specs.Hexadecimal.{shown}
-use Rattle.std.proofs.lemmas.List.{length-append, map-append, take_at, take_more}
+use Rattle.std.proofs.lemmas.List.{length-append, map-append, take_more}
 use Rattle.std.proofs.lemmas.List.Folds.{concat-append}
 use Rattle.dns_message.specs.Canonical.{canonical_wire, is_not_opt}
 use Rattle.dns_message.specs.Messages.{RecordValue}

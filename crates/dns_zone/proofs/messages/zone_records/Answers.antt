@@ -1,7 +1,7 @@
-use Rattle.std.proofs.Common.{◌≡◌, ◌+◌, ◌∙◌, ◌∷◌, ◌++◌, [], Bool, ◌||◌, List, ℕ, ap, arith, refl, drop, filter, map, subst, suc, sym, take}
+use Rattle.std.proofs.Common.{◌≡◌, ◌+◌, ◌∙◌, ◌∷◌, ◌++◌, [], List, ℕ, ap, arith, refl, drop, filter, map, subst, suc, sym, take}
 use Rattle.std.proofs.lemmas.List.{length-map, length-take-le}
 use Rattle.dns_message.specs.Canonical.{is_not_opt}
-use Rattle.dns_message.specs.Messages.{RecordValue, ValidBy}
+use Rattle.dns_message.specs.Messages.{ValidBy}
 use Rattle.dns_message.specs.Order.{sort_key}
 use Rattle.dns_message.specs.Refusals.{RefusedByOrMemory}
 use Rattle.dns_message.specs.Several.{AreValidBy, all_records_by}
@@ -15,7 +15,7 @@ use Rattle.dns_zone.proofs.ReadSoFar.{all_taken, kept_more, members_more, next_t
 use Rattle.dns_zone.proofs.messages.zone_records.Goals as goal
 
 pub loop-number-init : goal.loop-number-init
-loop-number-init c = record { records = []; valid = tt; members = c.new-forms.ensures; soa = refl }
+loop-number-init c = record { records = []; valid = tt; members = c.new.ensures; soa = refl }
 
 pub loop-number-preserved : goal.loop-number-preserved
 loop-number-preserved c =
@@ -34,8 +34,8 @@ loop-number-preserved c =
     record {
       records = rss;
       valid = subst (λ (l : List (List ℕ)). AreValidBy reads l rss) (sym next) (valid_more reads (take n ms) c.loop-number.invariant.records m.items read.0 c.loop-number.invariant.valid valid);
-      members = members_more apex (filter is_not_opt (all_records_by reads (take n ms))) others _ _ _ _ all (read_cover_types c.args.formats m.items read.0 valid) read.2 c.loop-number.invariant.members c.in_ok-add.ensures.members;
-      soa = c.in_ok-add.ensures.soa ∙ soa_more apex (filter is_not_opt (all_records_by reads (take n ms))) others _ _ _ all read.2 c.loop-number.invariant.soa;
+      members = members_more apex (filter is_not_opt (all_records_by reads (take n ms))) others _ _ _ _ all (read_cover_types c.args.formats m.items read.0 valid) read.2 c.loop-number.invariant.members c.in_ok-add-in-Ok.ensures.members;
+      soa = c.in_ok-add-in-Ok.ensures.soa ∙ soa_more apex (filter is_not_opt (all_records_by reads (take n ms))) others _ _ _ all read.2 c.loop-number.invariant.soa;
     }
 
 pub returns-in-Err-clause-refused : goal.returns-in-Err-clause-refused
