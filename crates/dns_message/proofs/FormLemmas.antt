@@ -1,5 +1,5 @@
 -- Canonical forms of records, one after another.
-use Rattle.std.proofs.Common.{◌≡◌, ℕ, zero, suc, ◌+◌, ◌<◌, ◌≤◌, List, [], ◌∷◌, ◌++◌, Option, length, map, take, drop, take_all, flat_map, get_or, append-nil, refl, sym, ap, ap₂, subst, ◌∙◌, arith}
+use Rattle.std.proofs.Common.{◌≡◌, ℕ, zero, suc, ◌+◌, ◌<◌, ◌≤◌, ◌^◌, List, [], ◌∷◌, ◌++◌, Option, Some, None, length, map, take, drop, take_all, flat_map, get_or, append-nil, refl, sym, ap, ap₂, subst, ◌∙◌, arith}
 use Rattle.std.specs.Prelude.{reverse, unwrap_or}
 use Rattle.std.specs.Cmp.Lexicographic.{slice_cmp}
 use Rattle.std.specs.Int.{w16, w32, to_be_bytes}
@@ -7,15 +7,16 @@ use Rattle.std.specs.List.Sorted.{IsPermutation, IsSorted}
 use Rattle.std.specs.Ordering.{is_lt, nat_cmp}
 use Rattle.std.specs.Str.{str_to_ascii_lowercase}
 use Rattle.std.proofs.lemmas.Grind.{flat_map-append}
-use Rattle.std.proofs.lemmas.List.{get_or_default, get_or-map, length-append, length-drop, length-map, take_more, take-append-le, drop-append-le, drop-drop, map-append, map-id, reverse-reverse}
+use Rattle.std.proofs.lemmas.List.{get_or_default, get_or-map, length-append, length-drop, length-map, take_more, take-append-le, drop-append-le, drop-drop, map-append, map-id, reverse-reverse, take_at}
 use Rattle.std.proofs.lemmas.List.Concat.{flat_map-cons}
 use Rattle.std.proofs.lemmas.List.Elements.{All-push}
 use Rattle.std.proofs.lemmas.List.Sorted.{ranks_by, sorted_far}
-use Rattle.dns_wire.specs.Names.{lowered, wire, IsName}
+use Rattle.dns_wire.specs.Names.{lowered, name_labels, plain_name, wire, IsName}
+use Rattle.dns_wire.specs.Reading.{all_of}
 use Rattle.dns_wire.proofs.Backward.{lowered-reverse}
 use Rattle.dns_wire.proofs.Lowered.{name_lowered}
-use Rattle.dns_wire.proofs.Spelled.{plain_name_again}
-use Rattle.dns_name.specs.Order.{key_cmp}
+use Rattle.dns_wire.proofs.Spelled.{labels_of_wire, plain_name_again, plain_name_takes}
+use Rattle.dns_name.specs.Order.{key, key_cmp, key_of}
 use Rattle.dns_message.specs.Canonical.{canonical_wire}
 use Rattle.dns_message.specs.Forms.{form_owner_key, form_of_parts, form_in, IsForm, span_of, forms_in, AreForms}
 use Rattle.dns_message.specs.Messages.{RecordValue}
@@ -50,11 +51,12 @@ pub form_back : (r : RecordValue) → IsName r.owner → form_in (canonical_wire
 form_back r is = ap (λ (o : Option (List (List ℕ) × List ℕ)). form_of_parts r.class r.rtype r.ttl (unwrap_or o ([], [])))
     (plain_name_again (canonical_wire r) (lowered r.owner) _ (name_lowered r.owner is) refl)
 
-pub is_form : (r : RecordValue) → IsName r.owner → length (canonical_wire r) ≤ 65800 → IsForm (sort_key r)
-is_form r is short = (
+pub is_form : (r : RecordValue) → IsName r.owner → length (canonical_wire r) ≤ 65800 → length (sort_key r).octets < 2 ^ 16 → IsForm (sort_key r)
+is_form r is short few = (
   lowered-reverse (lowered r.owner) ∙ ap reverse (lowered_twice r.owner),
   omega (arith, ap length (key_canonical_wire r), short),
   ap (λ (l : List ℕ). form_in l r.class r.rtype r.ttl) (key_canonical_wire r) ∙ form_back r is,
+  few,
 )
 
 -- ---- one after another
@@ -109,13 +111,22 @@ module _ (keys octets : List ℕ) (spans : List FormSpan) (k : SortKey) (so : Ar
         All-push IsForm ks k so.3 is,
       )
 
+-- what was put after others for a form
+pub form_put : (k : SortKey) (keys octets : List ℕ) (spans : List FormSpan) (more_keys more_octets : List ℕ) (more_spans : List FormSpan) → AreForms (forms_in spans octets) keys octets spans → IsForm k
+    → more_keys ≡ keys ++ form_owner_key k → more_octets ≡ octets ++ octets_of_key k → more_spans ≡ spans ++ span_of k ∷ []
+    → (forms_in more_spans more_octets ≡ forms_in spans octets ++ k ∷ []) × AreForms (forms_in more_spans more_octets) more_keys more_octets more_spans
+form_put k keys octets spans more_keys more_octets more_spans so is keys-is octets-is spans-is = (
+  (λ i. forms_in (spans-is i) (octets-is i)) ∙ more_forms keys octets spans k so is,
+  rw (keys-is, octets-is, spans-is) (more_are_forms keys octets spans k so is),
+)
+
 -- what was put after others for a record
 pub record_put : (r : RecordValue) (keys octets : List ℕ) (spans : List FormSpan) (more_keys more_octets : List ℕ) (more_spans : List FormSpan) (s : FormSpan)
-    → AreForms (forms_in spans octets) keys octets spans → IsName r.owner → length (canonical_wire r) ≤ 65800
+    → AreForms (forms_in spans octets) keys octets spans → IsName r.owner → length (canonical_wire r) ≤ 65800 → length (sort_key r).octets < 2 ^ 16
     → more_keys ≡ keys ++ owner_key r.owner → more_octets ≡ octets ++ canonical_wire r → more_spans ≡ spans ++ s ∷ []
     → s.owner_size ≡ length (wire r.owner) → s.size ≡ length (canonical_wire r) → s.class ≡ r.class → s.rtype ≡ r.rtype → s.ttl ≡ r.ttl
     → (forms_in more_spans more_octets ≡ forms_in spans octets ++ sort_key r ∷ []) × AreForms (forms_in more_spans more_octets) more_keys more_octets more_spans
-record_put r keys octets spans more_keys more_octets more_spans s so name short keys-are octets-are spans-are owner_size-is size-is class-is rtype-is ttl-is =
+record_put r keys octets spans more_keys more_octets more_spans s so name short few keys-are octets-are spans-are owner_size-is size-is class-is rtype-is ttl-is =
     let k = sort_key r in
     let key-long : s.owner_size ≡ length (form_owner_key k) = owner_size-is ∙ sym (owner_size r.owner) ∙ ap length (owner_key_lowered r) in
     let long : s.size ≡ length (octets_of_key k) = size-is ∙ ap length (sym (key_canonical_wire r)) in
@@ -123,10 +134,7 @@ record_put r keys octets spans more_keys more_octets more_spans s so name short 
     let keys-is : more_keys ≡ keys ++ form_owner_key k = keys-are ∙ ap (λ (l : List ℕ). keys ++ l) (owner_key_lowered r) in
     let octets-is : more_octets ≡ octets ++ octets_of_key k = octets-are ∙ ap (λ (l : List ℕ). octets ++ l) (sym (key_canonical_wire r)) in
     let spans-is : more_spans ≡ spans ++ span_of k ∷ [] = spans-are ∙ ap (λ (x : FormSpan). spans ++ x ∷ []) span in
-    let form = is_form r name short in (
-      (λ i. forms_in (spans-is i) (octets-is i)) ∙ more_forms keys octets spans k so form,
-      rw (keys-is, octets-is, spans-is) (more_are_forms keys octets spans k so form),
-    )
+    form_put k keys octets spans more_keys more_octets more_spans so (is_form r name short few) keys-is octets-is spans-is
 
 -- ---- the forms that are left
 
@@ -196,6 +204,41 @@ data_follow k octets owner_key octets-are key-is =
     let long : length owner_key ≡ length owner = ap length key-is ∙ ap (λ (l : List (List ℕ)). length (labels_key ([] ∷ l))) (sym (reverse-reverse k.owner)) ∙ owner_size (reverse k.owner) in (
       omega (arith, ap length octets-are, long, length-append owner tail),
       (λ i. drop (long i + 10) (octets-are i)) ∙ sym (drop-drop 10 (length owner) (owner ++ tail)) ∙ ap (drop 10) (past_all owner tail),
+    )
+
+-- ---- the owner
+
+-- what is read as a name at the start of octets is one, and so is no label
+read_name : (o : Option (List (List ℕ) × List ℕ)) (octets : List ℕ) → plain_name octets ≡ o → IsName (unwrap_or o ([], [])).0
+read_name None octets e = record { sizes = tt; size = omega arith }
+read_name (Some (labels, rest)) octets e = (plain_name_takes octets labels rest e).0
+
+pub owner_is_name : (k : SortKey) → IsForm k → IsName (reverse k.owner)
+owner_is_name k is =
+    let found = unwrap_or (plain_name (octets_of_key k)) ([], []) in
+    let labels : found.0 ≡ reverse k.owner = sym (reverse-reverse found.0) ∙ ap (λ (j : SortKey). reverse j.owner) is.2 in
+    subst IsName labels (read_name (plain_name (octets_of_key k)) (octets_of_key k) refl)
+
+-- the owner's octets come first, as many as its key has
+pub owner_leads : (k : SortKey) (octets owner_key : List ℕ) → octets ≡ octets_of_key k → owner_key ≡ form_owner_key k
+    → (length owner_key ≤ length octets) × (take (length owner_key) octets ≡ wire (reverse k.owner))
+owner_leads k octets owner_key octets-are key-is =
+    let owner = wire (reverse k.owner) in
+    let tail = to_be_bytes w16 k.rtype ++ (to_be_bytes w16 k.class ++ (to_be_bytes w32 k.ttl ++ (to_be_bytes w16 (length k.octets) ++ k.octets))) in
+    let long : length owner_key ≡ length owner = ap length key-is ∙ ap (λ (l : List (List ℕ)). length (labels_key ([] ∷ l))) (sym (reverse-reverse k.owner)) ∙ owner_size (reverse k.owner) in (
+      omega (arith, ap length octets-are, long, length-append owner tail),
+      (λ i. take (long i) (octets-are i)) ∙ take_at owner tail (length owner) refl,
+    )
+
+-- the labels of the owner's octets, which are in lowercase
+pub owner_read : (k : SortKey) (octets : List ℕ) → IsForm k → octets ≡ wire (reverse k.owner)
+    → (all_of (plain_name octets) ≡ Some (name_labels octets)) × (name_labels octets ≡ reverse k.owner) × (key_of octets ≡ k.owner)
+owner_read k octets is put =
+    let read = labels_of_wire (reverse k.owner) (owner_is_name k is) in
+    let labels : name_labels octets ≡ reverse k.owner = ap name_labels put ∙ read.1 in (
+      ap (λ (l : List ℕ). all_of (plain_name l)) put ∙ read.0 ∙ ap Some (sym labels),
+      labels,
+      ap key labels ∙ ap reverse (lowered-reverse k.owner) ∙ reverse-reverse (lowered k.owner) ∙ is.0,
     )
 
 -- ---- one of the forms

@@ -1,8 +1,11 @@
 -- A message has one reading.
 use Rattle.std.proofs.Common.{◌≡◌, ℕ, ◌<◌, ◌⊎◌, inl, inr, false, List, length, drop, refl, sym, ap, ◌∙◌, Option, Some, None, ltb, [], ◌∷◌}
 use Rattle.std.proofs.lemmas.Bool.{cases_lt, le-ltb}
-use Rattle.dns_message.specs.Messages.{Item as MessageItem, RecordValue, Reading, item_at, with_item, then_read, reading_from, slots_from, counts_of, message_reading, records_among, Valid, StopsAt, BadAt, reading_by, message_by}
+use Rattle.dns_message.specs.Messages.{Item as MessageItem, RecordValue, Reading, item_at, with_item, then_read, reading_from, slots_from, counts_of, message_reading, records_among, Valid, ValidBy, StopsAt, BadAt, reading_by, message_by}
 use Rattle.dns_message.specs.Messages.Reading.{Short, Stopped, Whole}
+use Rattle.dns_wire.specs.Pointers.{name_at}
+use Rattle.dns_record.specs.Data.{data_in}
+use Rattle.dns_record.specs.FurtherFormats.{DataReading}
 use Rattle.dns_message.proofs.Phrased.{short_reading}
 
 -- ---- one reading
@@ -13,9 +16,12 @@ whole_same e = (cc, cc)
 stopped_same : {xs ys : List MessageItem} {s i p t j q : ℕ} → Stopped xs s i p ≡ Stopped ys t j q → (s ≡ t) × (i ≡ j) × (p ≡ q)
 stopped_same e = (cc, cc, cc)
 
-pub valid_one : (m : List ℕ) (rs ss : List RecordValue) → Valid m rs → Valid m ss → rs ≡ ss
-valid_one m rs ss (items, end, is, rs-is) (others, other, js, ss-is) =
+pub valid_one_by : (reads : DataReading) (m : List ℕ) (rs ss : List RecordValue) → ValidBy reads m rs → ValidBy reads m ss → rs ≡ ss
+valid_one_by reads m rs ss (items, end, is, rs-is) (others, other, js, ss-is) =
     rs-is ∙ ap records_among (whole_same (sym is ∙ js)).0 ∙ sym ss-is
+
+pub valid_one : (m : List ℕ) (rs ss : List RecordValue) → Valid m rs → Valid m ss → rs ≡ ss
+valid_one = valid_one_by (data_in name_at)
 
 pub stops_one : (m : List ℕ) (s i p t j q : ℕ) → StopsAt m s i p → StopsAt m t j q → (s ≡ t) × (i ≡ j) × (p ≡ q)
 stops_one m s i p t j q (items, is) (others, js) = stopped_same (sym is ∙ js)

@@ -1,6 +1,9 @@
 -- The reading of a message in words, and the words as the reading.
 use Rattle.std.proofs.Common.{◌≡◌, ℕ, ◌<◌, Bool, true, false, cond, ltb, List, [], ◌∷◌, ◌++◌, length, drop, Option, Some, None, refl, sym, ap, subst, ◌∙◌}
 use Rattle.std.proofs.lemmas.Bool.{le-ltb, lt-ltb, ltb-false}
+use Rattle.dns_wire.specs.Pointers.{name_at}
+use Rattle.dns_record.specs.Data.{data_in}
+use Rattle.dns_record.specs.FurtherFormats.{DataReading}
 use Rattle.dns_message.specs.Messages.{Item, Reading, item_at, with_item, then_read, reading_from, slots_from, counts_of, message_reading, StopsAt, reading_by, message_by}
 use Rattle.dns_message.specs.Messages.Reading.{Short, Stopped, Whole}
 use Rattle.dns_message.specs.Worded.{ItemsAt, NoItemAt, FailsAt, ReadsWhole}
@@ -35,9 +38,12 @@ whole_read m items end r =
     let fits : ltb (length m) 12 ≡ false = le-ltb _ _ r.header in
     rw fits (read_worded (drop 12 m) (slots_from 0 (counts_of m)) 0 items end r.read)
 
-pub short_reading : (m : List ℕ) → length m < 12 → message_reading m ≡ Short
+pub short_reading_by : (reads : DataReading) (m : List ℕ) → length m < 12 → message_by reads m ≡ Short
 unfolding message_by
-short_reading m short = let less : ltb (length m) 12 ≡ true = lt-ltb _ _ short in rw less refl
+short_reading_by reads m short = let less : ltb (length m) 12 ≡ true = lt-ltb _ _ short in rw less refl
+
+pub short_reading : (m : List ℕ) → length m < 12 → message_reading m ≡ Short
+short_reading = short_reading_by (data_in name_at)
 
 -- ---- into words
 

@@ -1,5 +1,5 @@
 -- Canonical forms: the octets by which a record is compared and written (RFC 4034 sections 6.1 to 6.3).
-use Rattle.std.specs.Prelude.{◌≡◌, ◌≤◌, ℕ, List, [], ◌∷◌, drop, flat_map, length, map, reverse, take, unwrap_or}
+use Rattle.std.specs.Prelude.{◌≡◌, ◌≤◌, ◌<◌, ◌^◌, ℕ, List, [], ◌∷◌, drop, flat_map, length, map, reverse, take, unwrap_or}
 use Rattle.std.specs.List.{All}
 use Rattle.dns_wire.specs.Octets.{Octets, Labels}
 use Rattle.dns_wire.specs.Names.{lowered, plain_name}
@@ -18,9 +18,10 @@ form_of_parts class rtype ttl parts = record { owner = reverse parts.0; class = 
 abbrev pub form_in : Octets → ℕ → ℕ → ℕ → SortKey
 form_in octets class rtype ttl = form_of_parts class rtype ttl (unwrap_or (plain_name octets) ([], []))
 
--- what a record is compared by, if it is in lowercase and is read back from the canonical octets, which are at most 65,800
+-- what a record is compared by, if it is in lowercase and is read back from the canonical octets, which are at most 65,800, and the number
+-- of its data's octets is in two octets
 abbrev pub IsForm : SortKey → Type 0
-IsForm k = (lowered k.owner ≡ k.owner) × (length (octets_of_key k) ≤ 65800) × (form_in (octets_of_key k) k.class k.rtype k.ttl ≡ k)
+IsForm k = (lowered k.owner ≡ k.owner) × (length (octets_of_key k) ≤ 65800) × (form_in (octets_of_key k) k.class k.rtype k.ttl ≡ k) × (length k.octets < 2 ^ 16)
 
 -- ---- one after another
 

@@ -1,14 +1,19 @@
 //! A record as its canonical octets.
 
-ghost use Rattle.std.specs.Prelude.{◌≡◌, ◌≤◌, length};
+ghost use Rattle.std.specs.Prelude.{◌≡◌, ◌≤◌, ◌<◌, ◌^◌, length, reverse};
 ghost use Rattle.std.proofs.Common.{rules};
 ghost use Rattle.std.specs.Cmp.{partial_order_from_own_ties};
 ghost use Rattle.std.specs.Cmp.Rules.{comparing};
 ghost use Rattle.std.specs.Ordering.{as_partial_cmp, eq_by_cmp};
-ghost use Rattle.dns_name.specs.Order.{key_cmp};
+ghost use Rattle.dns_wire.specs.Names.{name_labels};
+ghost use Rattle.dns_name.specs.Order.{key_cmp, key_of};
+ghost use Rattle.dns_message.specs.Forms.{span_of};
 ghost use Rattle.dns_message.specs.Order.{octets_of_key, sort_key_cmp, alike_cmp};
 
 use crate::canonical_record::CanonicalRecord;
+use crate::form_span::FormSpan;
+use dns_name::Name;
+use dns_record::{RClass, RType, TTL};
 use std::cmp::Ordering;
 use std::marker::Model;
 
@@ -46,11 +51,56 @@ impl<'f> CanonicalForm<'f> {
         self.octets
     }
 
-    /// The canonical octets of the data, which come after the owner and ten octets.
-    fn data(&self) -> &'f [u8]
-        ensures { result.now ≡ self.now.octets }
+    /// The owner in lowercase, of at most 255 octets (RFC 4034 section 6.2).
+    pub fn owner(&self) -> Name<'f>
+        ensures labels { name_labels result.slice.now ≡ reverse self.now.owner }
+        ensures key { key_of result.slice.now ≡ self.now.owner }
+    {
+        Name {
+            slice: &self.octets[..self.owner_key.len()],
+        }
+    }
+
+    /// The type (RFC 1035 section 3.2.2).
+    pub fn rtype(&self) -> RType
+        ensures { result.code.value ≡ self.now.rtype }
+    {
+        RType::from(self.rtype)
+    }
+
+    /// The class (RFC 1035 section 3.2.4).
+    pub fn rclass(&self) -> RClass
+        ensures { result.code.value ≡ self.now.class }
+    {
+        RClass::from(self.class)
+    }
+
+    /// The time to live in seconds (RFC 1035 section 3.2.1, RFC 2181 section 8).
+    pub fn ttl(&self) -> TTL
+        ensures { result.value.value ≡ self.now.ttl }
+    {
+        TTL::from(self.ttl)
+    }
+
+    /// The canonical octets of the data, which come after the owner and ten octets (RFC 1035 section 3.2.1, RFC 4034 section 6.2).
+    pub fn data(&self) -> &'f [u8]
+        ensures octets { result.now ≡ self.now.octets }
+        ensures short { length result.now < 2 ^ 16 }
     {
         &self.octets[self.owner_key.len() + 10..]
+    }
+
+    /// How long the parts are, and the numbers.
+    pub(crate) fn span(&self) -> FormSpan
+        ensures { result ≡ span_of self.now }
+    {
+        FormSpan {
+            owner_size: self.owner_key.len(),
+            size: self.octets.len(),
+            class: self.class,
+            rtype: self.rtype,
+            ttl: self.ttl,
+        }
     }
 
     /// The order of the owners.

@@ -1,6 +1,6 @@
 //! Records as their canonical octets, one after another.
 
-ghost use Rattle.std.specs.Prelude.{◌≡◌, ◌≤◌, ◌<◌, ◌^◌, ◌↔◌, [], ◌∷◌, ◌++◌, List, IfOk, IsTrue, length, map};
+ghost use Rattle.std.specs.Prelude.{◌≡◌, ◌≤◌, ◌<◌, ◌^◌, ◌↔◌, [], ◌∷◌, ◌++◌, List, IfOk, IsTrue, OnErr, OnOk, length, map};
 ghost use Rattle.std.specs.Int.{w16, w32, to_be_bytes};
 ghost use Rattle.dns_wire.specs.Names.{wire, lowered};
 ghost use Rattle.dns_name.specs.Order.{key};
@@ -244,13 +244,34 @@ impl CanonicalForms {
         self.spans.is_empty()
     }
 
+    /// Adds a form after the others. `AllocError` is out of memory, and adds nothing.
+    pub fn push(&mut self, form: &CanonicalForm<'_>) -> Result<(), AllocError>
+        ensures added { OnOk result (self.new ≡ self.old ++ form.now ∷ []) }
+        ensures unchanged { OnErr result (self.new ≡ self.old) }
+    {
+        self.owner_keys.reserve(form.owner_key.len())?;
+        self.octets.reserve(form.octets.len())?;
+        self.spans.reserve(1)?;
+        self.owner_keys.extend_from_slice(form.owner_key).unwrap();
+        self.octets.extend_from_slice(form.octets).unwrap();
+        self.spans.push(form.span()).unwrap();
+        Ok(())
+    }
+
+    /// The forms in the order in which they were added, alike ones too. `AllocError` is out of memory.
+    pub fn views(&self, alloc: Global) -> Result<Vec<CanonicalForm<'_>>, AllocError>
+        ensures { IfOk result (λ forms. forms.items ≡ self.now) }
+    {
+        split_forms(alloc, &self.spans, &self.owner_keys, &self.octets)
+    }
+
     /// The forms in canonical order (RFC 4034 section 6), those of alike records once and with the least TTL (RFC 2181 section 5.2).
     /// `AllocError` is out of memory.
     pub fn collapsed(&self, alloc: Global) -> Result<Vec<CanonicalForm<'_>>, AllocError>
         ensures keys { IfOk result (λ order. (rs : List RecordValue) → self.now ≡ map sort_key rs → order.items ≡ map sort_key (collapsed rs)) }
         ensures octets { IfOk result (λ order. (rs : List RecordValue) → self.now ≡ map sort_key rs → map octets_of_key order.items ≡ map canonical_wire (collapsed rs)) }
     {
-        let mut forms = split_forms(alloc, &self.spans, &self.owner_keys, &self.octets)?;
+        let mut forms = self.views(alloc)?;
         forms.sort_unstable();
         forms.dedup_by(|later, first| later.alike(first));
         Ok(forms)

@@ -228,8 +228,21 @@ impl FormsReader {
         ensures read { IfOk result (λ forms. (rs : List RecordValue) × Valid message.now rs × (forms.now ≡ forms_of rs)) }
         ensures refused { IfErr result (RefusedOrMemory message.now) }
     {
+        self.read_by(alloc, message, Formats::Usual)
+    }
+
+    /// Reads a whole message as `read_forms_by`, in the memory that the message before took; after a refusal that is given up.
+    pub fn read_by(
+        &mut self,
+        alloc: Global,
+        message: &[u8],
+        formats: Formats,
+    ) -> Result<&CanonicalForms, CanonError>
+        ensures read { IfOk result (λ forms. (rs : List RecordValue) × ValidBy (data_by formats) message.now rs × (forms.now ≡ forms_of rs)) }
+        ensures refused { IfErr result (RefusedByOrMemory (data_by formats) message.now) }
+    {
         let earlier = mem::replace(&mut self.forms, CanonicalForms::new(alloc));
-        self.forms = read_into(alloc, message, earlier, &mut self.room, Formats::Usual)?;
+        self.forms = read_into(alloc, message, earlier, &mut self.room, formats)?;
         Ok(&self.forms)
     }
 }

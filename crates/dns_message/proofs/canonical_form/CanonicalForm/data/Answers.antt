@@ -1,6 +1,6 @@
 use Rattle.std.proofs.Common.{◌+◌, ◌-◌, ap, arith, drop, length, length-drop, rules, take_all, ◌∙◌}
 use Rattle.dns_message.specs.Forms.{form_owner_key}
-use Rattle.dns_message.specs.Order.{octets_of_key}
+use Rattle.dns_message.specs.Order.{SortKey, octets_of_key}
 use Rattle.dns_message.proofs.FormLemmas.{data_follow}
 use Rattle.dns_message.proofs.canonical_form.CanonicalForm.data.Goals as goal
 
@@ -13,8 +13,11 @@ slice_bounds-result-start c =
     let within = (data_follow c.args.self.now c.self.inside.octets.now c.self.inside.owner_key.now (c.self.invariant.1 ∙ ap octets_of_key c.self.view_is) (c.self.invariant.0 ∙ ap form_owner_key c.self.view_is)).0 in
     search (rules, within)
 
-pub returns : goal.returns
-returns c =
+pub returns-clause-octets : goal.returns-clause-octets
+returns-clause-octets c =
     let start = length c.self.inside.owner_key.now + 10 in
     let after = data_follow c.args.self.now c.self.inside.octets.now c.self.inside.owner_key.now (c.self.invariant.1 ∙ ap octets_of_key c.self.view_is) (c.self.invariant.0 ∙ ap form_owner_key c.self.view_is) in
     take_all (length c.self.inside.octets.now - start) (drop start c.self.inside.octets.now) (omega (arith, length-drop start c.self.inside.octets.now)) ∙ after.1
+
+pub returns-clause-short : goal.returns-clause-short
+returns-clause-short c = omega (arith, ap length (returns-clause-octets c), ap (λ (k : SortKey). length k.octets) c.self.view_is, c.self.invariant.2.3)

@@ -11,7 +11,7 @@ use Rattle.dns_message.proofs.canonical_forms.CanonicalForms.collapsed.Goals as 
 pub returns-clause-keys : goal.returns-clause-keys
 returns-clause-keys c = λ rs are.
     let left = dedup_same _ (eq_by_cmp alike_cmp) _ (λ x y b f' x' y' k. search rules) _ _ c.dedup_by.ensures.filtered in
-    let forms : c.in_ok-forms.forms.items ≡ map sort_key rs = rw (c.deref.ensures.value, c.deref-3.ensures.value) at c.in_ok-forms.ensures ∙ c.self.view_is ∙ are in
+    let forms : c.in_ok-forms.forms.items ≡ map sort_key rs = c.in_ok-forms.ensures ∙ are in
     left ∙ ap (dedup (eq_by_cmp alike_cmp)) (sorted_forms rs _ c.sort_unstable.new.self.items forms c.sort_unstable.ensures.permutation c.sort_unstable.ensures.sorted) ∙ sym (keys_collapsed rs)
 
 pub returns-clause-octets : goal.returns-clause-octets
