@@ -8,14 +8,14 @@ use Rattle.dns_wire.specs.Octets.{Octets}
 use Rattle.dns_record.specs.Fields.{Field, lowercased_field}
 use Rattle.dns_record.specs.Formats.{format_name, format_mx, format_rp, format_rrsig, format_under, rdata_format}
 use Rattle.dns_record.specs.Kinds.{Kind, fields_in}
-use Rattle.dns_record.specs.Kinds.Kind.{OneNumber, CompressibleName, UncompressedName, CharacterString, Rest}
+use Rattle.dns_record.specs.Kinds.Kind.{Number, CompressibleName, UncompressedName, CharacterString, Rest}
 use Rattle.dns_record.specs.Types.{is_lowercased}
 use Rattle.dns_record.specs.declared.formats.Formats.{Formats}
 use Rattle.dns_record.specs.declared.formats.Formats.TheVariants.{Usual, Listed}
 
 -- PX (RFC 2163 section 4): preference, and two names
 abbrev pub format_px : List Kind
-format_px = OneNumber w16 ∷ CompressibleName ∷ CompressibleName ∷ []
+format_px = Number w16 ∷ CompressibleName ∷ CompressibleName ∷ []
 
 -- NXT (RFC 2535 section 5.2): the next name, and a bitmap that is not read
 abbrev pub format_nxt : List Kind
@@ -23,11 +23,11 @@ format_nxt = UncompressedName ∷ Rest ∷ []
 
 -- NAPTR (RFC 3403 section 4.1): order, preference, flags, services, a regular expression, and a name
 abbrev pub format_naptr : List Kind
-format_naptr = OneNumber w16 ∷ OneNumber w16 ∷ CharacterString ∷ CharacterString ∷ CharacterString ∷ UncompressedName ∷ []
+format_naptr = Number w16 ∷ Number w16 ∷ CharacterString ∷ CharacterString ∷ CharacterString ∷ UncompressedName ∷ []
 
 -- KX (RFC 2230 section 3.1): preference, and a name
 abbrev pub format_kx : List Kind
-format_kx = OneNumber w16 ∷ UncompressedName ∷ []
+format_kx = Number w16 ∷ UncompressedName ∷ []
 
 -- MD, MF, MB, MG, MR, MINFO, AFSDB, RT, SIG, PX, NXT, NAPTR and KX, by their numbers
 abbrev pub further_formats : List (ℕ × List Kind)
