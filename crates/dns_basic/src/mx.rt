@@ -11,7 +11,7 @@ ghost use Rattle.dns_record.specs.Canonical.{ranked_cmp};
 ghost use Rattle.dns_record.specs.Fields.{FieldOf, named_by, canonical_octets};
 ghost use Rattle.dns_record.specs.InMessage.{fields_write, fields_fit, fields_layout};
 ghost use Rattle.dns_record.specs.Kinds.{fields_of, fields_in};
-ghost use Rattle.dns_record.specs.Kinds.Kind.{OneNumber, CompressibleName};
+ghost use Rattle.dns_record.specs.Kinds.Kind.{Number, CompressibleName};
 ghost use Rattle.dns_record.specs.DataLemmas.{fields_leave, fields_end};
 ghost use Rattle.dns_record.specs.Formats.{rdata_format};
 ghost use Rattle.dns_record.proofs.FieldLayoutLemmas.{fields_match};
@@ -73,7 +73,7 @@ impl<'a, N: ParseName<'a>> ReadValue<'a> for Mx<N> {
 
     ghost leaves_rest = { fields_leave N.reads N.leaves_rest (rdata_format 15) };
 
-    ghost ends_within = { fields_end N.reads_at N.ends_within (OneNumber w16) (CompressibleName ∷ []) };
+    ghost ends_within = { fields_end N.reads_at N.ends_within (Number w16) (CompressibleName ∷ []) };
 
     fn read_prefix(bytes: &'a [u8]) -> Result<(Mx<N>, &'a [u8]), ParseError> {
         let (preference, rest) = U16::split_bytes(bytes)?;

@@ -1,16 +1,14 @@
 -- The fields that an RDATA format reads are of its kinds, so that the numbers of two such lists have the same widths.
-use Rattle.std.proofs.Common.{◌≡◌, ℕ, true, List, [], ◌∷◌, ◌++◌, Option, Some, None, refl, sym, subst, ◌∙◌}
-use Rattle.std.specs.Prelude.{map}
+use Rattle.std.proofs.Common.{◌≡◌, ℕ, true, List, [], ◌∷◌, Option, Some, None, refl, sym, subst, ◌∙◌}
 use Rattle.std.proofs.lemmas.Option.{some_pair_parts}
 use Rattle.dns_wire.specs.Names.{plain_name}
 use Rattle.dns_wire.specs.Reading.{octet, octets, number, all_of}
 use Rattle.dns_record.specs.Data.{data_as}
 use Rattle.dns_record.specs.Fields.{Field}
-use Rattle.dns_record.specs.Fields.FieldOf.{Compressible, Uncompressed, Raw, Sized, Byte, Number}
+use Rattle.dns_record.specs.Fields.FieldOf.{CompressibleName, UncompressedName, CharacterString, CountedOctets, CharacterStrings, OtherOctets, Byte, Number}
 use Rattle.dns_record.specs.Kinds.{Kind, field_of, fields_of}
-use Rattle.dns_record.specs.Kinds.Kind.{OneByte, OneNumber, SoMany, CompressibleName, UncompressedName, CharacterString, CharacterStrings, Options, TypeBitMaps, NonEmptyTypeBitMaps, Rest}
 use Rattle.dns_record.specs.Options.{options}
-use Rattle.dns_record.specs.Formats.{rdata_format, format_txt}
+use Rattle.dns_record.specs.Formats.{rdata_format}
 use Rattle.dns_record.specs.CharacterStrings.{character_string, character_strings}
 use Rattle.dns_record.specs.TypeBitMaps.{bitmap, some_bitmap}
 use Rattle.dns_record.proofs.Stepped.{stepped}
@@ -20,17 +18,18 @@ use Rattle.dns_boxed.specs.ReadableOctets.{spelled_is}
 
 -- a field that is read for a kind
 abbrev pub OfKind : Kind → Field → Type 0
-OfKind OneByte (Byte b) = Unit {0}
-OfKind (OneNumber w) (Number v n) = v ≡ w
-OfKind (SoMany n) (Raw octets) = Unit {0}
-OfKind CompressibleName (Compressible labels) = Unit {0}
-OfKind UncompressedName (Uncompressed labels) = Unit {0}
-OfKind CharacterString (Sized octets) = Unit {0}
-OfKind CharacterStrings (Raw octets) = Unit {0}
-OfKind Options (Raw octets) = Unit {0}
-OfKind TypeBitMaps (Raw octets) = Unit {0}
-OfKind NonEmptyTypeBitMaps (Raw octets) = Unit {0}
-OfKind Rest (Raw octets) = Unit {0}
+OfKind Kind.Byte (Byte b) = Unit {0}
+OfKind (Kind.Number w) (Number v n) = v ≡ w
+OfKind (Kind.FixedOctets n) (OtherOctets octets) = Unit {0}
+OfKind Kind.CompressibleName (CompressibleName labels) = Unit {0}
+OfKind Kind.UncompressedName (UncompressedName labels) = Unit {0}
+OfKind Kind.CharacterString (CharacterString octets) = Unit {0}
+OfKind Kind.CountedOctets (CountedOctets octets) = Unit {0}
+OfKind Kind.CharacterStrings (CharacterStrings octets) = Unit {0}
+OfKind Kind.Options (OtherOctets octets) = Unit {0}
+OfKind Kind.TypeBitMaps (OtherOctets octets) = Unit {0}
+OfKind Kind.NonEmptyTypeBitMaps (OtherOctets octets) = Unit {0}
+OfKind Kind.Rest (OtherOctets octets) = Unit {0}
 OfKind kind field = ⊥
 
 -- fields that are read for kinds
@@ -42,17 +41,18 @@ OfKinds kinds fields = ⊥
 -- ---- what was read
 
 field_shaped : (kind : Kind) (bytes : List ℕ) (field : Field) (rest : List ℕ) → field_of plain_name kind bytes ≡ Some (field, rest) → OfKind kind field
-field_shaped OneByte bytes field rest e = subst (OfKind OneByte) (put_in Byte (octet bytes) field rest e).is tt
-field_shaped (OneNumber w) bytes field rest e = subst (OfKind (OneNumber w)) (put_in (Number w) (number w bytes) field rest e).is refl
-field_shaped (SoMany n) bytes field rest e = subst (OfKind (SoMany n)) (put_in Raw (octets n bytes) field rest e).is tt
-field_shaped CompressibleName bytes field rest e = subst (OfKind CompressibleName) (put_in Compressible (plain_name bytes) field rest e).is tt
-field_shaped UncompressedName bytes field rest e = subst (OfKind UncompressedName) (put_in Uncompressed (plain_name bytes) field rest e).is tt
-field_shaped CharacterString bytes field rest e = subst (OfKind CharacterString) (put_in Sized (character_string bytes) field rest e).is tt
-field_shaped CharacterStrings bytes field rest e = subst (OfKind CharacterStrings) (put_in Raw (character_strings bytes) field rest e).is tt
-field_shaped Options bytes field rest e = subst (OfKind Options) (put_in Raw (options bytes) field rest e).is tt
-field_shaped TypeBitMaps bytes field rest e = subst (OfKind TypeBitMaps) (put_in Raw (bitmap bytes) field rest e).is tt
-field_shaped NonEmptyTypeBitMaps bytes field rest e = subst (OfKind NonEmptyTypeBitMaps) (put_in Raw (some_bitmap bytes) field rest e).is tt
-field_shaped Rest bytes field rest e = subst (OfKind Rest) (some_pair_parts (Raw bytes) field [] rest e).0 tt
+field_shaped Kind.Byte bytes field rest e = subst (OfKind Kind.Byte) (put_in Byte (octet bytes) field rest e).is tt
+field_shaped (Kind.Number w) bytes field rest e = subst (OfKind (Kind.Number w)) (put_in (Number w) (number w bytes) field rest e).is refl
+field_shaped (Kind.FixedOctets n) bytes field rest e = subst (OfKind (Kind.FixedOctets n)) (put_in OtherOctets (octets n bytes) field rest e).is tt
+field_shaped Kind.CompressibleName bytes field rest e = subst (OfKind Kind.CompressibleName) (put_in CompressibleName (plain_name bytes) field rest e).is tt
+field_shaped Kind.UncompressedName bytes field rest e = subst (OfKind Kind.UncompressedName) (put_in UncompressedName (plain_name bytes) field rest e).is tt
+field_shaped Kind.CharacterString bytes field rest e = subst (OfKind Kind.CharacterString) (put_in CharacterString (character_string bytes) field rest e).is tt
+field_shaped Kind.CountedOctets bytes field rest e = subst (OfKind Kind.CountedOctets) (put_in CountedOctets (character_string bytes) field rest e).is tt
+field_shaped Kind.CharacterStrings bytes field rest e = subst (OfKind Kind.CharacterStrings) (put_in CharacterStrings (character_strings bytes) field rest e).is tt
+field_shaped Kind.Options bytes field rest e = subst (OfKind Kind.Options) (put_in OtherOctets (options bytes) field rest e).is tt
+field_shaped Kind.TypeBitMaps bytes field rest e = subst (OfKind Kind.TypeBitMaps) (put_in OtherOctets (bitmap bytes) field rest e).is tt
+field_shaped Kind.NonEmptyTypeBitMaps bytes field rest e = subst (OfKind Kind.NonEmptyTypeBitMaps) (put_in OtherOctets (some_bitmap bytes) field rest e).is tt
+field_shaped Kind.Rest bytes field rest e = subst (OfKind Kind.Rest) (some_pair_parts (OtherOctets bytes) field [] rest e).0 tt
 
 fields_shaped : (kinds : List Kind) (bytes : List ℕ) (fields : List Field) (rest : List ℕ) → fields_of plain_name kinds bytes ≡ Some (fields, rest) → OfKinds kinds fields
 fields_shaped [] bytes fields rest e = subst (OfKinds []) (some_pair_parts [] fields bytes rest e).0 tt
@@ -75,13 +75,6 @@ data_shaped rtype bytes fields e = by (fields_of plain_name (rdata_format rtype)
 pub spelled_shaped : (rtype : ℕ) (bytes : List ℕ) → is_readable rtype bytes ≡ true → OfKinds (rdata_format rtype) (spelled_fields rtype bytes)
 spelled_shaped rtype bytes e = data_shaped rtype bytes (spelled_fields rtype bytes) (spelled_is rtype bytes e)
 
--- TXT data are strings in one field
-pub txt_shaped : (fields : List Field) → OfKinds format_txt fields → (octets : List ℕ) × (fields ≡ Raw octets ∷ [])
-txt_shaped [] p = absurd p
-txt_shaped (Raw octets ∷ []) p = (octets, refl)
-txt_shaped (field ∷ []) p = absurd p.0
-txt_shaped (field ∷ other ∷ fields) p = absurd p.1
-
 -- ---- widths
 
 -- if both are numbers, they have as many bits
@@ -94,7 +87,7 @@ SameWidths (f ∷ fs) (g ∷ gs) = SameWidth f g × SameWidths fs gs
 SameWidths fs gs = Unit {0}
 
 width_of_kind : (kind : Kind) (f g : Field) → OfKind kind f → OfKind kind g → SameWidth f g
-width_of_kind (OneNumber w) (Number u a) (Number v b) p q = p ∙ sym q
+width_of_kind (Kind.Number w) (Number u a) (Number v b) p q = p ∙ sym q
 width_of_kind kind (Number u a) (Number v b) p q = absurd p
 width_of_kind kind f g p q = tt
 
@@ -102,7 +95,3 @@ pub widths_of_format : (kinds : List Kind) (fs gs : List Field) → OfKinds kind
 widths_of_format (kind ∷ kinds) (f ∷ fs) (g ∷ gs) p q = (width_of_kind kind f g p.0 q.0, widths_of_format kinds fs gs p.1 q.1)
 widths_of_format [] (f ∷ fs) (g ∷ gs) p q = absurd p
 widths_of_format kinds fs gs p q = tt
-
-pub widths_of_strings : (strings others : List (List ℕ)) → SameWidths (map Sized strings ++ []) (map Sized others ++ [])
-widths_of_strings (a ∷ strings) (b ∷ others) = (tt, widths_of_strings strings others)
-widths_of_strings strings others = tt

@@ -8,7 +8,7 @@ use Rattle.dns_wire.specs.Pointers.{NameAt, label_type_at}
 use Rattle.dns_wire.specs.Reading.{number, plain_at}
 use Rattle.dns_record.specs.Formats.{rdata_format}
 use Rattle.dns_record.specs.Kinds.{Kind}
-use Rattle.dns_record.specs.Kinds.Kind.{CompressibleName, OneNumber}
+use Rattle.dns_record.specs.Kinds.Kind.{Number, CompressibleName}
 
 -- From the place on there are pointers alone, each at the target of the one before it, and the last leads to `final`. Of no pointer it is the
 -- place itself.
@@ -47,7 +47,7 @@ pub record IsUnchained (contents : Octets) (at end : ℕ) : Type 0 where
 abbrev pub AreUnchained : List Kind → Octets → ℕ → Type 0
 AreUnchained [] contents at = Unit {0}
 AreUnchained (CompressibleName ∷ kinds) contents at = (end : ℕ) × IsUnchained contents at end × AreUnchained kinds contents end
-AreUnchained (OneNumber w ∷ kinds) contents at = AreUnchained kinds contents (at + byte_len w)
+AreUnchained (Number w ∷ kinds) contents at = AreUnchained kinds contents (at + byte_len w)
 AreUnchained (kind ∷ kinds) contents at = Unit {0}
 
 -- The owner of the record at a place is such a name, and so are the names in its data that may have pointers. The type is after the owner, and

@@ -26,11 +26,10 @@ use Rattle.dns_num.specs.InMessage.{zeros}
 use Rattle.dns_message.proofs.SizedRead.{sized_laid_read}
 use Rattle.dns_record.specs.Data.{data_in}
 use Rattle.dns_record.specs.Fields.{Field, field_octets, fields_octets, lowercased_field, canonical_fields}
-use Rattle.dns_record.specs.Fields.FieldOf.{Compressible, Uncompressed, Raw, Sized, Byte, Number}
+use Rattle.dns_record.specs.Fields.FieldOf.{CompressibleName, UncompressedName, CharacterString, CountedOctets, CharacterStrings, OtherOctets, Byte, Number}
 use Rattle.dns_record.specs.InMessage.{fixed_header}
 use Rattle.dns_record.specs.InPlace.{OctetsAt}
 use Rattle.dns_record.specs.Kinds.{Kind, field_of, field_in, fields_in}
-use Rattle.dns_record.specs.Kinds.Kind.{OneByte, OneNumber, SoMany, CompressibleName, UncompressedName, CharacterString, CharacterStrings, Options, TypeBitMaps, NonEmptyTypeBitMaps, Rest}
 use Rattle.dns_record.specs.Questions.{question_in}
 use Rattle.dns_record.specs.Records.{record_in, end_of}
 use Rattle.dns_record.specs.Formats.{rdata_format, rdata_formats, format_under, format_unknown}
@@ -92,24 +91,25 @@ again : (kinds : List Kind) (fs : List Field) (c : List ℕ) (at : ℕ) → is_f
 again [] [] c at rdata_format suits p = record { fields = []; read = ap (λ (n : ℕ). Some ([], n)) p; alike = refl; same = λ e. refl }
 again [] (f ∷ fs) c at rdata_format suits p = absurd suits
 again (kind ∷ kinds) [] c at rdata_format suits p = absurd suits
-again (CompressibleName ∷ kinds) (Compressible labels ∷ fs) c at rdata_format suits p =
-    let later = again kinds fs c p.0 (format_parts CompressibleName kinds rdata_format).others suits.1 p.2 in
+again (Kind.CompressibleName ∷ kinds) (CompressibleName labels ∷ fs) c at rdata_format suits p =
+    let later = again kinds fs c p.0 (format_parts Kind.CompressibleName kinds rdata_format).others suits.1 p.2 in
     record {
-      fields = Compressible p.1.there ∷ later.fields;
+      fields = CompressibleName p.1.there ∷ later.fields;
       read = rw (name_at_finds c at p.1.there p.0 p.1.name, later.read) refl;
-      alike = ap (λ (l : List (List ℕ)). Compressible l ∷ map lowercased_field later.fields) p.1.alike ∙ ap (λ (l : List Field). Compressible (lowered labels) ∷ l) later.alike;
+      alike = ap (λ (l : List (List ℕ)). CompressibleName l ∷ map lowercased_field later.fields) p.1.alike ∙ ap (λ (l : List Field). CompressibleName (lowered labels) ∷ l) later.alike;
       same = λ e. absurd cc;
     }
-again (OneByte ∷ kinds) (Byte b ∷ fs) c at rdata_format suits p = uncompressed_again OneByte (Byte b) kinds fs c at refl rdata_format suits.0 suits.1 p (again kinds fs c (at + length (field_octets (Byte b))) (format_parts OneByte kinds rdata_format).others suits.1 p.2)
-again (OneNumber w ∷ kinds) (Number v n ∷ fs) c at rdata_format suits p = uncompressed_again (OneNumber w) (Number v n) kinds fs c at refl rdata_format suits.0 suits.1 p (again kinds fs c (at + length (field_octets (Number v n))) (format_parts (OneNumber w) kinds rdata_format).others suits.1 p.2)
-again (SoMany n ∷ kinds) (Raw o ∷ fs) c at rdata_format suits p = uncompressed_again (SoMany n) (Raw o) kinds fs c at refl rdata_format suits.0 suits.1 p (again kinds fs c (at + length o) (format_parts (SoMany n) kinds rdata_format).others suits.1 p.2)
-again (UncompressedName ∷ kinds) (Uncompressed labels ∷ fs) c at rdata_format suits p = uncompressed_again UncompressedName (Uncompressed labels) kinds fs c at refl rdata_format suits.0 suits.1 p (again kinds fs c (at + length (wire labels)) (format_parts UncompressedName kinds rdata_format).others suits.1 p.2)
-again (CharacterString ∷ kinds) (Sized o ∷ fs) c at rdata_format suits p = uncompressed_again CharacterString (Sized o) kinds fs c at refl rdata_format suits.0 suits.1 p (again kinds fs c (at + length (length o ∷ o)) (format_parts CharacterString kinds rdata_format).others suits.1 p.2)
-again (CharacterStrings ∷ kinds) (Raw o ∷ fs) c at rdata_format suits p = uncompressed_again CharacterStrings (Raw o) kinds fs c at refl rdata_format suits.0 suits.1 p (again kinds fs c (at + length o) (format_parts CharacterStrings kinds rdata_format).others suits.1 p.2)
-again (Options ∷ kinds) (Raw o ∷ fs) c at rdata_format suits p = uncompressed_again Options (Raw o) kinds fs c at refl rdata_format suits.0 suits.1 p (again kinds fs c (at + length o) (format_parts Options kinds rdata_format).others suits.1 p.2)
-again (TypeBitMaps ∷ kinds) (Raw o ∷ fs) c at rdata_format suits p = uncompressed_again TypeBitMaps (Raw o) kinds fs c at refl rdata_format suits.0 suits.1 p (again kinds fs c (at + length o) (format_parts TypeBitMaps kinds rdata_format).others suits.1 p.2)
-again (NonEmptyTypeBitMaps ∷ kinds) (Raw o ∷ fs) c at rdata_format suits p = uncompressed_again NonEmptyTypeBitMaps (Raw o) kinds fs c at refl rdata_format suits.0 suits.1 p (again kinds fs c (at + length o) (format_parts NonEmptyTypeBitMaps kinds rdata_format).others suits.1 p.2)
-again (Rest ∷ kinds) (Raw o ∷ fs) c at rdata_format suits p = uncompressed_again Rest (Raw o) kinds fs c at refl rdata_format suits.0 suits.1 p (again kinds fs c (at + length o) (format_parts Rest kinds rdata_format).others suits.1 p.2)
+again (Kind.Byte ∷ kinds) (Byte b ∷ fs) c at rdata_format suits p = uncompressed_again Kind.Byte (Byte b) kinds fs c at refl rdata_format suits.0 suits.1 p (again kinds fs c (at + length (field_octets (Byte b))) (format_parts Kind.Byte kinds rdata_format).others suits.1 p.2)
+again (Kind.Number w ∷ kinds) (Number v n ∷ fs) c at rdata_format suits p = uncompressed_again (Kind.Number w) (Number v n) kinds fs c at refl rdata_format suits.0 suits.1 p (again kinds fs c (at + length (field_octets (Number v n))) (format_parts (Kind.Number w) kinds rdata_format).others suits.1 p.2)
+again (Kind.FixedOctets n ∷ kinds) (OtherOctets o ∷ fs) c at rdata_format suits p = uncompressed_again (Kind.FixedOctets n) (OtherOctets o) kinds fs c at refl rdata_format suits.0 suits.1 p (again kinds fs c (at + length o) (format_parts (Kind.FixedOctets n) kinds rdata_format).others suits.1 p.2)
+again (Kind.UncompressedName ∷ kinds) (UncompressedName labels ∷ fs) c at rdata_format suits p = uncompressed_again Kind.UncompressedName (UncompressedName labels) kinds fs c at refl rdata_format suits.0 suits.1 p (again kinds fs c (at + length (wire labels)) (format_parts Kind.UncompressedName kinds rdata_format).others suits.1 p.2)
+again (Kind.CharacterString ∷ kinds) (CharacterString o ∷ fs) c at rdata_format suits p = uncompressed_again Kind.CharacterString (CharacterString o) kinds fs c at refl rdata_format suits.0 suits.1 p (again kinds fs c (at + length (length o ∷ o)) (format_parts Kind.CharacterString kinds rdata_format).others suits.1 p.2)
+again (Kind.CountedOctets ∷ kinds) (CountedOctets o ∷ fs) c at rdata_format suits p = uncompressed_again Kind.CountedOctets (CountedOctets o) kinds fs c at refl rdata_format suits.0 suits.1 p (again kinds fs c (at + length (length o ∷ o)) (format_parts Kind.CountedOctets kinds rdata_format).others suits.1 p.2)
+again (Kind.CharacterStrings ∷ kinds) (CharacterStrings o ∷ fs) c at rdata_format suits p = uncompressed_again Kind.CharacterStrings (CharacterStrings o) kinds fs c at refl rdata_format suits.0 suits.1 p (again kinds fs c (at + length o) (format_parts Kind.CharacterStrings kinds rdata_format).others suits.1 p.2)
+again (Kind.Options ∷ kinds) (OtherOctets o ∷ fs) c at rdata_format suits p = uncompressed_again Kind.Options (OtherOctets o) kinds fs c at refl rdata_format suits.0 suits.1 p (again kinds fs c (at + length o) (format_parts Kind.Options kinds rdata_format).others suits.1 p.2)
+again (Kind.TypeBitMaps ∷ kinds) (OtherOctets o ∷ fs) c at rdata_format suits p = uncompressed_again Kind.TypeBitMaps (OtherOctets o) kinds fs c at refl rdata_format suits.0 suits.1 p (again kinds fs c (at + length o) (format_parts Kind.TypeBitMaps kinds rdata_format).others suits.1 p.2)
+again (Kind.NonEmptyTypeBitMaps ∷ kinds) (OtherOctets o ∷ fs) c at rdata_format suits p = uncompressed_again Kind.NonEmptyTypeBitMaps (OtherOctets o) kinds fs c at refl rdata_format suits.0 suits.1 p (again kinds fs c (at + length o) (format_parts Kind.NonEmptyTypeBitMaps kinds rdata_format).others suits.1 p.2)
+again (Kind.Rest ∷ kinds) (OtherOctets o ∷ fs) c at rdata_format suits p = uncompressed_again Kind.Rest (OtherOctets o) kinds fs c at refl rdata_format suits.0 suits.1 p (again kinds fs c (at + length o) (format_parts Kind.Rest kinds rdata_format).others suits.1 p.2)
 again (kind ∷ kinds) (f ∷ fs) c at rdata_format suits p = absurd suits.0
 
 -- what is compressed of these fields are names
@@ -119,10 +119,12 @@ parts_are [] (f ∷ fs) suits = absurd suits
 parts_are (kind ∷ kinds) [] suits = absurd suits
 parts_are (kind ∷ kinds) (f ∷ fs) suits = (part_is kind f suits.0, parts_are kinds fs suits.1) where
   part_is : (kind : Kind) (f : Field) → Suits kind f → IsLayoutPart (field_part f)
-  part_is CompressibleName (Compressible labels) is = is
-  part_is kind (Uncompressed labels) is = tt
-  part_is kind (Raw o) is = tt
-  part_is kind (Sized o) is = tt
+  part_is Kind.CompressibleName (CompressibleName labels) is = is
+  part_is kind (UncompressedName labels) is = tt
+  part_is kind (CharacterString o) is = tt
+  part_is kind (CountedOctets o) is = tt
+  part_is kind (CharacterStrings o) is = tt
+  part_is kind (OtherOctets o) is = tt
   part_is kind (Byte b) is = tt
   part_is kind (Number w n) is = tt
   part_is kind f is = absurd is
@@ -150,10 +152,12 @@ laid_short (f ∷ fs) contents places =
     let rest = laid (map field_part fs) (contents ++ first.0) first.1 in
     omega (arith, field_short f, laid_short fs (contents ++ first.0) first.1, length-append first.0 rest.0, length-append (field_octets f) (fields_octets fs)) where
       field_short : (f : Field) → length (part_writes (field_part f) contents places).0 ≤ length (field_octets f)
-      field_short (Compressible labels) = compress_short contents places labels
-      field_short (Uncompressed labels) = omega arith
-      field_short (Raw o) = omega arith
-      field_short (Sized o) = omega arith
+      field_short (CompressibleName labels) = compress_short contents places labels
+      field_short (UncompressedName labels) = omega arith
+      field_short (CharacterString o) = omega arith
+      field_short (CountedOctets o) = omega arith
+      field_short (CharacterStrings o) = omega arith
+      field_short (OtherOctets o) = omega arith
       field_short (Byte b) = omega arith
       field_short (Number w n) = omega arith
 

@@ -6,7 +6,7 @@ use Rattle.dns_wire.specs.Layout.{LayoutPart, part_writes, laid, LayoutMatches}
 use Rattle.dns_wire.specs.Layout.LayoutPart.{NamePart}
 use Rattle.dns_wire.specs.LayoutLemmas.{list_writes-one}
 use Rattle.dns_record.specs.Fields.{FieldOf, named_by}
-use Rattle.dns_record.specs.Fields.FieldOf.{Compressible, Uncompressed, Raw, Sized, Byte, Number}
+use Rattle.dns_record.specs.Fields.FieldOf.{CompressibleName, UncompressedName, CharacterString, CountedOctets, CharacterStrings, OtherOctets, Byte, Number}
 use Rattle.dns_record.specs.InMessage.{fixed_header, record_writes, fields_write, fields_layout}
 use Rattle.dns_record.specs.Seen.{record_seen}
 use Rattle.dns_record.proofs.FieldLayoutLemmas.{fields_match}
@@ -23,10 +23,12 @@ module _ {N : Type 0} (writes : N → CompressedWrite) (layout : N → Option (L
 
   fields_layout_matches : (fields : List (FieldOf N)) → fields_layout layout fields ≡ Some (map field_part (map (named_by name) fields))
   fields_layout_matches [] = refl
-  fields_layout_matches (Compressible n ∷ fields) = rw (named n, fields_layout_matches fields) refl
-  fields_layout_matches (Uncompressed labels ∷ fields) = rw (fields_layout_matches fields) refl
-  fields_layout_matches (Raw octets ∷ fields) = rw (fields_layout_matches fields) refl
-  fields_layout_matches (Sized octets ∷ fields) = rw (fields_layout_matches fields) refl
+  fields_layout_matches (CompressibleName n ∷ fields) = rw (named n, fields_layout_matches fields) refl
+  fields_layout_matches (UncompressedName labels ∷ fields) = rw (fields_layout_matches fields) refl
+  fields_layout_matches (CharacterString octets ∷ fields) = rw (fields_layout_matches fields) refl
+  fields_layout_matches (CountedOctets octets ∷ fields) = rw (fields_layout_matches fields) refl
+  fields_layout_matches (CharacterStrings octets ∷ fields) = rw (fields_layout_matches fields) refl
+  fields_layout_matches (OtherOctets octets ∷ fields) = rw (fields_layout_matches fields) refl
   fields_layout_matches (Byte b ∷ fields) = rw (fields_layout_matches fields) refl
   fields_layout_matches (Number w n ∷ fields) = rw (fields_layout_matches fields) refl
 

@@ -7,7 +7,7 @@ use Rattle.std.proofs.lemmas.List.{take-append-drop, drop-drop, get_or-drop}
 use Rattle.dns_wire.specs.Pointers.{Segment}
 use Rattle.dns_wire.specs.Pointers.Segment.{at_root, at_label, at_pointer}
 use Rattle.dns_record.specs.Fields.{Field}
-use Rattle.dns_record.specs.Fields.FieldOf.{Raw}
+use Rattle.dns_record.specs.Fields.FieldOf.{OtherOctets}
 use Rattle.dns_record.specs.Formats.{has_rdata_format}
 use Rattle.dns_record.specs.declared.record.Record.{Record}
 use Rattle.dns_record.specs.declared.rtype.RType.{RType}
@@ -81,11 +81,11 @@ options_there v is = known_options v is (options_or_unknown v is.0)
 abbrev single : Field → List Field
 single field = field ∷ []
 
-options_seen : (v : RecordData (List (List ℕ))) (octets : List ℕ) → octets_of_options v ≡ Some octets → data_seen v ≡ Raw octets ∷ []
-options_seen (Opt v) octets e = let same : v.slice.now ≡ octets = cc in ap (λ (l : List ℕ). single (Raw l)) same
+options_seen : (v : RecordData (List (List ℕ))) (octets : List ℕ) → octets_of_options v ≡ Some octets → data_seen v ≡ OtherOctets octets ∷ []
+options_seen (Opt v) octets e = let same : v.slice.now ≡ octets = cc in ap (λ (l : List ℕ). single (OtherOctets l)) same
 options_seen (Unknown rtype v) octets e = by ((rtype.code.value == 41) && is_option_data v.octets.now) e where
-  by : (b : Bool) → cond b (Some v.octets.now) None ≡ Some octets → ◌≡◌ {A = List Field} (Raw v.octets.now ∷ []) (Raw octets ∷ [])
-  by true h = let same : v.octets.now ≡ octets = cc in ap (λ (l : List ℕ). single (Raw l)) same
+  by : (b : Bool) → cond b (Some v.octets.now) None ≡ Some octets → ◌≡◌ {A = List Field} (OtherOctets v.octets.now ∷ []) (OtherOctets octets ∷ [])
+  by true h = let same : v.octets.now ≡ octets = cc in ap (λ (l : List ℕ). single (OtherOctets l)) same
   by false h = absurd cc
 options_seen v octets e = absurd cc
 

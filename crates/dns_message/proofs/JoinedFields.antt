@@ -17,10 +17,9 @@ use Rattle.dns_num.proofs.CountedData.{octets_prefix}
 use Rattle.dns_record.specs.Data.{data_as, data_in}
 use Rattle.dns_record.specs.DataLemmas.{fields_leave}
 use Rattle.dns_record.specs.Fields.{Field, field_octets, fields_octets, lowercased_field}
-use Rattle.dns_record.specs.Fields.FieldOf.{Raw, Byte, Number}
+use Rattle.dns_record.specs.Fields.FieldOf.{OtherOctets, Byte, Number}
 use Rattle.dns_record.specs.Formats.{rdata_format}
 use Rattle.dns_record.specs.Kinds.{Kind, field_in, fields_in, fields_of}
-use Rattle.dns_record.specs.Kinds.Kind.{OneByte, OneNumber, SoMany, CompressibleName as TheCompressibleName, UncompressedName as TheUncompressedName, CharacterString as TheCharacterString, CharacterStrings as TheCharacterStrings, Options as TheOptions, TypeBitMaps as TheTypeBitMaps, NonEmptyTypeBitMaps as TheNonEmptyTypeBitMaps, Rest as TheRest}
 use Rattle.dns_record.specs.Types.{is_lowercased}
 use Rattle.dns_record.proofs.EachFormat.{of_each_format}
 use Rattle.dns_record.proofs.UncompressedNames.{all_placed, is_uncompressed_format}
@@ -30,7 +29,7 @@ use Rattle.dns_record.specs.FieldKinds.{kind_of, row_of, with_fixed}
 use Rattle.dns_message.specs.LowercaseFields.{PutsFields}
 use Rattle.dns_message.specs.PlainFields.{AreFields}
 use Rattle.dns_record.specs.declared.field_kind.FieldKind.{FieldKind}
-use Rattle.dns_record.specs.declared.field_kind.FieldKind.TheVariants.{Fixed, CompressibleName, UncompressedName, CharacterString, CharacterStrings, Options, TypeBitMaps, NonEmptyTypeBitMaps, Rest}
+use Rattle.dns_record.specs.declared.field_kind.FieldKind.TheVariants.{Fixed, CompressibleName, UncompressedName, CharacterString, CountedOctets, CharacterStrings, Options, TypeBitMaps, NonEmptyTypeBitMaps, Rest}
 use Rattle.dns_message.proofs.KeptOctets.{is_usual}
 use Rattle.dns_message.proofs.LowercasedFields.{cased_uncompressed}
 
@@ -40,9 +39,9 @@ abbrev FixedAt : Octets → ℕ → ℕ → Option (Field × ℕ) → Type 0
 FixedAt c at n None = length c < at + n
 FixedAt c at n (Some (f, end)) = (at + n ≤ length c) × (end ≡ at + n) × (field_octets f ≡ take n (drop at c)) × (lowercased_field f ≡ f)
 
-many_at : (n : ℕ) (c : Octets) (at : ℕ) → FixedAt c at n (field_in name_at (SoMany n) c at)
+many_at : (n : ℕ) (c : Octets) (at : ℕ) → FixedAt c at n (field_in name_at (Kind.FixedOctets n) c at)
 many_at n c at = by (ltb (length c) at) refl (ltb (length (drop at c)) n) refl where
-  by : (b : Bool) → ltb (length c) at ≡ b → (d : Bool) → ltb (length (drop at c)) n ≡ d → FixedAt c at n (first_to Raw (cond b None (with_end c (cond d None (Some (take n (drop at c), drop n (drop at c)))))))
+  by : (b : Bool) → ltb (length c) at ≡ b → (d : Bool) → ltb (length (drop at c)) n ≡ d → FixedAt c at n (first_to OtherOctets (cond b None (with_end c (cond d None (Some (take n (drop at c), drop n (drop at c)))))))
   by true out d short = omega (arith, ltb-true (length c) at out)
   by false within true short = omega (arith, ltb-false (length c) at within, ltb-true (length (drop at c)) n short, length-drop at c)
   by false within false long =
@@ -50,7 +49,7 @@ many_at n c at = by (ltb (length c) at) refl (ltb (length (drop at c)) n) refl w
       let fits = ltb-false (length (drop at c)) n long in
       (omega (arith, here, fits, length-drop at c), omega (arith, here, fits, length-drop at c, length-drop n (drop at c)), refl, refl)
 
-number_at : (w : Width) → ((bs : List ℕ) (m : ℕ) → length bs ≡ byte_len w → AreOctets bs → m ≡ from_be_bytes w bs → to_be_bytes w m ≡ bs) → (c : Octets) (at : ℕ) → AreOctets c → FixedAt c at (byte_len w) (field_in name_at (OneNumber w) c at)
+number_at : (w : Width) → ((bs : List ℕ) (m : ℕ) → length bs ≡ byte_len w → AreOctets bs → m ≡ from_be_bytes w bs → to_be_bytes w m ≡ bs) → (c : Octets) (at : ℕ) → AreOctets c → FixedAt c at (byte_len w) (field_in name_at (Kind.Number w) c at)
 number_at w back c at are = by (ltb (length c) at) refl (ltb (length (drop at c)) (byte_len w)) refl where
   by : (b : Bool) → ltb (length c) at ≡ b → (d : Bool) → ltb (length (drop at c)) (byte_len w) ≡ d
       → FixedAt c at (byte_len w) (first_to (Number w) (cond b None (with_end c (cond d None (Some (from_be_bytes w (take (byte_len w) (drop at c)), drop (byte_len w) (drop at c)))))))
@@ -67,7 +66,7 @@ number_at w back c at are = by (ltb (length c) at) refl (ltb (length (drop at c)
         refl,
       )
 
-byte_at : (c : Octets) (at : ℕ) → FixedAt c at 1 (field_in name_at OneByte c at)
+byte_at : (c : Octets) (at : ℕ) → FixedAt c at 1 (field_in name_at Kind.Byte c at)
 byte_at c at = by (ltb (length c) at) refl (drop at c) refl where
   by : (b : Bool) → ltb (length c) at ≡ b → (rest : Octets) → drop at c ≡ rest → FixedAt c at 1 (first_to Byte (cond b None (with_end c (octet rest))))
   by true out rest is = omega (arith, ltb-true (length c) at out)
@@ -153,6 +152,7 @@ with_more c n kind kinds (Fixed m ∷ row) here again at =
 with_more c n kind kinds (CompressibleName ∷ row) here again at = fixed_alone c at n _ _ (many_at n c at) (here at) (fields_in name_at (map kind_of (CompressibleName ∷ row)) c) (fields_in name_at kinds c) again
 with_more c n kind kinds (UncompressedName ∷ row) here again at = fixed_alone c at n _ _ (many_at n c at) (here at) (fields_in name_at (map kind_of (UncompressedName ∷ row)) c) (fields_in name_at kinds c) again
 with_more c n kind kinds (CharacterString ∷ row) here again at = fixed_alone c at n _ _ (many_at n c at) (here at) (fields_in name_at (map kind_of (CharacterString ∷ row)) c) (fields_in name_at kinds c) again
+with_more c n kind kinds (CountedOctets ∷ row) here again at = fixed_alone c at n _ _ (many_at n c at) (here at) (fields_in name_at (map kind_of (CountedOctets ∷ row)) c) (fields_in name_at kinds c) again
 with_more c n kind kinds (CharacterStrings ∷ row) here again at = fixed_alone c at n _ _ (many_at n c at) (here at) (fields_in name_at (map kind_of (CharacterStrings ∷ row)) c) (fields_in name_at kinds c) again
 with_more c n kind kinds (Options ∷ row) here again at = fixed_alone c at n _ _ (many_at n c at) (here at) (fields_in name_at (map kind_of (Options ∷ row)) c) (fields_in name_at kinds c) again
 with_more c n kind kinds (TypeBitMaps ∷ row) here again at = fixed_alone c at n _ _ (many_at n c at) (here at) (fields_in name_at (map kind_of (TypeBitMaps ∷ row)) c) (fields_in name_at kinds c) again
@@ -165,21 +165,22 @@ all_usual (kind ∷ kinds) = is_usual kind && all_usual kinds
 
 joined : (kinds : List Kind) (c : Octets) → all_usual kinds ≡ true → AreOctets c → (at : ℕ) → SameRead (fields_in name_at (map kind_of (row_of kinds)) c at) (fields_in name_at kinds c at)
 joined [] c usual are at = (refl, refl, refl)
-joined (OneByte ∷ kinds) c usual are at = with_more c 1 OneByte kinds (row_of kinds) (byte_at c) (joined kinds c usual are) at
-joined (OneNumber w16 ∷ kinds) c usual are at = with_more c 2 (OneNumber w16) kinds (row_of kinds) (λ at. number_at w16 be_bytes_2 c at are) (joined kinds c usual are) at
-joined (OneNumber w32 ∷ kinds) c usual are at = with_more c 4 (OneNumber w32) kinds (row_of kinds) (λ at. number_at w32 be_bytes_4 c at are) (joined kinds c usual are) at
-joined (OneNumber w8 ∷ kinds) c usual are at = absurd cc
-joined (OneNumber w64 ∷ kinds) c usual are at = absurd cc
-joined (OneNumber w128 ∷ kinds) c usual are at = absurd cc
-joined (SoMany n ∷ kinds) c usual are at = with_more c n (SoMany n) kinds (row_of kinds) (many_at n c) (joined kinds c usual are) at
-joined (TheCompressibleName ∷ kinds) c usual are at = same_first (fields_in name_at (map kind_of (row_of kinds)) c) (fields_in name_at kinds c) (field_in name_at TheCompressibleName c at) (joined kinds c usual are)
-joined (TheUncompressedName ∷ kinds) c usual are at = same_first (fields_in name_at (map kind_of (row_of kinds)) c) (fields_in name_at kinds c) (field_in name_at TheUncompressedName c at) (joined kinds c usual are)
-joined (TheCharacterString ∷ kinds) c usual are at = same_first (fields_in name_at (map kind_of (row_of kinds)) c) (fields_in name_at kinds c) (field_in name_at TheCharacterString c at) (joined kinds c usual are)
-joined (TheCharacterStrings ∷ kinds) c usual are at = same_first (fields_in name_at (map kind_of (row_of kinds)) c) (fields_in name_at kinds c) (field_in name_at TheCharacterStrings c at) (joined kinds c usual are)
-joined (TheOptions ∷ kinds) c usual are at = same_first (fields_in name_at (map kind_of (row_of kinds)) c) (fields_in name_at kinds c) (field_in name_at TheOptions c at) (joined kinds c usual are)
-joined (TheTypeBitMaps ∷ kinds) c usual are at = same_first (fields_in name_at (map kind_of (row_of kinds)) c) (fields_in name_at kinds c) (field_in name_at TheTypeBitMaps c at) (joined kinds c usual are)
-joined (TheNonEmptyTypeBitMaps ∷ kinds) c usual are at = same_first (fields_in name_at (map kind_of (row_of kinds)) c) (fields_in name_at kinds c) (field_in name_at TheNonEmptyTypeBitMaps c at) (joined kinds c usual are)
-joined (TheRest ∷ kinds) c usual are at = same_first (fields_in name_at (map kind_of (row_of kinds)) c) (fields_in name_at kinds c) (field_in name_at TheRest c at) (joined kinds c usual are)
+joined (Kind.Byte ∷ kinds) c usual are at = with_more c 1 Kind.Byte kinds (row_of kinds) (byte_at c) (joined kinds c usual are) at
+joined (Kind.Number w16 ∷ kinds) c usual are at = with_more c 2 (Kind.Number w16) kinds (row_of kinds) (λ at. number_at w16 be_bytes_2 c at are) (joined kinds c usual are) at
+joined (Kind.Number w32 ∷ kinds) c usual are at = with_more c 4 (Kind.Number w32) kinds (row_of kinds) (λ at. number_at w32 be_bytes_4 c at are) (joined kinds c usual are) at
+joined (Kind.Number w8 ∷ kinds) c usual are at = absurd cc
+joined (Kind.Number w64 ∷ kinds) c usual are at = absurd cc
+joined (Kind.Number w128 ∷ kinds) c usual are at = absurd cc
+joined (Kind.FixedOctets n ∷ kinds) c usual are at = with_more c n (Kind.FixedOctets n) kinds (row_of kinds) (many_at n c) (joined kinds c usual are) at
+joined (Kind.CompressibleName ∷ kinds) c usual are at = same_first (fields_in name_at (map kind_of (row_of kinds)) c) (fields_in name_at kinds c) (field_in name_at Kind.CompressibleName c at) (joined kinds c usual are)
+joined (Kind.UncompressedName ∷ kinds) c usual are at = same_first (fields_in name_at (map kind_of (row_of kinds)) c) (fields_in name_at kinds c) (field_in name_at Kind.UncompressedName c at) (joined kinds c usual are)
+joined (Kind.CharacterString ∷ kinds) c usual are at = same_first (fields_in name_at (map kind_of (row_of kinds)) c) (fields_in name_at kinds c) (field_in name_at Kind.CharacterString c at) (joined kinds c usual are)
+joined (Kind.CountedOctets ∷ kinds) c usual are at = same_first (fields_in name_at (map kind_of (row_of kinds)) c) (fields_in name_at kinds c) (field_in name_at Kind.CountedOctets c at) (joined kinds c usual are)
+joined (Kind.CharacterStrings ∷ kinds) c usual are at = same_first (fields_in name_at (map kind_of (row_of kinds)) c) (fields_in name_at kinds c) (field_in name_at Kind.CharacterStrings c at) (joined kinds c usual are)
+joined (Kind.Options ∷ kinds) c usual are at = same_first (fields_in name_at (map kind_of (row_of kinds)) c) (fields_in name_at kinds c) (field_in name_at Kind.Options c at) (joined kinds c usual are)
+joined (Kind.TypeBitMaps ∷ kinds) c usual are at = same_first (fields_in name_at (map kind_of (row_of kinds)) c) (fields_in name_at kinds c) (field_in name_at Kind.TypeBitMaps c at) (joined kinds c usual are)
+joined (Kind.NonEmptyTypeBitMaps ∷ kinds) c usual are at = same_first (fields_in name_at (map kind_of (row_of kinds)) c) (fields_in name_at kinds c) (field_in name_at Kind.NonEmptyTypeBitMaps c at) (joined kinds c usual are)
+joined (Kind.Rest ∷ kinds) c usual are at = same_first (fields_in name_at (map kind_of (row_of kinds)) c) (fields_in name_at kinds c) (field_in name_at Kind.Rest c at) (joined kinds c usual are)
 
 -- ---- data
 

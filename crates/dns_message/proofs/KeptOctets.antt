@@ -14,9 +14,8 @@ use Rattle.dns_wire.proofs.NamesLemmas.{plain_name_leaves}
 use Rattle.dns_wire.proofs.Spelled.{plain_name_takes}
 use Rattle.dns_num.proofs.CountedData.{octets_prefix}
 use Rattle.dns_record.specs.Fields.{Field, field_octets, lowercased_field}
-use Rattle.dns_record.specs.Fields.FieldOf.{Compressible, Uncompressed, Raw, Sized, Byte, Number}
+use Rattle.dns_record.specs.Fields.FieldOf.{CompressibleName, UncompressedName, CharacterString, CountedOctets, CharacterStrings, OtherOctets, Byte, Number}
 use Rattle.dns_record.specs.Kinds.{Kind, field_in, field_of}
-use Rattle.dns_record.specs.Kinds.Kind.{OneNumber, OneByte as TheOneByte, SoMany as TheSoMany, CompressibleName as TheCompressibleName, UncompressedName as TheUncompressedName, CharacterString as TheCharacterString, CharacterStrings as TheCharacterStrings, Options as TheOptions, TypeBitMaps as TheTypeBitMaps, NonEmptyTypeBitMaps as TheNonEmptyTypeBitMaps, Rest as TheRest}
 use Rattle.dns_record.specs.Options.{options, is_option_data}
 use Rattle.dns_record.specs.CharacterStrings.{character_string, character_strings, is_txt_data}
 use Rattle.dns_record.specs.TypeBitMaps.{bitmap, some_bitmap, is_bitmap}
@@ -25,13 +24,13 @@ use Rattle.dns_record.proofs.UncompressedNames.{field_placed, is_uncompressed}
 use Rattle.dns_record.specs.FieldKinds.{is_name_kind, kind_of}
 use Rattle.dns_message.specs.LowercaseFields.{KeepsField}
 use Rattle.dns_record.specs.declared.field_kind.FieldKind.{FieldKind}
-use Rattle.dns_record.specs.declared.field_kind.FieldKind.TheVariants.{Fixed, CompressibleName, UncompressedName, CharacterString, CharacterStrings, Options, TypeBitMaps, NonEmptyTypeBitMaps, Rest}
+use Rattle.dns_record.specs.declared.field_kind.FieldKind.TheVariants as code
 
 -- numbers of two octets or of four
 abbrev pub is_usual : Kind → Bool
-is_usual (OneNumber w16) = true
-is_usual (OneNumber w32) = true
-is_usual (OneNumber w) = false
+is_usual (Kind.Number w16) = true
+is_usual (Kind.Number w32) = true
+is_usual (Kind.Number w) = false
 is_usual kind = true
 
 -- ---- a field
@@ -77,57 +76,61 @@ put_spelled f read bytes field rest spells e =
     spells p.value p.first ∙ ap (λ (g : Field). field_octets g ++ rest) p.is
 
 field_spelled : (kind : Kind) (bytes : List ℕ) (field : Field) (rest : List ℕ) → is_usual kind ≡ true → AreOctets bytes → field_of plain_name kind bytes ≡ Some (field, rest) → bytes ≡ field_octets field ++ rest
-field_spelled TheOneByte bytes field rest usual are e = put_spelled Byte (octet bytes) bytes field rest (λ b read. octet_spelled bytes b rest read) e
-field_spelled (OneNumber w16) bytes field rest usual are e = put_spelled (Number w16) (number w16 bytes) bytes field rest (λ n read. number_spelled w16 bytes n rest be_bytes_2 are read) e
-field_spelled (OneNumber w32) bytes field rest usual are e = put_spelled (Number w32) (number w32 bytes) bytes field rest (λ n read. number_spelled w32 bytes n rest be_bytes_4 are read) e
-field_spelled (OneNumber w) bytes field rest usual are e = absurd cc
-field_spelled (TheSoMany n) bytes field rest usual are e = put_spelled Raw (octets n bytes) bytes field rest (λ o read. (octets_spelled n bytes o rest read).1) e
-field_spelled TheCompressibleName bytes field rest usual are e = put_spelled Compressible (plain_name bytes) bytes field rest (λ labels read. (plain_name_takes bytes labels rest read).1) e
-field_spelled TheUncompressedName bytes field rest usual are e = put_spelled Uncompressed (plain_name bytes) bytes field rest (λ labels read. (plain_name_takes bytes labels rest read).1) e
-field_spelled TheCharacterString bytes field rest usual are e = put_spelled Sized (character_string bytes) bytes field rest (λ o read. text_spelled bytes o rest read) e
-field_spelled TheCharacterStrings bytes field rest usual are e = put_spelled Raw (character_strings bytes) bytes field rest (λ o read. tested_spelled is_txt_data bytes o rest read) e
-field_spelled TheOptions bytes field rest usual are e = put_spelled Raw (options bytes) bytes field rest (λ o read. tested_spelled is_option_data bytes o rest read) e
-field_spelled TheTypeBitMaps bytes field rest usual are e = put_spelled Raw (bitmap bytes) bytes field rest (λ o read. tested_spelled is_bitmap bytes o rest read) e
-field_spelled TheNonEmptyTypeBitMaps bytes field rest usual are e = put_spelled Raw (some_bitmap bytes) bytes field rest (λ o read. some_tested bytes o rest read) e
-field_spelled TheRest bytes field rest usual are e =
-    let same = some_pair_parts (Raw bytes) field [] rest e in
+field_spelled Kind.Byte bytes field rest usual are e = put_spelled Byte (octet bytes) bytes field rest (λ b read. octet_spelled bytes b rest read) e
+field_spelled (Kind.Number w16) bytes field rest usual are e = put_spelled (Number w16) (number w16 bytes) bytes field rest (λ n read. number_spelled w16 bytes n rest be_bytes_2 are read) e
+field_spelled (Kind.Number w32) bytes field rest usual are e = put_spelled (Number w32) (number w32 bytes) bytes field rest (λ n read. number_spelled w32 bytes n rest be_bytes_4 are read) e
+field_spelled (Kind.Number w) bytes field rest usual are e = absurd cc
+field_spelled (Kind.FixedOctets n) bytes field rest usual are e = put_spelled OtherOctets (octets n bytes) bytes field rest (λ o read. (octets_spelled n bytes o rest read).1) e
+field_spelled Kind.CompressibleName bytes field rest usual are e = put_spelled CompressibleName (plain_name bytes) bytes field rest (λ labels read. (plain_name_takes bytes labels rest read).1) e
+field_spelled Kind.UncompressedName bytes field rest usual are e = put_spelled UncompressedName (plain_name bytes) bytes field rest (λ labels read. (plain_name_takes bytes labels rest read).1) e
+field_spelled Kind.CharacterString bytes field rest usual are e = put_spelled CharacterString (character_string bytes) bytes field rest (λ o read. text_spelled bytes o rest read) e
+field_spelled Kind.CountedOctets bytes field rest usual are e = put_spelled CountedOctets (character_string bytes) bytes field rest (λ o read. text_spelled bytes o rest read) e
+field_spelled Kind.CharacterStrings bytes field rest usual are e = put_spelled CharacterStrings (character_strings bytes) bytes field rest (λ o read. tested_spelled is_txt_data bytes o rest read) e
+field_spelled Kind.Options bytes field rest usual are e = put_spelled OtherOctets (options bytes) bytes field rest (λ o read. tested_spelled is_option_data bytes o rest read) e
+field_spelled Kind.TypeBitMaps bytes field rest usual are e = put_spelled OtherOctets (bitmap bytes) bytes field rest (λ o read. tested_spelled is_bitmap bytes o rest read) e
+field_spelled Kind.NonEmptyTypeBitMaps bytes field rest usual are e = put_spelled OtherOctets (some_bitmap bytes) bytes field rest (λ o read. some_tested bytes o rest read) e
+field_spelled Kind.Rest bytes field rest usual are e =
+    let same = some_pair_parts (OtherOctets bytes) field [] rest e in
     sym (append-nil bytes) ∙ ap (λ (f : Field). field_octets f ++ []) same.0 ∙ ap (λ (l : List ℕ). field_octets field ++ l) same.1
 
 -- ---- kinds that are no names
 
 usual : (kind : FieldKind) → is_usual (kind_of kind) ≡ true
-usual (Fixed n) = refl
-usual CompressibleName = refl
-usual UncompressedName = refl
-usual CharacterString = refl
-usual CharacterStrings = refl
-usual Options = refl
-usual TypeBitMaps = refl
-usual NonEmptyTypeBitMaps = refl
-usual Rest = refl
+usual (code.Fixed n) = refl
+usual code.CompressibleName = refl
+usual code.UncompressedName = refl
+usual code.CharacterString = refl
+usual code.CountedOctets = refl
+usual code.CharacterStrings = refl
+usual code.Options = refl
+usual code.TypeBitMaps = refl
+usual code.NonEmptyTypeBitMaps = refl
+usual code.Rest = refl
 
 kept_uncompressed : (kind : FieldKind) → is_name_kind kind ≡ false → is_uncompressed (kind_of kind) ≡ true
-kept_uncompressed (Fixed n) kept = refl
-kept_uncompressed CompressibleName kept = absurd cc
-kept_uncompressed UncompressedName kept = absurd cc
-kept_uncompressed CharacterString kept = refl
-kept_uncompressed CharacterStrings kept = refl
-kept_uncompressed Options kept = refl
-kept_uncompressed TypeBitMaps kept = refl
-kept_uncompressed NonEmptyTypeBitMaps kept = refl
-kept_uncompressed Rest kept = refl
+kept_uncompressed (code.Fixed n) kept = refl
+kept_uncompressed code.CompressibleName kept = absurd cc
+kept_uncompressed code.UncompressedName kept = absurd cc
+kept_uncompressed code.CharacterString kept = refl
+kept_uncompressed code.CountedOctets kept = refl
+kept_uncompressed code.CharacterStrings kept = refl
+kept_uncompressed code.Options kept = refl
+kept_uncompressed code.TypeBitMaps kept = refl
+kept_uncompressed code.NonEmptyTypeBitMaps kept = refl
+kept_uncompressed code.Rest kept = refl
 
 -- and names are of two kinds
-pub other_name : (kind : FieldKind) → is_name_kind kind ≡ true → (kind ≡ CompressibleName → ⊥) → kind ≡ UncompressedName
-other_name (Fixed n) named other = absurd cc
-other_name CompressibleName named other = absurd (other refl)
-other_name UncompressedName named other = refl
-other_name CharacterString named other = absurd cc
-other_name CharacterStrings named other = absurd cc
-other_name Options named other = absurd cc
-other_name TypeBitMaps named other = absurd cc
-other_name NonEmptyTypeBitMaps named other = absurd cc
-other_name Rest named other = absurd cc
+pub other_name : (kind : FieldKind) → is_name_kind kind ≡ true → (kind ≡ code.CompressibleName → ⊥) → kind ≡ code.UncompressedName
+other_name (code.Fixed n) named other = absurd cc
+other_name code.CompressibleName named other = absurd (other refl)
+other_name code.UncompressedName named other = refl
+other_name code.CharacterString named other = absurd cc
+other_name code.CountedOctets named other = absurd cc
+other_name code.CharacterStrings named other = absurd cc
+other_name code.Options named other = absurd cc
+other_name code.TypeBitMaps named other = absurd cc
+other_name code.NonEmptyTypeBitMaps named other = absurd cc
+other_name code.Rest named other = absurd cc
 
 -- what was put into something that has no name
 stays : {A : Type 0} (f : A → Field) (read : Option (A × List ℕ)) (field : Field) (rest : List ℕ) → ((v : A) → lowercased_field (f v) ≡ f v) → first_to f read ≡ Some (field, rest) → lowercased_field field ≡ field
@@ -137,15 +140,16 @@ stays f read field rest same e =
 
 -- a field of another kind has nothing in lowercase
 kept_stays : (kind : FieldKind) (bytes : List ℕ) (field : Field) (rest : List ℕ) → is_name_kind kind ≡ false → field_of plain_name (kind_of kind) bytes ≡ Some (field, rest) → lowercased_field field ≡ field
-kept_stays (Fixed n) bytes field rest kept e = stays Raw (octets n bytes) field rest (λ v. refl) e
-kept_stays CompressibleName bytes field rest kept e = absurd cc
-kept_stays UncompressedName bytes field rest kept e = absurd cc
-kept_stays CharacterString bytes field rest kept e = stays Sized (character_string bytes) field rest (λ v. refl) e
-kept_stays CharacterStrings bytes field rest kept e = stays Raw (character_strings bytes) field rest (λ v. refl) e
-kept_stays Options bytes field rest kept e = stays Raw (options bytes) field rest (λ v. refl) e
-kept_stays TypeBitMaps bytes field rest kept e = stays Raw (bitmap bytes) field rest (λ v. refl) e
-kept_stays NonEmptyTypeBitMaps bytes field rest kept e = stays Raw (some_bitmap bytes) field rest (λ v. refl) e
-kept_stays Rest bytes field rest kept e = let same = (some_pair_parts (Raw bytes) field [] rest e).0 in ap lowercased_field (sym same) ∙ same
+kept_stays (code.Fixed n) bytes field rest kept e = stays OtherOctets (octets n bytes) field rest (λ v. refl) e
+kept_stays code.CompressibleName bytes field rest kept e = absurd cc
+kept_stays code.UncompressedName bytes field rest kept e = absurd cc
+kept_stays code.CharacterString bytes field rest kept e = stays CharacterString (character_string bytes) field rest (λ v. refl) e
+kept_stays code.CountedOctets bytes field rest kept e = stays CountedOctets (character_string bytes) field rest (λ v. refl) e
+kept_stays code.CharacterStrings bytes field rest kept e = stays CharacterStrings (character_strings bytes) field rest (λ v. refl) e
+kept_stays code.Options bytes field rest kept e = stays OtherOctets (options bytes) field rest (λ v. refl) e
+kept_stays code.TypeBitMaps bytes field rest kept e = stays OtherOctets (bitmap bytes) field rest (λ v. refl) e
+kept_stays code.NonEmptyTypeBitMaps bytes field rest kept e = stays OtherOctets (some_bitmap bytes) field rest (λ v. refl) e
+kept_stays code.Rest bytes field rest kept e = let same = (some_pair_parts (OtherOctets bytes) field [] rest e).0 in ap lowercased_field (sym same) ∙ same
 
 -- ---- such a field at a place
 

@@ -12,9 +12,8 @@ use Rattle.dns_wire.specs.Reading.{AreOctets, octet, octets, number}
 use Rattle.dns_wire.specs.Steps.{◌>>=◌, first_to}
 use Rattle.dns_wire.proofs.Spelled.{plain_name_takes, plain_name_again}
 use Rattle.dns_record.specs.Fields.{Field, field_octets, fields_octets}
-use Rattle.dns_record.specs.Fields.FieldOf.{Compressible, Uncompressed, Raw, Sized, Byte, Number}
+use Rattle.dns_record.specs.Fields.FieldOf.{CompressibleName, UncompressedName, CharacterString, CountedOctets, CharacterStrings, OtherOctets, Byte, Number}
 use Rattle.dns_record.specs.Kinds.{Kind, field_of, fields_of}
-use Rattle.dns_record.specs.Kinds.Kind.{OneByte, OneNumber, SoMany, CompressibleName, UncompressedName, CharacterString, CharacterStrings, Options, TypeBitMaps, NonEmptyTypeBitMaps, Rest}
 use Rattle.dns_record.specs.Options.{options, is_option_data}
 use Rattle.dns_record.specs.Formats.{rdata_format}
 use Rattle.dns_record.specs.CharacterStrings.{character_string, character_strings, is_txt_data}
@@ -33,17 +32,18 @@ FitsWidth w n = ⊥
 
 -- a field of this kind
 abbrev pub Suits : Kind → Field → Type 0
-Suits OneByte (Byte b) = Unit {0}
-Suits (OneNumber w) (Number v n) = (v ≡ w) × FitsWidth w n
-Suits (SoMany n) (Raw octets) = length octets ≡ n
-Suits CompressibleName (Compressible labels) = IsName labels
-Suits UncompressedName (Uncompressed labels) = IsName labels
-Suits CharacterString (Sized octets) = Unit {0}
-Suits CharacterStrings (Raw octets) = is_txt_data octets ≡ true
-Suits Options (Raw octets) = is_option_data octets ≡ true
-Suits TypeBitMaps (Raw octets) = is_bitmap octets ≡ true
-Suits NonEmptyTypeBitMaps (Raw octets) = (0 < length octets) × (is_bitmap octets ≡ true)
-Suits Rest (Raw octets) = Unit {0}
+Suits Kind.Byte (Byte b) = Unit {0}
+Suits (Kind.Number w) (Number v n) = (v ≡ w) × FitsWidth w n
+Suits (Kind.FixedOctets n) (OtherOctets octets) = length octets ≡ n
+Suits Kind.CompressibleName (CompressibleName labels) = IsName labels
+Suits Kind.UncompressedName (UncompressedName labels) = IsName labels
+Suits Kind.CharacterString (CharacterString octets) = Unit {0}
+Suits Kind.CountedOctets (CountedOctets octets) = Unit {0}
+Suits Kind.CharacterStrings (CharacterStrings octets) = is_txt_data octets ≡ true
+Suits Kind.Options (OtherOctets octets) = is_option_data octets ≡ true
+Suits Kind.TypeBitMaps (OtherOctets octets) = is_bitmap octets ≡ true
+Suits Kind.NonEmptyTypeBitMaps (OtherOctets octets) = (0 < length octets) × (is_bitmap octets ≡ true)
+Suits Kind.Rest (OtherOctets octets) = Unit {0}
 Suits kind field = ⊥
 
 -- fields of these kinds
@@ -56,18 +56,18 @@ AllSuit kinds fields = ⊥
 
 -- a kind that reads all that is left
 abbrev pub is_last : Kind → Bool
-is_last CharacterStrings = true
-is_last Options = true
-is_last TypeBitMaps = true
-is_last NonEmptyTypeBitMaps = true
-is_last Rest = true
+is_last Kind.CharacterStrings = true
+is_last Kind.Options = true
+is_last Kind.TypeBitMaps = true
+is_last Kind.NonEmptyTypeBitMaps = true
+is_last Kind.Rest = true
 is_last kind = false
 
 -- numbers in RDATA formats have two octets or four
 abbrev pub is_known : Kind → Bool
-is_known (OneNumber w16) = true
-is_known (OneNumber w32) = true
-is_known (OneNumber w) = false
+is_known (Kind.Number w16) = true
+is_known (Kind.Number w32) = true
+is_known (Kind.Number w) = false
 is_known kind = true
 
 abbrev pub is_none : List Kind → Bool
@@ -128,27 +128,28 @@ number_back w128 n rest h = absurd h
 name_back : (labels : List (List ℕ)) (rest : List ℕ) → IsName labels → plain_name (wire labels ++ rest) ≡ Some (labels, rest)
 name_back labels rest is = plain_name_again (wire labels ++ rest) labels rest is refl
 
-whole_back : (b : Bool) (o : List ℕ) → b ≡ true → ◌≡◌ {A = Option (Field × List ℕ)} (first_to Raw (cond {A = Option (List ℕ × List ℕ)} b (Some (o, [])) None)) (Some (Raw o, []))
-whole_back b o e = rw e refl
+whole_back : (to : List ℕ → Field) (b : Bool) (o : List ℕ) → b ≡ true → ◌≡◌ {A = Option (Field × List ℕ)} (first_to to (cond {A = Option (List ℕ × List ℕ)} b (Some (o, [])) None)) (Some (to o, []))
+whole_back to b o e = rw e refl
 
-some_back : (o : List ℕ) → 0 < length o → is_bitmap o ≡ true → ◌≡◌ {A = Option (Field × List ℕ)} (first_to Raw (some_bitmap o)) (Some (Raw o, []))
+some_back : (o : List ℕ) → 0 < length o → is_bitmap o ≡ true → ◌≡◌ {A = Option (Field × List ℕ)} (first_to OtherOctets (some_bitmap o)) (Some (OtherOctets o, []))
 some_back [] some e = absurd (omega arith)
 some_back (x ∷ o) some e = rw e refl
 
 pub field_back : (kind : Kind) (f : Field) (rest : List ℕ) → Suits kind f → (is_last kind ≡ true → rest ≡ []) → field_of plain_name kind (field_octets f ++ rest) ≡ Some (f, rest)
-field_back OneByte (Byte b) rest is last = refl
-field_back (OneNumber w) (Number v n) rest is last = rw is.0 (ap (first_to (Number w)) (number_back w n rest is.1))
-field_back (SoMany n) (Raw o) rest is last = ap (first_to Raw) (octets_read n o rest is)
-field_back CompressibleName (Compressible labels) rest is last = ap (first_to Compressible) (name_back labels rest is)
-field_back UncompressedName (Uncompressed labels) rest is last = ap (first_to Uncompressed) (name_back labels rest is)
-field_back CharacterString (Sized o) rest is last = ap (first_to Sized) (text_read o rest)
-field_back CharacterStrings (Raw o) rest is last = rw (last refl, append-nil) (whole_back (is_txt_data o) o is)
-field_back Options (Raw o) rest is last = rw (last refl, append-nil) (whole_back (is_option_data o) o is)
-field_back TypeBitMaps (Raw o) rest is last = rw (last refl, append-nil) (whole_back (is_bitmap o) o is)
-field_back NonEmptyTypeBitMaps (Raw o) rest is last =
-    ap (λ (l : List ℕ). first_to Raw (some_bitmap (o ++ l))) (last refl) ∙ ap (λ (l : List ℕ). first_to Raw (some_bitmap l)) (append-nil o)
-    ∙ some_back o is.0 is.1 ∙ ap (λ (l : List ℕ). Some (Raw o, l)) (sym (last refl))
-field_back Rest (Raw o) rest is last = rw (last refl, append-nil) refl
+field_back Kind.Byte (Byte b) rest is last = refl
+field_back (Kind.Number w) (Number v n) rest is last = rw is.0 (ap (first_to (Number w)) (number_back w n rest is.1))
+field_back (Kind.FixedOctets n) (OtherOctets o) rest is last = ap (first_to OtherOctets) (octets_read n o rest is)
+field_back Kind.CompressibleName (CompressibleName labels) rest is last = ap (first_to CompressibleName) (name_back labels rest is)
+field_back Kind.UncompressedName (UncompressedName labels) rest is last = ap (first_to UncompressedName) (name_back labels rest is)
+field_back Kind.CharacterString (CharacterString o) rest is last = ap (first_to CharacterString) (text_read o rest)
+field_back Kind.CountedOctets (CountedOctets o) rest is last = ap (first_to CountedOctets) (text_read o rest)
+field_back Kind.CharacterStrings (CharacterStrings o) rest is last = rw (last refl, append-nil) (whole_back CharacterStrings (is_txt_data o) o is)
+field_back Kind.Options (OtherOctets o) rest is last = rw (last refl, append-nil) (whole_back OtherOctets (is_option_data o) o is)
+field_back Kind.TypeBitMaps (OtherOctets o) rest is last = rw (last refl, append-nil) (whole_back OtherOctets (is_bitmap o) o is)
+field_back Kind.NonEmptyTypeBitMaps (OtherOctets o) rest is last =
+    ap (λ (l : List ℕ). first_to OtherOctets (some_bitmap (o ++ l))) (last refl) ∙ ap (λ (l : List ℕ). first_to OtherOctets (some_bitmap l)) (append-nil o)
+    ∙ some_back o is.0 is.1 ∙ ap (λ (l : List ℕ). Some (OtherOctets o, l)) (sym (last refl))
+field_back Kind.Rest (OtherOctets o) rest is last = rw (last refl, append-nil) refl
 field_back kind f rest is last = absurd is
 
 last_none : (b : Bool) (kinds : List Kind) → b ≡ true → (not b || is_none kinds) ≡ true → is_none kinds ≡ true
@@ -184,7 +185,7 @@ counted : {A : Type 0} (b : Bool) (n : ℕ) (bytes : List ℕ) (x y : A) (rest :
 counted true n bytes x y rest is e = absurd cc
 counted false n bytes x y rest is e = let same = some_pair_parts x y (drop n bytes) rest e in record { enough = ltb-false _ _ is; same = same.0; left = same.1 }
 
-number_reads : (w : Width) (n : ℕ) (bytes rest : List ℕ) → is_known (OneNumber w) ≡ true → AreOctets bytes → number w bytes ≡ Some (n, rest) → FitsWidth w n × (bytes ≡ to_be_bytes w n ++ rest)
+number_reads : (w : Width) (n : ℕ) (bytes rest : List ℕ) → is_known (Kind.Number w) ≡ true → AreOctets bytes → number w bytes ≡ Some (n, rest) → FitsWidth w n × (bytes ≡ to_be_bytes w n ++ rest)
 number_reads w8 n bytes rest known h e = absurd cc
 number_reads w16 n bytes rest known h e =
     let c = counted (ltb (length bytes) 2) 2 bytes (from_be_bytes w16 (take 2 bytes)) n rest refl e in
@@ -233,19 +234,20 @@ some_reads o (x ∷ bytes) rest e =
     (omega (arith, ap length w.1), h.0, h.1)
 
 field_reads : (kind : Kind) (f : Field) (bytes rest : List ℕ) → is_known kind ≡ true → AreOctets bytes → field_of plain_name kind bytes ≡ Some (f, rest) → Reads kind f bytes rest
-field_reads OneByte f bytes rest known h e = reads_as OneByte Byte (octet bytes) f bytes rest e (λ x r. (tt, octet_spelled bytes x rest r))
-field_reads (OneNumber w) f bytes rest known h e = reads_as (OneNumber w) (Number w) (number w bytes) f bytes rest e (λ x r. let k = number_reads w x bytes rest known h r in ((refl, k.0), k.1))
-field_reads (SoMany n) f bytes rest known h e = reads_as (SoMany n) Raw (octets n bytes) f bytes rest e (λ x r. octets_spelled n bytes x rest r)
-field_reads CompressibleName f bytes rest known h e = reads_as CompressibleName Compressible (plain_name bytes) f bytes rest e (λ x r. plain_name_takes bytes x rest r)
-field_reads UncompressedName f bytes rest known h e = reads_as UncompressedName Uncompressed (plain_name bytes) f bytes rest e (λ x r. plain_name_takes bytes x rest r)
-field_reads CharacterString f bytes rest known h e = reads_as CharacterString Sized (character_string bytes) f bytes rest e (λ x r. (tt, text_spelled bytes x rest r))
-field_reads CharacterStrings f bytes rest known h e = reads_as CharacterStrings Raw (character_strings bytes) f bytes rest e (λ x r. all_reads is_txt_data x bytes rest r)
-field_reads Options f bytes rest known h e = reads_as Options Raw (options bytes) f bytes rest e (λ x r. all_reads is_option_data x bytes rest r)
-field_reads TypeBitMaps f bytes rest known h e = reads_as TypeBitMaps Raw (bitmap bytes) f bytes rest e (λ x r. all_reads is_bitmap x bytes rest r)
-field_reads NonEmptyTypeBitMaps f bytes rest known h e = reads_as NonEmptyTypeBitMaps Raw (some_bitmap bytes) f bytes rest e (λ x r. let k = some_reads x bytes rest r in ((k.0, k.1), k.2))
-field_reads Rest f bytes rest known h e =
-    let same = some_pair_parts (Raw bytes) f [] rest e in
-    subst (λ (g : Field). Reads Rest g bytes rest) same.0 (record { suits = tt; parts = sym (ap (λ (l : List ℕ). bytes ++ l) (sym same.1) ∙ append-nil bytes) })
+field_reads Kind.Byte f bytes rest known h e = reads_as Kind.Byte Byte (octet bytes) f bytes rest e (λ x r. (tt, octet_spelled bytes x rest r))
+field_reads (Kind.Number w) f bytes rest known h e = reads_as (Kind.Number w) (Number w) (number w bytes) f bytes rest e (λ x r. let k = number_reads w x bytes rest known h r in ((refl, k.0), k.1))
+field_reads (Kind.FixedOctets n) f bytes rest known h e = reads_as (Kind.FixedOctets n) OtherOctets (octets n bytes) f bytes rest e (λ x r. octets_spelled n bytes x rest r)
+field_reads Kind.CompressibleName f bytes rest known h e = reads_as Kind.CompressibleName CompressibleName (plain_name bytes) f bytes rest e (λ x r. plain_name_takes bytes x rest r)
+field_reads Kind.UncompressedName f bytes rest known h e = reads_as Kind.UncompressedName UncompressedName (plain_name bytes) f bytes rest e (λ x r. plain_name_takes bytes x rest r)
+field_reads Kind.CharacterString f bytes rest known h e = reads_as Kind.CharacterString CharacterString (character_string bytes) f bytes rest e (λ x r. (tt, text_spelled bytes x rest r))
+field_reads Kind.CountedOctets f bytes rest known h e = reads_as Kind.CountedOctets CountedOctets (character_string bytes) f bytes rest e (λ x r. (tt, text_spelled bytes x rest r))
+field_reads Kind.CharacterStrings f bytes rest known h e = reads_as Kind.CharacterStrings CharacterStrings (character_strings bytes) f bytes rest e (λ x r. all_reads is_txt_data x bytes rest r)
+field_reads Kind.Options f bytes rest known h e = reads_as Kind.Options OtherOctets (options bytes) f bytes rest e (λ x r. all_reads is_option_data x bytes rest r)
+field_reads Kind.TypeBitMaps f bytes rest known h e = reads_as Kind.TypeBitMaps OtherOctets (bitmap bytes) f bytes rest e (λ x r. all_reads is_bitmap x bytes rest r)
+field_reads Kind.NonEmptyTypeBitMaps f bytes rest known h e = reads_as Kind.NonEmptyTypeBitMaps OtherOctets (some_bitmap bytes) f bytes rest e (λ x r. let k = some_reads x bytes rest r in ((k.0, k.1), k.2))
+field_reads Kind.Rest f bytes rest known h e =
+    let same = some_pair_parts (OtherOctets bytes) f [] rest e in
+    subst (λ (g : Field). Reads Kind.Rest g bytes rest) same.0 (record { suits = tt; parts = sym (ap (λ (l : List ℕ). bytes ++ l) (sym same.1) ∙ append-nil bytes) })
 
 abbrev ReadsAll : List Kind → List Field → List ℕ → List ℕ → Type 0
 ReadsAll kinds fs bytes rest = AllSuit kinds fs × (bytes ≡ fields_octets fs ++ rest)

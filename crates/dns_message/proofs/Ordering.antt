@@ -16,7 +16,7 @@ use Rattle.dns_record.specs.Records.{octets_of_parts}
 use Rattle.dns_message.specs.Canonical.{canonical_wire, is_not_opt}
 use Rattle.dns_record.specs.Types.{is_lowercased}
 use Rattle.dns_record.specs.Fields.{Field, field_octets, fields_octets, lowercased_field, canonical_fields}
-use Rattle.dns_record.specs.Fields.FieldOf.{Compressible, Uncompressed, Raw, Sized, Byte, Number}
+use Rattle.dns_record.specs.Fields.FieldOf.{CompressibleName, UncompressedName, CharacterString, CountedOctets, CharacterStrings, OtherOctets, Byte, Number}
 use Rattle.dns_message.specs.Messages.{RecordValue}
 use Rattle.dns_message.specs.Order.{SortKey, sort_key, sort_key_cmp, record_cmp, Before, precedes, inserted, in_order, octets_of_key}
 use Rattle.dns_message.specs.Sorted.{times, NoneBelow, Ascends}
@@ -47,10 +47,12 @@ four_octets n m x y p q e =
 
 -- lowercase letters change no length
 field_long : (field : Field) → length (field_octets (lowercased_field field)) ≡ length (field_octets field)
-field_long (Compressible labels) = lowered_long labels
-field_long (Uncompressed labels) = lowered_long labels
-field_long (Raw octets) = refl
-field_long (Sized octets) = refl
+field_long (CompressibleName labels) = lowered_long labels
+field_long (UncompressedName labels) = lowered_long labels
+field_long (CharacterString octets) = refl
+field_long (CountedOctets octets) = refl
+field_long (CharacterStrings octets) = refl
+field_long (OtherOctets octets) = refl
 field_long (Byte b) = refl
 field_long (Number w n) = refl
 

@@ -8,7 +8,7 @@ use Rattle.dns_wire.specs.Pointers.{name_at}
 use Rattle.dns_wire.specs.Reading.{AreOctets, all_at}
 use Rattle.dns_record.specs.Data.{data_as, data_in}
 use Rattle.dns_record.specs.Fields.{Field, canonical_fields, fields_octets, lowercased_field}
-use Rattle.dns_record.specs.Fields.FieldOf.{Raw}
+use Rattle.dns_record.specs.Fields.FieldOf.{OtherOctets}
 use Rattle.dns_record.specs.Formats.{rdata_format}
 use Rattle.dns_record.specs.Kinds.{Kind, fields_in}
 use Rattle.dns_record.specs.Records.{octets_of_parts}
@@ -45,9 +45,9 @@ key_added : (r : RecordValue) (old new : List SortKey) → is_not_opt r ≡ true
 key_added r old new is-not added = rw is-not added
 
 -- octets as data of whatever type
-pub raw_octets : (rtype : ℕ) (octets : List ℕ) → fields_octets (canonical_fields rtype (Raw octets ∷ [])) ≡ octets
-raw_octets rtype octets = by (is_lowercased rtype) where
-  by : (b : Bool) → fields_octets (cond b (map lowercased_field (Raw octets ∷ [])) (Raw octets ∷ [])) ≡ octets
+pub other_octets : (rtype : ℕ) (octets : List ℕ) → fields_octets (canonical_fields rtype (OtherOctets octets ∷ [])) ≡ octets
+other_octets rtype octets = by (is_lowercased rtype) where
+  by : (b : Bool) → fields_octets (cond b (map lowercased_field (OtherOctets octets ∷ [])) (OtherOctets octets ∷ [])) ≡ octets
   by true = append-nil octets
   by false = append-nil octets
 
@@ -144,11 +144,11 @@ pub parts_put : (owner : List (List ℕ)) (rtype class ttl : ℕ) (body keys oct
     → more_spans ≡ spans ++ s ∷ [] → s.owner_size ≡ length (wire owner) → s.size ≡ length (wire owner) + 10 + length body → s.class ≡ class → s.rtype ≡ rtype → s.ttl ≡ ttl
     → (forms_in more_spans more_octets ≡ forms_in spans octets ++ record { owner = key owner; class = class; rtype = rtype; octets = body; ttl = ttl } ∷ []) × AreForms (forms_in more_spans more_octets) more_keys more_octets more_spans
 parts_put owner rtype class ttl body keys octets spans more_keys more_octets more_spans s so name low short keys-are octets-are spans-are owner_size-is size-is class-is rtype-is ttl-is =
-    let r : RecordValue = record { owner = owner; rtype = rtype; class = class; ttl = ttl; content = Raw body ∷ [] } in
-    let raw = raw_octets rtype body in
-    let whole : octets_of_parts (wire owner) rtype class ttl body ≡ canonical_wire r = λ i. octets_of_parts (wire (sym low i)) rtype class ttl (sym raw i) in
+    let r : RecordValue = record { owner = owner; rtype = rtype; class = class; ttl = ttl; content = OtherOctets body ∷ [] } in
+    let same = other_octets rtype body in
+    let whole : octets_of_parts (wire owner) rtype class ttl body ≡ canonical_wire r = λ i. octets_of_parts (wire (sym low i)) rtype class ttl (sym same i) in
     let long : length (canonical_wire r) ≡ length (wire owner) + (10 + length body) = ap length (sym whole) ∙ ap (λ (l : List (List ℕ)). length (octets_of_parts (wire l) rtype class ttl body)) (sym low) ∙ parts_long owner rtype class ttl body in
     let put = record_put r keys octets spans more_keys more_octets more_spans s so name (omega (arith, long, short, name.size)) (omega (arith, ap length raw, short)) keys-are
     (octets-are ∙ assoc octets (wire owner) (to_be_bytes w16 rtype) (to_be_bytes w16 class) (to_be_bytes w32 ttl) (to_be_bytes w16 (length body)) body ∙ ap (λ (l : List ℕ). octets ++ l) whole)
     spans-are owner_size-is (omega (arith, size-is, long)) class-is rtype-is ttl-is in
-    (put.0 ∙ ap (λ (l : List ℕ). forms_in spans octets ++ record { owner = key owner; class = class; rtype = rtype; octets = l; ttl = ttl } ∷ []) raw, put.1)
+    (put.0 ∙ ap (λ (l : List ℕ). forms_in spans octets ++ record { owner = key owner; class = class; rtype = rtype; octets = l; ttl = ttl } ∷ []) same, put.1)

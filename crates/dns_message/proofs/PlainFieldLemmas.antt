@@ -9,9 +9,8 @@ use Rattle.dns_wire.specs.Octets.{Octets}
 use Rattle.dns_wire.specs.Reading.{all_of}
 use Rattle.dns_wire.specs.Steps.{◌>>=◌, first_to}
 use Rattle.dns_record.specs.Fields.{Field}
-use Rattle.dns_record.specs.Fields.FieldOf.{Raw}
-use Rattle.dns_record.specs.Kinds.{field_of, fields_of}
-use Rattle.dns_record.specs.Kinds.Kind.{SoMany, NonEmptyTypeBitMaps}
+use Rattle.dns_record.specs.Fields.FieldOf.{OtherOctets}
+use Rattle.dns_record.specs.Kinds.{Kind, field_of, fields_of}
 use Rattle.dns_record.specs.TypeBitMaps.{is_bitmap}
 use Rattle.dns_record.specs.FieldKinds.{kind_of}
 use Rattle.dns_message.specs.PlainFields.{AfterField, AreFields}
@@ -24,11 +23,11 @@ use denote.Ref.{Bor}
 abbrev pub AfterOctets : ℕ → Octets → Option (Bor Octets) → Type 0
 AfterOctets size bytes rest = MatchOption rest (length bytes < size) (λ rest. (size ≤ length bytes) × (rest.now ≡ drop size bytes))
 
-pub after_many : (size : ℕ) (bytes : Octets) (rest : Option (Bor Octets)) → AfterOctets size bytes rest → AfterField (field_of plain_name (SoMany size) bytes) rest
+pub after_many : (size : ℕ) (bytes : Octets) (rest : Option (Bor Octets)) → AfterOctets size bytes rest → AfterField (field_of plain_name (Kind.FixedOctets size) bytes) rest
 after_many size bytes None h = let short : ltb (length bytes) size ≡ true = lt-ltb _ _ h in rw short refl
 after_many size bytes (Some rest) h =
     let long : ltb (length bytes) size ≡ false = le-ltb _ _ h.0 in
-    (Raw (take size bytes), rw (long, h.1) refl)
+    (OtherOctets (take size bytes), rw (long, h.1) refl)
 
 -- ---- names and strings
 
@@ -44,18 +43,18 @@ after_put put read (Some rest) h = (put h.0, ap (first_to put) h.1)
 abbrev pub NoneAfter : Bool → Option (Bor Octets) → Type 0
 NoneAfter good rest = MatchOption rest (good ≡ false) (λ rest. (good ≡ true) × (rest.now ≡ []))
 
-pub after_tested : (good : Bool) (bytes : Octets) (rest : Option (Bor Octets)) → NoneAfter good rest → AfterField (first_to Raw (cond {A = Option (Octets × Octets)} good (Some (bytes, [])) None)) rest
-after_tested good bytes None h = rw h refl
-after_tested good bytes (Some rest) h = (Raw bytes, rw (h.0, h.1) refl)
+pub after_tested : (put : Octets → Field) (good : Bool) (bytes : Octets) (rest : Option (Bor Octets)) → NoneAfter good rest → AfterField (first_to put (cond {A = Option (Octets × Octets)} good (Some (bytes, [])) None)) rest
+after_tested put good bytes None h = rw h refl
+after_tested put good bytes (Some rest) h = (put bytes, rw (h.0, h.1) refl)
 
 -- a window at least
-pub no_windows : (bytes : Octets) → length bytes ≡ 0 → field_of plain_name NonEmptyTypeBitMaps bytes ≡ None
+pub no_windows : (bytes : Octets) → length bytes ≡ 0 → field_of plain_name Kind.NonEmptyTypeBitMaps bytes ≡ None
 no_windows [] e = refl
 no_windows (b ∷ bytes) e = absurd (omega arith)
 
-pub after_windows : (good : Bool) (bytes : Octets) (rest : Option (Bor Octets)) → good ≡ is_bitmap bytes → 0 < length bytes → NoneAfter good rest → AfterField (field_of plain_name NonEmptyTypeBitMaps bytes) rest
+pub after_windows : (good : Bool) (bytes : Octets) (rest : Option (Bor Octets)) → good ≡ is_bitmap bytes → 0 < length bytes → NoneAfter good rest → AfterField (field_of plain_name Kind.NonEmptyTypeBitMaps bytes) rest
 after_windows good [] rest is some h = absurd (omega arith)
-after_windows good (b ∷ bytes) rest is some h = rw (← is) (after_tested good (b ∷ bytes) rest h)
+after_windows good (b ∷ bytes) rest is some h = rw (← is) (after_tested OtherOctets good (b ∷ bytes) rest h)
 
 -- ---- fields one after another
 

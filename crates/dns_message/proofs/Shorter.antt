@@ -9,7 +9,7 @@ use Rattle.dns_wire.specs.Names.{labels_wire, wire}
 use Rattle.dns_wire.specs.Layout.{list_writes, part_writes, laid}
 use Rattle.dns_num.specs.InMessage.{zeros}
 use Rattle.dns_record.specs.Fields.{Field, field_octets, fields_octets}
-use Rattle.dns_record.specs.Fields.FieldOf.{Compressible, Uncompressed, Raw, Sized, Byte, Number}
+use Rattle.dns_record.specs.Fields.FieldOf.{CompressibleName, UncompressedName, CharacterString, CountedOctets, CharacterStrings, OtherOctets, Byte, Number}
 use Rattle.dns_record.specs.InMessage.{fixed_header}
 use Rattle.dns_message.specs.Built.{field_part, built}
 use Rattle.dns_message.specs.Canonical.{record_octets}
@@ -40,10 +40,12 @@ name_no_longer labels contents places = by (longest_recorded contents places 0 l
 -- ---- fields, and records
 
 field_no_longer : (field : Field) (contents places : List ℕ) → length (part_writes (field_part field) contents places).0 ≤ length (field_octets field)
-field_no_longer (Compressible labels) contents places = name_no_longer labels contents places
-field_no_longer (Uncompressed labels) contents places = omega arith
-field_no_longer (Raw octets) contents places = omega arith
-field_no_longer (Sized octets) contents places = omega arith
+field_no_longer (CompressibleName labels) contents places = name_no_longer labels contents places
+field_no_longer (UncompressedName labels) contents places = omega arith
+field_no_longer (CharacterString octets) contents places = omega arith
+field_no_longer (CountedOctets octets) contents places = omega arith
+field_no_longer (CharacterStrings octets) contents places = omega arith
+field_no_longer (OtherOctets octets) contents places = omega arith
 field_no_longer (Byte b) contents places = omega arith
 field_no_longer (Number w n) contents places = omega arith
 

@@ -10,10 +10,9 @@ use Rattle.dns_wire.specs.Pointers.Segment.{at_root, at_label, at_pointer}
 use Rattle.dns_wire.specs.Reading.{AreOctets}
 use Rattle.dns_wire.proofs.Following.{name_at_name}
 use Rattle.dns_record.specs.Fields.{Field, field_octets, fields_octets}
-use Rattle.dns_record.specs.Fields.FieldOf.{Compressible, Uncompressed, Raw, Sized, Byte, Number}
+use Rattle.dns_record.specs.Fields.FieldOf.{CompressibleName, UncompressedName, CharacterString, CountedOctets, CharacterStrings, OtherOctets, Byte, Number}
 use Rattle.dns_record.specs.InPlace.{OctetsAt, NumberAt, FieldAt, FieldsAt, RecordAt}
 use Rattle.dns_record.specs.Kinds.{Kind}
-use Rattle.dns_record.specs.Kinds.Kind.{OneByte, OneNumber, SoMany, CompressibleName, UncompressedName, CharacterString, CharacterStrings, Options, TypeBitMaps, NonEmptyTypeBitMaps, Rest}
 use Rattle.dns_record.specs.Formats.{rdata_format}
 use Rattle.dns_record.proofs.Bitmaps.{is_this_bitmap}
 use Rattle.dns_record.proofs.Opted.{are_these_options}
@@ -53,7 +52,7 @@ number_2 contents at n end are is = let o = octets_up_to 2 (drop at contents) (o
 number_4 : (contents : List ℕ) (at n end : ℕ) → AreOctets contents → NumberAt contents at w32 n end → n < 2 ^ 32
 number_4 contents at n end are is = let o = octets_up_to 4 (drop at contents) (octets_from at contents are) in omega (arith, is.is, o 0, o 1, o 2, o 3)
 
-number_fits : (w : Width) (contents : List ℕ) (at n end : ℕ) → is_known (OneNumber w) ≡ true → AreOctets contents → NumberAt contents at w n end → FitsWidth w n
+number_fits : (w : Width) (contents : List ℕ) (at n end : ℕ) → is_known (Kind.Number w) ≡ true → AreOctets contents → NumberAt contents at w n end → FitsWidth w n
 number_fits w8 contents at n end known are is = absurd cc
 number_fits w16 contents at n end known are is = number_2 contents at n end are is
 number_fits w32 contents at n end known are is = number_4 contents at n end are is
@@ -70,31 +69,33 @@ number_octets w128 n fits = absurd fits
 -- ---- fields that are in a message
 
 field_suits : (kind : Kind) (contents : List ℕ) (at : ℕ) (f : Field) (end : ℕ) → is_known kind ≡ true → AreOctets contents → FieldAt kind contents at f end → Suits kind f
-field_suits OneByte contents at (Byte b) end known are is = tt
-field_suits (OneNumber w) contents at (Number v n) end known are is = (is.0, number_fits w contents at n end known are is.1)
-field_suits (SoMany n) contents at (Raw octets) end known are is = is.0
-field_suits CompressibleName contents at (Compressible labels) end known are is = name_at_name contents at labels end is
-field_suits UncompressedName contents at (Uncompressed labels) end known are is = is.name
-field_suits CharacterString contents at (Sized octets) end known are is = tt
-field_suits CharacterStrings contents at (Raw octets) end known are is = are_character_strings octets is.2
-field_suits Options contents at (Raw octets) end known are is = are_these_options octets is.2
-field_suits TypeBitMaps contents at (Raw octets) end known are is = is_this_bitmap octets is.2
-field_suits NonEmptyTypeBitMaps contents at (Raw octets) end known are is = (omega (arith, is.3), is_this_bitmap octets is.2)
-field_suits Rest contents at (Raw octets) end known are is = tt
+field_suits Kind.Byte contents at (Byte b) end known are is = tt
+field_suits (Kind.Number w) contents at (Number v n) end known are is = (is.0, number_fits w contents at n end known are is.1)
+field_suits (Kind.FixedOctets n) contents at (OtherOctets octets) end known are is = is.0
+field_suits Kind.CompressibleName contents at (CompressibleName labels) end known are is = name_at_name contents at labels end is
+field_suits Kind.UncompressedName contents at (UncompressedName labels) end known are is = is.name
+field_suits Kind.CharacterString contents at (CharacterString octets) end known are is = tt
+field_suits Kind.CountedOctets contents at (CountedOctets octets) end known are is = tt
+field_suits Kind.CharacterStrings contents at (CharacterStrings octets) end known are is = are_character_strings octets is.2
+field_suits Kind.Options contents at (OtherOctets octets) end known are is = are_these_options octets is.2
+field_suits Kind.TypeBitMaps contents at (OtherOctets octets) end known are is = is_this_bitmap octets is.2
+field_suits Kind.NonEmptyTypeBitMaps contents at (OtherOctets octets) end known are is = (omega (arith, is.3), is_this_bitmap octets is.2)
+field_suits Kind.Rest contents at (OtherOctets octets) end known are is = tt
 field_suits kind contents at f end known are is = absurd is
 
 field_are : (kind : Kind) (contents : List ℕ) (at : ℕ) (f : Field) (end : ℕ) → AreOctets contents → Suits kind f → FieldAt kind contents at f end → AreOctets (field_octets f)
-field_are OneByte contents at (Byte b) end are fits is = standing_octets contents at (b ∷ []) end are is
-field_are (OneNumber w) contents at (Number v n) end are fits is = rw fits.0 (number_octets w n fits.1)
-field_are (SoMany n) contents at (Raw octets) end are fits is = standing_octets contents at octets end are is.1
-field_are CompressibleName contents at (Compressible labels) end are fits is = name_octets contents at labels end are is
-field_are UncompressedName contents at (Uncompressed labels) end are fits is = standing_octets contents at (wire labels) end are is.occurs
-field_are CharacterString contents at (Sized octets) end are fits is = standing_octets contents at (length octets ∷ octets) end are is
-field_are CharacterStrings contents at (Raw octets) end are fits is = standing_octets contents at octets end are is.1
-field_are Options contents at (Raw octets) end are fits is = standing_octets contents at octets end are is.1
-field_are TypeBitMaps contents at (Raw octets) end are fits is = standing_octets contents at octets end are is.1
-field_are NonEmptyTypeBitMaps contents at (Raw octets) end are fits is = standing_octets contents at octets end are is.1
-field_are Rest contents at (Raw octets) end are fits is = standing_octets contents at octets end are is.1
+field_are Kind.Byte contents at (Byte b) end are fits is = standing_octets contents at (b ∷ []) end are is
+field_are (Kind.Number w) contents at (Number v n) end are fits is = rw fits.0 (number_octets w n fits.1)
+field_are (Kind.FixedOctets n) contents at (OtherOctets octets) end are fits is = standing_octets contents at octets end are is.1
+field_are Kind.CompressibleName contents at (CompressibleName labels) end are fits is = name_octets contents at labels end are is
+field_are Kind.UncompressedName contents at (UncompressedName labels) end are fits is = standing_octets contents at (wire labels) end are is.occurs
+field_are Kind.CharacterString contents at (CharacterString octets) end are fits is = standing_octets contents at (length octets ∷ octets) end are is
+field_are Kind.CountedOctets contents at (CountedOctets octets) end are fits is = standing_octets contents at (length octets ∷ octets) end are is
+field_are Kind.CharacterStrings contents at (CharacterStrings octets) end are fits is = standing_octets contents at octets end are is.1
+field_are Kind.Options contents at (OtherOctets octets) end are fits is = standing_octets contents at octets end are is.1
+field_are Kind.TypeBitMaps contents at (OtherOctets octets) end are fits is = standing_octets contents at octets end are is.1
+field_are Kind.NonEmptyTypeBitMaps contents at (OtherOctets octets) end are fits is = standing_octets contents at octets end are is.1
+field_are Kind.Rest contents at (OtherOctets octets) end are fits is = standing_octets contents at octets end are is.1
 field_are kind contents at f end are fits is = absurd is
 
 abbrev SuitAndAre : List Kind → List Field → Type 0

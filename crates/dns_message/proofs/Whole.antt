@@ -13,9 +13,8 @@ use Rattle.dns_wire.proofs.Lowered.{lower_wire, name_lowered}
 use Rattle.dns_wire.proofs.Spelled.{plain_name_again}
 use Rattle.dns_record.specs.Data.{data_as}
 use Rattle.dns_record.specs.Fields.{Field, field_octets, fields_octets, lowercased_field, canonical_fields}
-use Rattle.dns_record.specs.Fields.FieldOf.{Compressible, Uncompressed, Raw, Sized, Byte, Number}
+use Rattle.dns_record.specs.Fields.FieldOf.{CompressibleName, UncompressedName, CharacterString, CountedOctets, CharacterStrings, OtherOctets, Byte, Number}
 use Rattle.dns_record.specs.Kinds.{Kind, fields_of}
-use Rattle.dns_record.specs.Kinds.Kind.{CompressibleName, UncompressedName}
 use Rattle.dns_record.specs.Records.{record_at, octets_of_parts}
 use Rattle.dns_record.specs.Formats.{rdata_format}
 use Rattle.dns_record.specs.Types.{is_lowercased}
@@ -78,10 +77,12 @@ content_suits r is = data_suits r.rtype (fields_octets r.content) r.content (bod
 -- ---- in lowercase
 
 suits_lowercased : (kind : Kind) (f : Field) → Suits kind f → Suits kind (lowercased_field f)
-suits_lowercased CompressibleName (Compressible labels) is = name_lowered labels is
-suits_lowercased UncompressedName (Uncompressed labels) is = name_lowered labels is
-suits_lowercased kind (Raw o) is = is
-suits_lowercased kind (Sized o) is = is
+suits_lowercased Kind.CompressibleName (CompressibleName labels) is = name_lowered labels is
+suits_lowercased Kind.UncompressedName (UncompressedName labels) is = name_lowered labels is
+suits_lowercased kind (CharacterString o) is = is
+suits_lowercased kind (CountedOctets o) is = is
+suits_lowercased kind (CharacterStrings o) is = is
+suits_lowercased kind (OtherOctets o) is = is
 suits_lowercased kind (Byte b) is = is
 suits_lowercased kind (Number w n) is = is
 suits_lowercased kind f is = absurd is
@@ -102,10 +103,12 @@ pub name_octets_lowered : (labels : List (List ℕ)) → IsName labels → AreOc
 name_octets_lowered labels is are = subst AreOctets (lower_wire labels is.sizes) (octets_lowered (wire labels) are)
 
 field_octets_lowercased : (kind : Kind) (f : Field) → Suits kind f → AreOctets (field_octets f) → AreOctets (field_octets (lowercased_field f))
-field_octets_lowercased CompressibleName (Compressible labels) is are = name_octets_lowered labels is are
-field_octets_lowercased UncompressedName (Uncompressed labels) is are = name_octets_lowered labels is are
-field_octets_lowercased kind (Raw o) is are = are
-field_octets_lowercased kind (Sized o) is are = are
+field_octets_lowercased Kind.CompressibleName (CompressibleName labels) is are = name_octets_lowered labels is are
+field_octets_lowercased Kind.UncompressedName (UncompressedName labels) is are = name_octets_lowered labels is are
+field_octets_lowercased kind (CharacterString o) is are = are
+field_octets_lowercased kind (CountedOctets o) is are = are
+field_octets_lowercased kind (CharacterStrings o) is are = are
+field_octets_lowercased kind (OtherOctets o) is are = are
 field_octets_lowercased kind (Byte b) is are = are
 field_octets_lowercased kind (Number w n) is are = are
 field_octets_lowercased kind f is are = absurd is
@@ -187,10 +190,12 @@ lowered_twice [] = refl
 lowered_twice (label ∷ labels) = rw (lower_twice label, lowered_twice labels) refl
 
 field_twice : (f : Field) → lowercased_field (lowercased_field f) ≡ lowercased_field f
-field_twice (Compressible labels) = ap Compressible (lowered_twice labels)
-field_twice (Uncompressed labels) = ap Uncompressed (lowered_twice labels)
-field_twice (Raw o) = refl
-field_twice (Sized o) = refl
+field_twice (CompressibleName labels) = ap CompressibleName (lowered_twice labels)
+field_twice (UncompressedName labels) = ap UncompressedName (lowered_twice labels)
+field_twice (CharacterString o) = refl
+field_twice (CountedOctets o) = refl
+field_twice (CharacterStrings o) = refl
+field_twice (OtherOctets o) = refl
 field_twice (Byte b) = refl
 field_twice (Number w n) = refl
 

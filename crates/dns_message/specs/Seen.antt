@@ -3,7 +3,7 @@ use Rattle.dns_wire.specs.Octets.{Octets, Labels}
 use Rattle.dns_record.specs.Types.{opt_number}
 use Rattle.std.specs.Prelude.{◌≢◌, ◌≡◌, ℕ, ◌<◌, ◌^◌, List, [], ◌∷◌, length, map, take}
 use Rattle.dns_record.specs.Fields.{Field, named_by, fields_octets}
-use Rattle.dns_record.specs.Fields.FieldOf.{Raw}
+use Rattle.dns_record.specs.Fields.FieldOf.{OtherOctets}
 use Rattle.dns_record.specs.Seen.{question_seen, record_seen}
 use Rattle.dns_record.specs.declared.record.Record.{Record}
 use Rattle.dns_edns.specs.declared.opt.Opt.{Opt}
@@ -26,7 +26,7 @@ record_value = record_seen (λ labels. labels) data_seen
 
 -- an EDNS record as a record: its owner is the root, and its fields are the class and the time to live (RFC 6891 section 6.1.2)
 abbrev pub edns_value : EdnsOf Octets → RecordValue
-edns_value e = record { owner = []; rtype = opt_number; class = e.payload; ttl = edns_ttl e.ext_rcode e.version e.flags; content = Raw e.content ∷ [] }
+edns_value e = record { owner = []; rtype = opt_number; class = e.payload; ttl = edns_ttl e.ext_rcode e.version e.flags; content = OtherOctets e.content ∷ [] }
 
 -- a question, or a record of whatever section
 abbrev pub item_seen : MessageItem Labels (RecordData Labels) Opt → Item

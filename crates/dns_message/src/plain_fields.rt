@@ -40,7 +40,7 @@ fn after_name(bytes: &[u8]) -> Option<&[u8]>
     }
 }
 
-/// The octets after the character string at the start.
+/// The octets after those that come after an octet with their number.
 fn after_string(bytes: &[u8]) -> Option<&[u8]>
     ensures { MatchOption result (character_string bytes.now ≡ None) (λ rest. (octets : Octets) × (character_string bytes.now ≡ Some (octets, rest.now))) }
 {
@@ -59,6 +59,7 @@ pub(crate) fn after_field(kind: FieldKind, bytes: &[u8]) -> Option<&[u8]>
         FieldKind::CompressibleName => after_name(bytes),
         FieldKind::UncompressedName => after_name(bytes),
         FieldKind::CharacterString => after_string(bytes),
+        FieldKind::CountedOctets => after_string(bytes),
         FieldKind::CharacterStrings => none_if(are_character_strings(bytes)),
         FieldKind::Options => none_if(are_options(bytes)),
         FieldKind::TypeBitMaps => none_if(are_windows(bytes)),

@@ -21,9 +21,9 @@ use std::hash::Hash;
 /// Data are equal if all their fields are, names without regard to ASCII case (RFC 1035 section 2.3.3), salts,
 /// hashes and bitmaps octet by octet.
 pub fn data_are_equal_by_fields()
-    ensures nsec { (a b : _) → ⟦<Nsec<'static> as PartialEq>⟧.eq a b ≡ fields_eq (eq_by_cmp (on key key_cmp)) (eq_by_cmp (on key key_cmp)) (pointwise nat_eq) (nsec_fields a) (nsec_fields b) }
-    ensures nsec3 { (a b : _) → ⟦<Nsec3<'static> as PartialEq>⟧.eq a b ≡ fields_eq (eq_by_cmp (on key key_cmp)) (eq_by_cmp (on key key_cmp)) (pointwise nat_eq) (nsec3_fields a) (nsec3_fields b) }
-    ensures nsec3param { (a b : _) → ⟦<Nsec3Param<'static> as PartialEq>⟧.eq a b ≡ fields_eq (eq_by_cmp (on key key_cmp)) (eq_by_cmp (on key key_cmp)) (pointwise nat_eq) (nsec3param_fields a) (nsec3param_fields b) }
+    ensures nsec { (a b : _) → ⟦<Nsec<'static> as PartialEq>⟧.eq a b ≡ fields_eq (eq_by_cmp (on key key_cmp)) (eq_by_cmp (on key key_cmp)) (nsec_fields a) (nsec_fields b) }
+    ensures nsec3 { (a b : _) → ⟦<Nsec3<'static> as PartialEq>⟧.eq a b ≡ fields_eq (eq_by_cmp (on key key_cmp)) (eq_by_cmp (on key key_cmp)) (nsec3_fields a) (nsec3_fields b) }
+    ensures nsec3param { (a b : _) → ⟦<Nsec3Param<'static> as PartialEq>⟧.eq a b ≡ fields_eq (eq_by_cmp (on key key_cmp)) (eq_by_cmp (on key key_cmp)) (nsec3param_fields a) (nsec3param_fields b) }
 {}
 
 /// Type bit maps are equal octet by octet.
@@ -33,9 +33,9 @@ pub fn bitmaps_are_equal_by_octets()
 
 /// Data feed a hasher their fields one after another, names in lowercase.
 pub fn data_are_hashed_by_fields()
-    ensures nsec { (v : _) → ⟦<Nsec<'static> as Hash>⟧.hash_input v ≡ fields_writes name_writes name_writes (slice u8) (nsec_fields v) }
-    ensures nsec3 { (v : _) → ⟦<Nsec3<'static> as Hash>⟧.hash_input v ≡ fields_writes name_writes name_writes (slice u8) (nsec3_fields v) }
-    ensures nsec3param { (v : _) → ⟦<Nsec3Param<'static> as Hash>⟧.hash_input v ≡ fields_writes name_writes name_writes (slice u8) (nsec3param_fields v) }
+    ensures nsec { (v : _) → ⟦<Nsec<'static> as Hash>⟧.hash_input v ≡ fields_writes name_writes name_writes (nsec_fields v) }
+    ensures nsec3 { (v : _) → ⟦<Nsec3<'static> as Hash>⟧.hash_input v ≡ fields_writes name_writes name_writes (nsec3_fields v) }
+    ensures nsec3param { (v : _) → ⟦<Nsec3Param<'static> as Hash>⟧.hash_input v ≡ fields_writes name_writes name_writes (nsec3param_fields v) }
 {}
 
 /// Type bit maps feed a hasher their octets after the number of these.

@@ -1,20 +1,16 @@
 -- Strings that are read one by one, of all the octets.
-use Rattle.std.proofs.Common.{◌≡◌, ℕ, zero, suc, ◌≤◌, true, Bool, List, [], ◌∷◌, length, Option, Some, None, refl, sym, ap, ◌∙◌, arith}
-use Rattle.std.specs.Prelude.{◌↔◌, IsTrue, map}
+use Rattle.std.proofs.Common.{◌≡◌, ℕ, zero, suc, ◌≤◌, true, List, [], ◌∷◌, length, Option, Some, None, refl, sym, ap, ◌∙◌, arith}
+use Rattle.std.specs.Prelude.{◌↔◌, IsTrue}
 use Rattle.std.specs.Cmp.Lexicographic.{pointwise, pointwise_decides, bytes_decides}
 use Rattle.std.specs.Cmp.Derive.Mapped.{pointwise-map}
 use Rattle.std.specs.Str.{str_to_ascii_lowercase}
 use Rattle.std.proofs.lemmas.List.{length-append}
 use Rattle.dns_wire.specs.Names.{lowered}
-use Rattle.dns_record.specs.CharStrHashing.{charstr_writes}
-use Rattle.dns_record.specs.CharStrs.{charstr_wire, same_charstr}
-use Rattle.dns_record.specs.FieldOrder.{field_eq, fields_eq, fields_writes}
-use Rattle.dns_record.specs.Fields.FieldOf.{Sized}
 use Rattle.dns_record.specs.CharacterStrings.{character_string, is_txt_data, character_strings_octets}
 use Rattle.dns_record.proofs.Places.{text_read}
 use Rattle.dns_record.proofs.TestedOctets.{text_shorter}
 use Rattle.dns_record.proofs.CharacterStringLemmas.{character_strings_are}
-use Rattle.dns_plain.specs.Strings.{then_strings, strings_within, strings_in, same_strings, strings_writes, lowered_from_same}
+use Rattle.dns_record.specs.Strings.{then_strings, strings_within, strings_in, same_strings, lowered_from_same}
 
 -- ---- the strings of octets
 
@@ -87,12 +83,3 @@ no_string (size ∷ more) e = ap (then_strings (λ (l : List ℕ). strings_withi
 
 pub same_is : (a b : List (List ℕ)) → IsTrue (same_strings a b) ↔ (lowered a ≡ lowered b)
 same_is a b = (lowered_from_same a b, λ e. sym (pointwise-map str_to_ascii_lowercase (pointwise _) a b) ∙ (pointwise_decides bytes_decides (lowered a) (lowered b)).1 e)
-
--- ---- strings as fields
-
-pub strings_as_fields : (named uncompressed : List (List ℕ) → List (List ℕ) → Bool) (a b : List (List ℕ)) → same_strings a b ≡ fields_eq named uncompressed same_charstr (map Sized a) (map Sized b)
-strings_as_fields named uncompressed a b = sym (pointwise-map Sized (field_eq named uncompressed same_charstr) a b)
-
-pub strings_fed : (named uncompressed : List (List ℕ) → List (List ℕ)) (strings : List (List ℕ)) → strings_writes strings ≡ fields_writes named uncompressed charstr_writes (map Sized strings)
-strings_fed named uncompressed [] = refl
-strings_fed named uncompressed (string ∷ strings) = ap (λ (l : List (List ℕ)). charstr_wire (str_to_ascii_lowercase string) ∷ l) (strings_fed named uncompressed strings)

@@ -1,4 +1,3 @@
 -- What the contracts of data without compressed names cite.
 pub mod AddressTexts
-pub mod Strings
 pub mod Types

@@ -3,7 +3,7 @@
 ghost use Rattle.std.specs.Prelude.{◌≡◌, ◌≢◌, ◌↔◌, List, [], IsTrue};
 ghost use Rattle.dns_wire.specs.Names.{lowered};
 ghost use Rattle.dns_record.specs.CharacterStrings.{is_txt_data, character_strings_octets};
-ghost use Rattle.dns_plain.specs.Strings.{same_strings, strings_in};
+ghost use Rattle.dns_record.specs.Strings.{same_strings, strings_in};
 ghost use Rattle.dns_wire.specs.Octets.{Octets, Labels};
 
 /// TXT data are the octets of their strings, each after its size, and have at least one string; of such octets

@@ -1,15 +1,11 @@
 //! Data are compared and fed to a hasher field by field, in the order in which the fields come on the wire.
 
-ghost use Rattle.std.specs.Prelude.{◌≡◌, map, ◌↔◌, IsTrue};
+ghost use Rattle.std.specs.Prelude.{◌≡◌, ◌↔◌, IsTrue};
 ghost use Rattle.std.specs.Ordering.{eq_by_cmp, on};
 ghost use Rattle.dns_name.specs.Hashing.{name_writes};
 ghost use Rattle.dns_name.specs.Order.{key, key_cmp};
-ghost use Rattle.dns_record.specs.CharStrHashing.{charstr_writes};
-ghost use Rattle.dns_record.specs.CharStrs.{same_charstr};
 ghost use Rattle.dns_record.specs.FieldOrder.{fields_cmp, fields_eq, fields_writes};
-ghost use Rattle.dns_record.specs.Fields.FieldOf.{Sized};
-ghost use Rattle.dns_plain.specs.Strings.{strings_in};
-ghost use Rattle.dns_plain.specs.Types.{a_fields, hinfo_fields, aaaa_fields, srv_fields, dname_fields};
+ghost use Rattle.dns_plain.specs.Types.{a_fields, hinfo_fields, txt_fields, aaaa_fields, srv_fields, dname_fields};
 
 use crate::a::A;
 use crate::aaaa::Aaaa;
@@ -32,22 +28,22 @@ pub fn data_are_ordered_by_fields()
 /// Data are equal if all their fields are, names and strings without regard to ASCII case (RFC 1035 section
 /// 2.3.3).
 pub fn data_are_equal_by_fields()
-    ensures a { (a b : _) → ⟦<A as PartialEq>⟧.eq a b ≡ fields_eq (eq_by_cmp (on key key_cmp)) (eq_by_cmp (on key key_cmp)) same_charstr (a_fields a) (a_fields b) }
-    ensures hinfo { (a b : _) → ⟦<HInfo<'static> as PartialEq>⟧.eq a b ≡ fields_eq (eq_by_cmp (on key key_cmp)) (eq_by_cmp (on key key_cmp)) same_charstr (hinfo_fields a) (hinfo_fields b) }
-    ensures aaaa { (a b : _) → ⟦<Aaaa as PartialEq>⟧.eq a b ≡ fields_eq (eq_by_cmp (on key key_cmp)) (eq_by_cmp (on key key_cmp)) same_charstr (aaaa_fields a) (aaaa_fields b) }
-    ensures srv { (a b : _) → ⟦<Srv<'static> as PartialEq>⟧.eq a b ≡ fields_eq (eq_by_cmp (on key key_cmp)) (eq_by_cmp (on key key_cmp)) same_charstr (srv_fields a) (srv_fields b) }
-    ensures dname { (a b : _) → ⟦<DName<'static> as PartialEq>⟧.eq a b ≡ fields_eq (eq_by_cmp (on key key_cmp)) (eq_by_cmp (on key key_cmp)) same_charstr (dname_fields a) (dname_fields b) }
-    ensures txt { (a b : _) → ⟦<Txt<'static> as PartialEq>⟧.eq a b ≡ fields_eq (eq_by_cmp (on key key_cmp)) (eq_by_cmp (on key key_cmp)) same_charstr (map Sized (strings_in a.slice.now)) (map Sized (strings_in b.slice.now)) }
+    ensures a { (a b : _) → ⟦<A as PartialEq>⟧.eq a b ≡ fields_eq (eq_by_cmp (on key key_cmp)) (eq_by_cmp (on key key_cmp)) (a_fields a) (a_fields b) }
+    ensures hinfo { (a b : _) → ⟦<HInfo<'static> as PartialEq>⟧.eq a b ≡ fields_eq (eq_by_cmp (on key key_cmp)) (eq_by_cmp (on key key_cmp)) (hinfo_fields a) (hinfo_fields b) }
+    ensures aaaa { (a b : _) → ⟦<Aaaa as PartialEq>⟧.eq a b ≡ fields_eq (eq_by_cmp (on key key_cmp)) (eq_by_cmp (on key key_cmp)) (aaaa_fields a) (aaaa_fields b) }
+    ensures srv { (a b : _) → ⟦<Srv<'static> as PartialEq>⟧.eq a b ≡ fields_eq (eq_by_cmp (on key key_cmp)) (eq_by_cmp (on key key_cmp)) (srv_fields a) (srv_fields b) }
+    ensures dname { (a b : _) → ⟦<DName<'static> as PartialEq>⟧.eq a b ≡ fields_eq (eq_by_cmp (on key key_cmp)) (eq_by_cmp (on key key_cmp)) (dname_fields a) (dname_fields b) }
+    ensures txt { (a b : _) → ⟦<Txt<'static> as PartialEq>⟧.eq a b ≡ fields_eq (eq_by_cmp (on key key_cmp)) (eq_by_cmp (on key key_cmp)) (txt_fields a.slice.now) (txt_fields b.slice.now) }
 {}
 
 /// Data feed a hasher their fields one after another, names and strings in lowercase.
 pub fn data_are_hashed_by_fields()
-    ensures a { (v : _) → ⟦<A as Hash>⟧.hash_input v ≡ fields_writes name_writes name_writes charstr_writes (a_fields v) }
-    ensures hinfo { (v : _) → ⟦<HInfo<'static> as Hash>⟧.hash_input v ≡ fields_writes name_writes name_writes charstr_writes (hinfo_fields v) }
-    ensures aaaa { (v : _) → ⟦<Aaaa as Hash>⟧.hash_input v ≡ fields_writes name_writes name_writes charstr_writes (aaaa_fields v) }
-    ensures srv { (v : _) → ⟦<Srv<'static> as Hash>⟧.hash_input v ≡ fields_writes name_writes name_writes charstr_writes (srv_fields v) }
-    ensures dname { (v : _) → ⟦<DName<'static> as Hash>⟧.hash_input v ≡ fields_writes name_writes name_writes charstr_writes (dname_fields v) }
-    ensures txt { (v : _) → ⟦<Txt<'static> as Hash>⟧.hash_input v ≡ fields_writes name_writes name_writes charstr_writes (map Sized (strings_in v.slice.now)) }
+    ensures a { (v : _) → ⟦<A as Hash>⟧.hash_input v ≡ fields_writes name_writes name_writes (a_fields v) }
+    ensures hinfo { (v : _) → ⟦<HInfo<'static> as Hash>⟧.hash_input v ≡ fields_writes name_writes name_writes (hinfo_fields v) }
+    ensures aaaa { (v : _) → ⟦<Aaaa as Hash>⟧.hash_input v ≡ fields_writes name_writes name_writes (aaaa_fields v) }
+    ensures srv { (v : _) → ⟦<Srv<'static> as Hash>⟧.hash_input v ≡ fields_writes name_writes name_writes (srv_fields v) }
+    ensures dname { (v : _) → ⟦<DName<'static> as Hash>⟧.hash_input v ≡ fields_writes name_writes name_writes (dname_fields v) }
+    ensures txt { (v : _) → ⟦<Txt<'static> as Hash>⟧.hash_input v ≡ fields_writes name_writes name_writes (txt_fields v.slice.now) }
 {}
 
 /// Errors are equal exactly if they are the same.

@@ -23,7 +23,7 @@ ghost use Rattle.dns_record.specs.DataLemmas.{uncompressed_leave, uncompressed_e
 ghost use Rattle.dns_record.specs.Formats.{rdata_format};
 ghost use Rattle.dns_record.specs.CharacterStrings.{is_txt_data, character_strings_octets};
 ghost use Rattle.dns_record.proofs.Sizes.{canonical_long};
-ghost use Rattle.dns_plain.specs.Strings.{strings_in, same_strings, strings_writes, same_strings_alike};
+ghost use Rattle.dns_record.specs.Strings.{strings_in, same_strings, strings_writes, same_strings_alike};
 ghost use Rattle.dns_plain.specs.Types.{txt_fields};
 
 use crate::txt_iter::TxtIter;

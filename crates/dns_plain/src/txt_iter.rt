@@ -3,7 +3,7 @@
 ghost use Rattle.std.specs.Prelude.{◌≡◌, ⊤};
 ghost use Rattle.std.specs.Iterator.{YieldsFirstBy, item_count};
 ghost use Rattle.dns_record.specs.CharStrs.{octets_of};
-ghost use Rattle.dns_plain.specs.Strings.{strings_in};
+ghost use Rattle.dns_record.specs.Strings.{strings_in};
 
 use dns_record::CharStr;
 use dns_wire::SplitBytes;
@@ -19,7 +19,7 @@ pub struct TxtIter<'a> {
 
 impl<'a> Model for TxtIter<'a> {
     ghost use Rattle.std.specs.Prelude.{List};
-    ghost use Rattle.dns_plain.specs.Strings.{strings_in};
+    ghost use Rattle.dns_record.specs.Strings.{strings_in};
     ghost use Rattle.dns_wire.specs.Octets.{Octets};
 
     ghost Value = { List Octets };

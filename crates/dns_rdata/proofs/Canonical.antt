@@ -2,7 +2,7 @@
 use Rattle.std.proofs.Common.{◌≡◌, ℕ, Bool, true, false, cond, List, [], ◌∷◌, ◌++◌, refl, ap, ◌∙◌}
 use Rattle.std.specs.Prelude.{map}
 use Rattle.dns_record.specs.Fields.{Field, named_by, field_octets, fields_octets, lowercased_field, canonical_octets}
-use Rattle.dns_record.specs.Fields.FieldOf.{Compressible, Uncompressed, Raw, Sized, Byte, Number}
+use Rattle.dns_record.specs.Fields.FieldOf.{CompressibleName, UncompressedName, CharacterString, CountedOctets, CharacterStrings, OtherOctets, Byte, Number}
 use Rattle.std.specs.Ordering.{nat_cmp}
 use Rattle.std.specs.Cmp.Lexicographic.{slice_cmp}
 use Rattle.std.specs.declared.cmp.Ordering.{Ordering}
@@ -11,18 +11,22 @@ use Rattle.dns_record.specs.Types.{is_lowercased}
 use Rattle.dns_rdata.specs.Data.{as_uncompressed}
 
 field_plain : {N : Type 0} (name : N → List (List ℕ)) (field : Field) → field_octets (named_by name (as_uncompressed {N = N} field)) ≡ field_octets field
-field_plain name (Compressible labels) = refl
-field_plain name (Uncompressed labels) = refl
-field_plain name (Raw octets) = refl
-field_plain name (Sized octets) = refl
+field_plain name (CompressibleName labels) = refl
+field_plain name (UncompressedName labels) = refl
+field_plain name (CharacterString octets) = refl
+field_plain name (CountedOctets octets) = refl
+field_plain name (CharacterStrings octets) = refl
+field_plain name (OtherOctets octets) = refl
 field_plain name (Byte b) = refl
 field_plain name (Number w n) = refl
 
 lowercased_uncompressed : {N : Type 0} (name : N → List (List ℕ)) (field : Field) → field_octets (lowercased_field (named_by name (as_uncompressed {N = N} field))) ≡ field_octets (lowercased_field field)
-lowercased_uncompressed name (Compressible labels) = refl
-lowercased_uncompressed name (Uncompressed labels) = refl
-lowercased_uncompressed name (Raw octets) = refl
-lowercased_uncompressed name (Sized octets) = refl
+lowercased_uncompressed name (CompressibleName labels) = refl
+lowercased_uncompressed name (UncompressedName labels) = refl
+lowercased_uncompressed name (CharacterString octets) = refl
+lowercased_uncompressed name (CountedOctets octets) = refl
+lowercased_uncompressed name (CharacterStrings octets) = refl
+lowercased_uncompressed name (OtherOctets octets) = refl
 lowercased_uncompressed name (Byte b) = refl
 lowercased_uncompressed name (Number w n) = refl
 

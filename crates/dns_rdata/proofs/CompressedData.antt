@@ -5,7 +5,7 @@ use Rattle.dns_wire.specs.Compression.{CompressedWrite}
 use Rattle.dns_wire.specs.InMessage.{BuildsIn}
 use Rattle.dns_wire.specs.Layout.{octets_writes}
 use Rattle.dns_record.specs.Fields.{FieldOf, Field, named_by, field_octets, fields_octets}
-use Rattle.dns_record.specs.Fields.FieldOf.{Compressible, Uncompressed, Raw, Sized, Byte, Number}
+use Rattle.dns_record.specs.Fields.FieldOf.{CompressibleName, UncompressedName, CharacterString, CountedOctets, CharacterStrings, OtherOctets, Byte, Number}
 use Rattle.dns_record.specs.InMessage.{of_field, fields_write, field_fits, fields_fit}
 use Rattle.dns_rdata.specs.Data.{as_uncompressed}
 
@@ -36,10 +36,12 @@ builds_so {result = Err e} there back b = record {
 
 module _ {N : Type 0} (fits : N → List ℕ → List ℕ → Type 0) (writes : N → CompressedWrite) where
   plain_field : (field : Field) → of_field writes octets_writes (as_uncompressed field) ≡ octets_writes (field_octets field)
-  plain_field (Compressible labels) = refl
-  plain_field (Uncompressed labels) = refl
-  plain_field (Raw octets) = refl
-  plain_field (Sized octets) = refl
+  plain_field (CompressibleName labels) = refl
+  plain_field (UncompressedName labels) = refl
+  plain_field (CharacterString octets) = refl
+  plain_field (CountedOctets octets) = refl
+  plain_field (CharacterStrings octets) = refl
+  plain_field (OtherOctets octets) = refl
   plain_field (Byte b) = refl
   plain_field (Number w n) = refl
 
@@ -51,10 +53,12 @@ module _ {N : Type 0} (fits : N → List ℕ → List ℕ → Type 0) (writes : 
       ∙ ap (λ (r : List ℕ × List ℕ). (field_octets field ++ r.0, r.1)) (uncompressed_writes fields (contents ++ field_octets field) places)
 
   field_fit : (field : Field) (contents places : List ℕ) → field_fits fits (as_uncompressed field) contents places
-  field_fit (Compressible labels) contents places = tt
-  field_fit (Uncompressed labels) contents places = tt
-  field_fit (Raw octets) contents places = tt
-  field_fit (Sized octets) contents places = tt
+  field_fit (CompressibleName labels) contents places = tt
+  field_fit (UncompressedName labels) contents places = tt
+  field_fit (CharacterString octets) contents places = tt
+  field_fit (CountedOctets octets) contents places = tt
+  field_fit (CharacterStrings octets) contents places = tt
+  field_fit (OtherOctets octets) contents places = tt
   field_fit (Byte b) contents places = tt
   field_fit (Number w n) contents places = tt
 
@@ -74,10 +78,12 @@ module _ {N : Type 0} (fits : N → List ℕ → List ℕ → Type 0) (writes : 
 
 module _ {N S : Type 0} (name : N → S) (writes : S → CompressedWrite) where
   compressible_field : (field : FieldOf N) → of_field writes octets_writes (named_by name field) ≡ of_field (λ n. writes (name n)) octets_writes field
-  compressible_field (Compressible n) = refl
-  compressible_field (Uncompressed labels) = refl
-  compressible_field (Raw octets) = refl
-  compressible_field (Sized octets) = refl
+  compressible_field (CompressibleName n) = refl
+  compressible_field (UncompressedName labels) = refl
+  compressible_field (CharacterString octets) = refl
+  compressible_field (CountedOctets octets) = refl
+  compressible_field (CharacterStrings octets) = refl
+  compressible_field (OtherOctets octets) = refl
   compressible_field (Byte b) = refl
   compressible_field (Number w n) = refl
 
@@ -89,10 +95,12 @@ module _ {N S : Type 0} (name : N → S) (writes : S → CompressedWrite) where
       ∙ ap (λ (r : List ℕ × List ℕ). (here.0 ++ r.0, r.1)) (compressible_writes fields (contents ++ here.0) here.1)
 
   compressible_fits : (field : FieldOf N) (contents places : List ℕ) → field_fits (λ _ _ _. ⊤) field contents places
-  compressible_fits (Compressible n) contents places = tt
-  compressible_fits (Uncompressed labels) contents places = tt
-  compressible_fits (Raw octets) contents places = tt
-  compressible_fits (Sized octets) contents places = tt
+  compressible_fits (CompressibleName n) contents places = tt
+  compressible_fits (UncompressedName labels) contents places = tt
+  compressible_fits (CharacterString octets) contents places = tt
+  compressible_fits (CountedOctets octets) contents places = tt
+  compressible_fits (CharacterStrings octets) contents places = tt
+  compressible_fits (OtherOctets octets) contents places = tt
   compressible_fits (Byte b) contents places = tt
   compressible_fits (Number w n) contents places = tt
 

@@ -15,9 +15,8 @@ use Rattle.dns_wire.proofs.Spelled.{plain_name_takes}
 use Rattle.dns_num.proofs.CountedData.{octets_prefix}
 use Rattle.dns_record.specs.Data.{data_as}
 use Rattle.dns_record.specs.Fields.{Field, field_octets, fields_octets}
-use Rattle.dns_record.specs.Fields.FieldOf.{Compressible, Uncompressed, Raw, Sized, Byte, Number}
+use Rattle.dns_record.specs.Fields.FieldOf.{CompressibleName, UncompressedName, CharacterString, CountedOctets, CharacterStrings, OtherOctets, Byte, Number}
 use Rattle.dns_record.specs.Kinds.{Kind, field_of, fields_of}
-use Rattle.dns_record.specs.Kinds.Kind.{OneByte, OneNumber, SoMany, CompressibleName, UncompressedName, CharacterString, CharacterStrings, Options, TypeBitMaps, NonEmptyTypeBitMaps, Rest}
 use Rattle.dns_record.specs.DataLemmas.{field_leaves}
 use Rattle.dns_record.specs.Options.{options, is_option_data}
 use Rattle.dns_record.specs.Formats.{rdata_format}
@@ -29,9 +28,9 @@ use Rattle.dns_record.proofs.Stepped.{stepped}
 
 -- numbers of two octets or of four
 abbrev is_usual : Kind → Bool
-is_usual (OneNumber w16) = true
-is_usual (OneNumber w32) = true
-is_usual (OneNumber w) = false
+is_usual (Kind.Number w16) = true
+is_usual (Kind.Number w32) = true
+is_usual (Kind.Number w) = false
 is_usual kind = true
 
 abbrev all_usual : List Kind → Bool
@@ -81,20 +80,21 @@ put_spelled f read bytes field rest spells e =
     spells p.value p.first ∙ ap (λ (g : Field). field_octets g ++ rest) p.is
 
 field_spelled : (kind : Kind) (bytes : List ℕ) (field : Field) (rest : List ℕ) → is_usual kind ≡ true → AreOctets bytes → field_of plain_name kind bytes ≡ Some (field, rest) → bytes ≡ field_octets field ++ rest
-field_spelled OneByte bytes field rest usual are e = put_spelled Byte (octet bytes) bytes field rest (λ b read. octet_spelled bytes b rest read) e
-field_spelled (OneNumber w16) bytes field rest usual are e = put_spelled (Number w16) (number w16 bytes) bytes field rest (λ n read. number_spelled w16 bytes n rest be_bytes_2 are read) e
-field_spelled (OneNumber w32) bytes field rest usual are e = put_spelled (Number w32) (number w32 bytes) bytes field rest (λ n read. number_spelled w32 bytes n rest be_bytes_4 are read) e
-field_spelled (OneNumber w) bytes field rest usual are e = absurd cc
-field_spelled (SoMany n) bytes field rest usual are e = put_spelled Raw (octets n bytes) bytes field rest (λ o read. (octets_spelled n bytes o rest read).1) e
-field_spelled CompressibleName bytes field rest usual are e = put_spelled Compressible (plain_name bytes) bytes field rest (λ labels read. (plain_name_takes bytes labels rest read).1) e
-field_spelled UncompressedName bytes field rest usual are e = put_spelled Uncompressed (plain_name bytes) bytes field rest (λ labels read. (plain_name_takes bytes labels rest read).1) e
-field_spelled CharacterString bytes field rest usual are e = put_spelled Sized (character_string bytes) bytes field rest (λ o read. text_spelled bytes o rest read) e
-field_spelled CharacterStrings bytes field rest usual are e = put_spelled Raw (character_strings bytes) bytes field rest (λ o read. tested_spelled is_txt_data bytes o rest read) e
-field_spelled Options bytes field rest usual are e = put_spelled Raw (options bytes) bytes field rest (λ o read. tested_spelled is_option_data bytes o rest read) e
-field_spelled TypeBitMaps bytes field rest usual are e = put_spelled Raw (bitmap bytes) bytes field rest (λ o read. tested_spelled is_bitmap bytes o rest read) e
-field_spelled NonEmptyTypeBitMaps bytes field rest usual are e = put_spelled Raw (some_bitmap bytes) bytes field rest (λ o read. some_tested bytes o rest read) e
-field_spelled Rest bytes field rest usual are e =
-    let same = some_pair_parts (Raw bytes) field [] rest e in
+field_spelled Kind.Byte bytes field rest usual are e = put_spelled Byte (octet bytes) bytes field rest (λ b read. octet_spelled bytes b rest read) e
+field_spelled (Kind.Number w16) bytes field rest usual are e = put_spelled (Number w16) (number w16 bytes) bytes field rest (λ n read. number_spelled w16 bytes n rest be_bytes_2 are read) e
+field_spelled (Kind.Number w32) bytes field rest usual are e = put_spelled (Number w32) (number w32 bytes) bytes field rest (λ n read. number_spelled w32 bytes n rest be_bytes_4 are read) e
+field_spelled (Kind.Number w) bytes field rest usual are e = absurd cc
+field_spelled (Kind.FixedOctets n) bytes field rest usual are e = put_spelled OtherOctets (octets n bytes) bytes field rest (λ o read. (octets_spelled n bytes o rest read).1) e
+field_spelled Kind.CompressibleName bytes field rest usual are e = put_spelled CompressibleName (plain_name bytes) bytes field rest (λ labels read. (plain_name_takes bytes labels rest read).1) e
+field_spelled Kind.UncompressedName bytes field rest usual are e = put_spelled UncompressedName (plain_name bytes) bytes field rest (λ labels read. (plain_name_takes bytes labels rest read).1) e
+field_spelled Kind.CharacterString bytes field rest usual are e = put_spelled CharacterString (character_string bytes) bytes field rest (λ o read. text_spelled bytes o rest read) e
+field_spelled Kind.CountedOctets bytes field rest usual are e = put_spelled CountedOctets (character_string bytes) bytes field rest (λ o read. text_spelled bytes o rest read) e
+field_spelled Kind.CharacterStrings bytes field rest usual are e = put_spelled CharacterStrings (character_strings bytes) bytes field rest (λ o read. tested_spelled is_txt_data bytes o rest read) e
+field_spelled Kind.Options bytes field rest usual are e = put_spelled OtherOctets (options bytes) bytes field rest (λ o read. tested_spelled is_option_data bytes o rest read) e
+field_spelled Kind.TypeBitMaps bytes field rest usual are e = put_spelled OtherOctets (bitmap bytes) bytes field rest (λ o read. tested_spelled is_bitmap bytes o rest read) e
+field_spelled Kind.NonEmptyTypeBitMaps bytes field rest usual are e = put_spelled OtherOctets (some_bitmap bytes) bytes field rest (λ o read. some_tested bytes o rest read) e
+field_spelled Kind.Rest bytes field rest usual are e =
+    let same = some_pair_parts (OtherOctets bytes) field [] rest e in
     sym (append-nil bytes) ∙ ap (λ (f : Field). field_octets f ++ []) same.0 ∙ ap (λ (l : List ℕ). field_octets field ++ l) same.1
 
 -- ---- fields one after another

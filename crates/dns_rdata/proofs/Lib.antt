@@ -1,5 +1,4 @@
 -- The crate's own lemmas.
-pub mod AlikeStrings
 pub mod Canonical
 pub mod FormatLemmas
 pub mod Forms

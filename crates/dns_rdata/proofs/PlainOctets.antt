@@ -6,7 +6,7 @@ use Rattle.dns_wire.specs.Building.{Builds}
 use Rattle.dns_wire.specs.Compression.{CompressedWrite, FitsIn}
 use Rattle.dns_wire.specs.InMessage.{BuildsIn}
 use Rattle.dns_record.specs.Fields.{Field, FieldOf, named_by, field_octets, fields_octets, lowercased_field, canonical_octets}
-use Rattle.dns_record.specs.Fields.FieldOf.{Compressible, Uncompressed, Raw, Sized, Byte, Number}
+use Rattle.dns_record.specs.Fields.FieldOf.{CompressibleName, UncompressedName, CharacterString, CountedOctets, CharacterStrings, OtherOctets, Byte, Number}
 use Rattle.dns_record.specs.InMessage.{fields_write, fields_fit}
 use Rattle.dns_record.specs.Types.{is_lowercased}
 use Rattle.dns_edns.specs.Types.{opt_fields}
@@ -47,13 +47,15 @@ plain_fields (Nsec3Param v) plain = record { fields = nsec3param_fields v; same 
 plain_fields (Cds v) plain = record { fields = cds_fields v; same = refl; fit = λ fits. tt }
 plain_fields (CDNSKey v) plain = record { fields = cdnskey_fields v; same = refl; fit = λ fits. tt }
 plain_fields (ZoneMD v) plain = record { fields = zonemd_fields (λ digest. digest.now) v; same = refl; fit = λ fits. tt }
-plain_fields (Unknown n v) plain = record { fields = Raw v.octets.now ∷ []; same = refl; fit = λ fits. tt }
+plain_fields (Unknown n v) plain = record { fields = OtherOctets v.octets.now ∷ []; same = refl; fit = λ fits. tt }
 
 field_written : {N : Type 0} (octets : N → List ℕ) (field : Field) → written_field octets (as_uncompressed field) ≡ field_octets field
-field_written octets (Compressible labels) = refl
-field_written octets (Uncompressed labels) = refl
-field_written octets (Raw bytes) = refl
-field_written octets (Sized bytes) = refl
+field_written octets (CompressibleName labels) = refl
+field_written octets (UncompressedName labels) = refl
+field_written octets (CharacterString bytes) = refl
+field_written octets (CountedOctets bytes) = refl
+field_written octets (CharacterStrings bytes) = refl
+field_written octets (OtherOctets bytes) = refl
 field_written octets (Byte b) = refl
 field_written octets (Number w n) = refl
 
@@ -121,6 +123,6 @@ canonical_plain name (Cds v) whole = refl
 canonical_plain name (CDNSKey v) whole = refl
 canonical_plain name (ZoneMD v) whole = refl
 canonical_plain name (Unknown n v) whole = by (is_lowercased n.code.value) where
-  by : (b : Bool) → v.octets.now ++ [] ≡ fields_octets (cond b (map lowercased_field (Raw v.octets.now ∷ [])) (Raw v.octets.now ∷ []))
+  by : (b : Bool) → v.octets.now ++ [] ≡ fields_octets (cond b (map lowercased_field (OtherOctets v.octets.now ∷ [])) (OtherOctets v.octets.now ∷ []))
   by true = refl
   by false = refl

@@ -9,9 +9,8 @@ use Rattle.dns_wire.specs.Reading.{Gives, LeavesRest, octet, octets, number, pla
 use Rattle.dns_wire.specs.Steps.{◌>>=◌, first_to}
 use Rattle.dns_record.specs.Data.{data_as, data_in}
 use Rattle.dns_record.specs.Fields.{Field, FieldOf, named_by}
-use Rattle.dns_record.specs.Fields.FieldOf.{Compressible, Uncompressed, Raw, Sized, Byte, Number}
+use Rattle.dns_record.specs.Fields.FieldOf.{CompressibleName, UncompressedName, CharacterString, CountedOctets, CharacterStrings, OtherOctets, Byte, Number}
 use Rattle.dns_record.specs.Kinds.{Kind, field_of, fields_of, fields_in, no_name}
-use Rattle.dns_record.specs.Kinds.Kind.{OneByte, OneNumber, SoMany, CompressibleName, UncompressedName, CharacterString, CharacterStrings, Options, TypeBitMaps, NonEmptyTypeBitMaps, Rest}
 use Rattle.dns_record.specs.DataLemmas.{uncompressed_leave}
 use Rattle.dns_record.specs.Options.{options}
 use Rattle.dns_record.specs.Formats.{rdata_format, rdata_formats, format_under, format_unknown, has_rdata_format}
@@ -30,17 +29,18 @@ twice f g None = refl
 twice f g (Some (x, s)) = refl
 
 plain_kind : {N : Type 0} (name : List ℕ → Option (N × List ℕ)) (kind : Kind) (bytes : List ℕ) → is_uncompressed kind ≡ true → field_of name kind bytes ≡ first_to as_uncompressed (field_of no_name kind bytes)
-plain_kind name OneByte bytes uncompressed = twice Byte as_uncompressed (octet bytes)
-plain_kind name (OneNumber w) bytes uncompressed = twice (Number w) as_uncompressed (number w bytes)
-plain_kind name (SoMany n) bytes uncompressed = twice Raw as_uncompressed (octets n bytes)
-plain_kind name CompressibleName bytes uncompressed = absurd cc
-plain_kind name UncompressedName bytes uncompressed = twice Uncompressed as_uncompressed (plain_name bytes)
-plain_kind name CharacterString bytes uncompressed = twice Sized as_uncompressed (character_string bytes)
-plain_kind name CharacterStrings bytes uncompressed = twice Raw as_uncompressed (character_strings bytes)
-plain_kind name Options bytes uncompressed = twice Raw as_uncompressed (options bytes)
-plain_kind name TypeBitMaps bytes uncompressed = twice Raw as_uncompressed (bitmap bytes)
-plain_kind name NonEmptyTypeBitMaps bytes uncompressed = twice Raw as_uncompressed (some_bitmap bytes)
-plain_kind name Rest bytes uncompressed = refl
+plain_kind name Kind.Byte bytes uncompressed = twice Byte as_uncompressed (octet bytes)
+plain_kind name (Kind.Number w) bytes uncompressed = twice (Number w) as_uncompressed (number w bytes)
+plain_kind name (Kind.FixedOctets n) bytes uncompressed = twice OtherOctets as_uncompressed (octets n bytes)
+plain_kind name Kind.CompressibleName bytes uncompressed = absurd cc
+plain_kind name Kind.UncompressedName bytes uncompressed = twice UncompressedName as_uncompressed (plain_name bytes)
+plain_kind name Kind.CharacterString bytes uncompressed = twice CharacterString as_uncompressed (character_string bytes)
+plain_kind name Kind.CountedOctets bytes uncompressed = twice CountedOctets as_uncompressed (character_string bytes)
+plain_kind name Kind.CharacterStrings bytes uncompressed = twice CharacterStrings as_uncompressed (character_strings bytes)
+plain_kind name Kind.Options bytes uncompressed = twice OtherOctets as_uncompressed (options bytes)
+plain_kind name Kind.TypeBitMaps bytes uncompressed = twice OtherOctets as_uncompressed (bitmap bytes)
+plain_kind name Kind.NonEmptyTypeBitMaps bytes uncompressed = twice OtherOctets as_uncompressed (some_bitmap bytes)
+plain_kind name Kind.Rest bytes uncompressed = refl
 
 abbrev put_first : {N : Type 0} → FieldOf N → Option (List (FieldOf N) × List ℕ) → Option (List (FieldOf N) × List ℕ)
 put_first {N} f read = ◌>>=◌ {A = List (FieldOf N) × List ℕ} {B = List (FieldOf N) × List ℕ} read (λ others. Some (f ∷ others.0, others.1))
@@ -116,10 +116,12 @@ seen_plain {N} {S} seen name rtype bytes plain =
   where
     each : (fields : List Field) → map (named_by seen) (map as_uncompressed fields) ≡ map as_uncompressed fields
     each [] = refl
-    each (Compressible labels ∷ fields) = ap (λ (l : List (FieldOf S)). Uncompressed labels ∷ l) (each fields)
-    each (Uncompressed labels ∷ fields) = ap (λ (l : List (FieldOf S)). Uncompressed labels ∷ l) (each fields)
-    each (Raw octets ∷ fields) = ap (λ (l : List (FieldOf S)). Raw octets ∷ l) (each fields)
-    each (Sized octets ∷ fields) = ap (λ (l : List (FieldOf S)). Sized octets ∷ l) (each fields)
+    each (CompressibleName labels ∷ fields) = ap (λ (l : List (FieldOf S)). UncompressedName labels ∷ l) (each fields)
+    each (UncompressedName labels ∷ fields) = ap (λ (l : List (FieldOf S)). UncompressedName labels ∷ l) (each fields)
+    each (CharacterString octets ∷ fields) = ap (λ (l : List (FieldOf S)). CharacterString octets ∷ l) (each fields)
+    each (CountedOctets octets ∷ fields) = ap (λ (l : List (FieldOf S)). CountedOctets octets ∷ l) (each fields)
+    each (CharacterStrings octets ∷ fields) = ap (λ (l : List (FieldOf S)). CharacterStrings octets ∷ l) (each fields)
+    each (OtherOctets octets ∷ fields) = ap (λ (l : List (FieldOf S)). OtherOctets octets ∷ l) (each fields)
     each (Byte b ∷ fields) = ap (λ (l : List (FieldOf S)). Byte b ∷ l) (each fields)
     each (Number w n ∷ fields) = ap (λ (l : List (FieldOf S)). Number w n ∷ l) (each fields)
 
@@ -183,7 +185,7 @@ no_format rtype none = by (format_under rdata_formats rtype) none where
   by None e = refl
   by (Some kinds) e = absurd cc
 
-pub unknown_read : {N : Type 0} (name : List ℕ → Option (N × List ℕ)) (rtype : ℕ) (bytes : List ℕ) → has_rdata_format rtype ≡ false → data_as name rtype bytes ≡ Some (Raw bytes ∷ [])
+pub unknown_read : {N : Type 0} (name : List ℕ → Option (N × List ℕ)) (rtype : ℕ) (bytes : List ℕ) → has_rdata_format rtype ≡ false → data_as name rtype bytes ≡ Some (OtherOctets bytes ∷ [])
 unfolding data_as
 unknown_read name rtype bytes none = rw (no_format rtype none) refl
 

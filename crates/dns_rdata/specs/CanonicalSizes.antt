@@ -3,16 +3,18 @@ use Rattle.std.proofs.Common.{◌≡◌, ℕ, List, [], ◌∷◌, ◌++◌, len
 use Rattle.std.specs.Prelude.{map}
 use Rattle.dns_wire.specs.Names.{wire}
 use Rattle.dns_record.specs.Fields.{FieldOf, named_by, fields_octets, field_octets, canonical_octets}
-use Rattle.dns_record.specs.Fields.FieldOf.{Compressible, Uncompressed, Raw, Sized, Byte, Number}
+use Rattle.dns_record.specs.Fields.FieldOf.{CompressibleName, UncompressedName, CharacterString, CountedOctets, CharacterStrings, OtherOctets, Byte, Number}
 use Rattle.dns_record.proofs.Sizes.{canonical_long}
 use Rattle.dns_rdata.specs.Data.{data_fields, type_number, written_field, written_fields}
 use Rattle.dns_rdata.specs.declared.record_data.RecordData.{RecordData}
 
 field_written : {N : Type 0} (name : N → List (List ℕ)) (octets : N → List ℕ) → ((n : N) → octets n ≡ wire (name n)) → (field : FieldOf N) → field_octets (named_by name field) ≡ written_field octets field
-field_written name octets are (Compressible n) = sym (are n)
-field_written name octets are (Uncompressed labels) = refl
-field_written name octets are (Raw bytes) = refl
-field_written name octets are (Sized bytes) = refl
+field_written name octets are (CompressibleName n) = sym (are n)
+field_written name octets are (UncompressedName labels) = refl
+field_written name octets are (CharacterString bytes) = refl
+field_written name octets are (CountedOctets bytes) = refl
+field_written name octets are (CharacterStrings bytes) = refl
+field_written name octets are (OtherOctets bytes) = refl
 field_written name octets are (Byte b) = refl
 field_written name octets are (Number w n) = refl
 

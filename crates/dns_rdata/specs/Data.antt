@@ -4,7 +4,7 @@ use Rattle.std.specs.Int.{to_be_bytes}
 use Rattle.dns_wire.specs.Octets.{Octets}
 use Rattle.dns_wire.specs.Names.{wire}
 use Rattle.dns_record.specs.Fields.{Field, FieldOf}
-use Rattle.dns_record.specs.Fields.FieldOf.{Compressible, Uncompressed, Raw, Sized, Byte, Number}
+use Rattle.dns_record.specs.Fields.FieldOf.{CompressibleName, UncompressedName, CharacterString, CountedOctets, CharacterStrings, OtherOctets, Byte, Number}
 use Rattle.dns_record.specs.Formats.{has_rdata_format}
 use Rattle.dns_basic.specs.Types.{ns_fields, cname_fields, soa_fields, ptr_fields, mx_fields, rp_fields}
 use Rattle.dns_edns.specs.Types.{opt_fields}
@@ -16,10 +16,12 @@ use Rattle.dns_rdata.specs.declared.record_data.RecordData.TheVariants.{A, Ns, C
 
 -- a field of data in which no name may have pointers
 abbrev pub as_uncompressed : {N : Type 0} → Field → FieldOf N
-as_uncompressed (Compressible labels) = Uncompressed labels
-as_uncompressed (Uncompressed labels) = Uncompressed labels
-as_uncompressed (Raw octets) = Raw octets
-as_uncompressed (Sized octets) = Sized octets
+as_uncompressed (CompressibleName labels) = UncompressedName labels
+as_uncompressed (UncompressedName labels) = UncompressedName labels
+as_uncompressed (CharacterString octets) = CharacterString octets
+as_uncompressed (CountedOctets octets) = CountedOctets octets
+as_uncompressed (CharacterStrings octets) = CharacterStrings octets
+as_uncompressed (OtherOctets octets) = OtherOctets octets
 as_uncompressed (Byte b) = Byte b
 as_uncompressed (Number w n) = Number w n
 
@@ -47,7 +49,7 @@ data_fields (Nsec3Param v) = map as_uncompressed (nsec3param_fields v)
 data_fields (Cds v) = map as_uncompressed (cds_fields v)
 data_fields (CDNSKey v) = map as_uncompressed (cdnskey_fields v)
 data_fields (ZoneMD v) = map as_uncompressed (zonemd_fields (λ digest. digest.now) v)
-data_fields (Unknown rtype v) = Raw v.octets.now ∷ []
+data_fields (Unknown rtype v) = OtherOctets v.octets.now ∷ []
 
 -- the number of the type of data
 abbrev pub type_number : {N : Type 0} → RecordData N → ℕ
@@ -88,10 +90,12 @@ IsDataOf v rtype = (rtype ≡ type_number v) × IsProper v
 
 -- a field's octets, a name's as its type writes them
 abbrev pub written_field : {N : Type 0} → (N → Octets) → FieldOf N → Octets
-written_field name (Compressible n) = name n
-written_field name (Uncompressed labels) = wire labels
-written_field name (Raw octets) = octets
-written_field name (Sized octets) = length octets ∷ octets
+written_field name (CompressibleName n) = name n
+written_field name (UncompressedName labels) = wire labels
+written_field name (CharacterString octets) = length octets ∷ octets
+written_field name (CountedOctets octets) = length octets ∷ octets
+written_field name (CharacterStrings octets) = octets
+written_field name (OtherOctets octets) = octets
 written_field name (Byte b) = b ∷ []
 written_field name (Number w n) = to_be_bytes w n
 

@@ -10,7 +10,6 @@ ghost use Rattle.dns_record.specs.Data.{data_as, data_in};
 ghost use Rattle.dns_record.specs.Fields.{FieldOf, named_by, canonical_octets};
 ghost use Rattle.dns_record.specs.InMessage.{fields_write, fields_fit, fields_layout};
 ghost use Rattle.dns_rdata.specs.CanonicalSizes.{as_many};
-ghost use Rattle.dns_record.specs.Formats.{has_rdata_format};
 ghost use Rattle.dns_record.proofs.FieldLayoutLemmas.{fields_match};
 ghost use Rattle.std.specs.Fn.{CalledAt, TakesAt};
 ghost use Rattle.dns_rdata.specs.Mapping.{TakesNames, HoldsGiven, without_names};
@@ -23,7 +22,9 @@ use dns_edns::Opt;
 use dns_name::CanonicalName;
 use dns_nsec::{Nsec, Nsec3, Nsec3Param};
 use dns_plain::{A, Aaaa, DName, HInfo, Srv, Txt};
-use dns_record::{CanonicalRecordData, ParseRecordData, ParseRecordDataBytes, RType};
+use dns_record::{
+    CanonicalRecordData, ParseRecordData, ParseRecordDataBytes, RType, has_rdata_format,
+};
 use dns_sec::{CDNSKey, Cds, DNSKey, Ds, Rrsig, ZoneMD};
 use dns_wire::{
     BuildBytes, BuildInMessage, NameCompressor, ParseBytes, ParseError, ParseMessageBytes,
@@ -31,37 +32,6 @@ use dns_wire::{
 };
 use std::alloc::AllocError;
 use std::cmp::Ordering;
-
-/// Whether the type has its own RDATA format.
-fn has_rdata_format(rtype: RType) -> bool
-    ensures { result ≡ has_rdata_format rtype.code.value }
-{
-    matches!(
-        rtype,
-        RType::A
-            | RType::NS
-            | RType::CNAME
-            | RType::SOA
-            | RType::PTR
-            | RType::HINFO
-            | RType::MX
-            | RType::TXT
-            | RType::RP
-            | RType::SRV
-            | RType::AAAA
-            | RType::DNAME
-            | RType::OPT
-            | RType::DS
-            | RType::RRSIG
-            | RType::NSEC
-            | RType::DNSKEY
-            | RType::NSEC3
-            | RType::NSEC3PARAM
-            | RType::CDS
-            | RType::CDNSKEY
-            | RType::ZONEMD
-    )
-}
 
 /// Record data, by their type. `N` is the type of the names that in a message may have pointers.
 #[derive(Debug, PartialEq, Eq, Hash, Drop)]

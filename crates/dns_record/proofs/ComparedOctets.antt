@@ -12,7 +12,7 @@ use Rattle.std.proofs.lemmas.Bool.Decides.{nat_tests}
 use Rattle.dns_wire.specs.Names.{labels_wire, wire, IsLabel, IsName, lowered}
 use Rattle.dns_wire.proofs.Lowered.{name_lowered}
 use Rattle.dns_record.specs.Fields.{Field, field_octets, fields_octets, lowercased_field}
-use Rattle.dns_record.specs.Fields.FieldOf.{Compressible, Uncompressed, Raw, Sized, Byte, Number}
+use Rattle.dns_record.specs.Fields.FieldOf.{CompressibleName, UncompressedName, CharacterString, CountedOctets, CharacterStrings, OtherOctets, Byte, Number}
 
 pub then_assoc : (a b c : Ordering) → ordering_then (ordering_then a b) c ≡ ordering_then a (ordering_then b c)
 then_assoc Less b c = refl
@@ -98,10 +98,12 @@ lowercased_where lowercase field = cond lowercase (lowercased_field field) field
 
 -- the order of two fields of one kind
 abbrev pub field_cmp : Bool → Field → Field → Ordering
-field_cmp lowercase (Compressible n) (Compressible m) = slice_cmp nat_cmp (wire (cond lowercase (lowered n) n)) (wire (cond lowercase (lowered m) m))
-field_cmp lowercase (Uncompressed n) (Uncompressed m) = slice_cmp nat_cmp (wire (cond lowercase (lowered n) n)) (wire (cond lowercase (lowered m) m))
-field_cmp lowercase (Raw o) (Raw p) = slice_cmp nat_cmp o p
-field_cmp lowercase (Sized o) (Sized p) = ordering_then (nat_cmp (length o) (length p)) (slice_cmp nat_cmp o p)
+field_cmp lowercase (CompressibleName n) (CompressibleName m) = slice_cmp nat_cmp (wire (cond lowercase (lowered n) n)) (wire (cond lowercase (lowered m) m))
+field_cmp lowercase (UncompressedName n) (UncompressedName m) = slice_cmp nat_cmp (wire (cond lowercase (lowered n) n)) (wire (cond lowercase (lowered m) m))
+field_cmp lowercase (CharacterString o) (CharacterString p) = ordering_then (nat_cmp (length o) (length p)) (slice_cmp nat_cmp o p)
+field_cmp lowercase (CountedOctets o) (CountedOctets p) = ordering_then (nat_cmp (length o) (length p)) (slice_cmp nat_cmp o p)
+field_cmp lowercase (CharacterStrings o) (CharacterStrings p) = slice_cmp nat_cmp o p
+field_cmp lowercase (OtherOctets o) (OtherOctets p) = slice_cmp nat_cmp o p
 field_cmp lowercase (Byte a) (Byte b) = nat_cmp a b
 field_cmp lowercase (Number w a) (Number v b) = nat_cmp a b
 field_cmp lowercase f g = Equal
@@ -118,16 +120,19 @@ NumbersMeet w v a b = ⊥
 
 -- two fields of one kind, neither of which begins the other
 abbrev pub FieldsMeet : Field → Field → Type 0
-FieldsMeet (Compressible n) (Compressible m) = IsName n × IsName m
-FieldsMeet (Uncompressed n) (Uncompressed m) = IsName n × IsName m
-FieldsMeet (Raw o) (Raw p) = length o ≡ length p
-FieldsMeet (Sized o) (Sized p) = Unit {0}
+FieldsMeet (CompressibleName n) (CompressibleName m) = IsName n × IsName m
+FieldsMeet (UncompressedName n) (UncompressedName m) = IsName n × IsName m
+FieldsMeet (CharacterString o) (CharacterString p) = Unit {0}
+FieldsMeet (CountedOctets o) (CountedOctets p) = Unit {0}
+FieldsMeet (CharacterStrings o) (CharacterStrings p) = length o ≡ length p
+FieldsMeet (OtherOctets o) (OtherOctets p) = length o ≡ length p
 FieldsMeet (Byte a) (Byte b) = Unit {0}
 FieldsMeet (Number w a) (Number v b) = NumbersMeet w v a b
 FieldsMeet f g = ⊥
 
 abbrev pub LastMeet : Field → Field → Type 0
-LastMeet (Raw o) (Raw p) = Unit {0}
+LastMeet (CharacterStrings o) (CharacterStrings p) = Unit {0}
+LastMeet (OtherOctets o) (OtherOctets p) = Unit {0}
 LastMeet f g = FieldsMeet f g
 
 -- fields of one RDATA format
@@ -136,11 +141,11 @@ AllMeet (f ∷ []) (g ∷ []) = LastMeet f g
 AllMeet (f ∷ (f2 ∷ fs)) (g ∷ (g2 ∷ gs)) = FieldsMeet f g × AllMeet (f2 ∷ fs) (g2 ∷ gs)
 AllMeet fs gs = ⊥
 
-name_compared : (lowercase : Bool) (n m : List (List ℕ)) (x y : List ℕ) → IsName n → IsName m → slice_cmp nat_cmp (field_octets (lowercased_where lowercase (Compressible n)) ++ x) (field_octets (lowercased_where lowercase (Compressible m)) ++ y) ≡ ordering_then (field_cmp lowercase (Compressible n) (Compressible m)) (slice_cmp nat_cmp x y)
+name_compared : (lowercase : Bool) (n m : List (List ℕ)) (x y : List ℕ) → IsName n → IsName m → slice_cmp nat_cmp (field_octets (lowercased_where lowercase (CompressibleName n)) ++ x) (field_octets (lowercased_where lowercase (CompressibleName m)) ++ y) ≡ ordering_then (field_cmp lowercase (CompressibleName n) (CompressibleName m)) (slice_cmp nat_cmp x y)
 name_compared true n m x y p q = cmp_lowercased n m x y p q
 name_compared false n m x y p q = cmp_names n m x y p.sizes q.sizes
 
-uncompressed_compared : (lowercase : Bool) (n m : List (List ℕ)) (x y : List ℕ) → IsName n → IsName m → slice_cmp nat_cmp (field_octets (lowercased_where lowercase (Uncompressed n)) ++ x) (field_octets (lowercased_where lowercase (Uncompressed m)) ++ y) ≡ ordering_then (field_cmp lowercase (Uncompressed n) (Uncompressed m)) (slice_cmp nat_cmp x y)
+uncompressed_compared : (lowercase : Bool) (n m : List (List ℕ)) (x y : List ℕ) → IsName n → IsName m → slice_cmp nat_cmp (field_octets (lowercased_where lowercase (UncompressedName n)) ++ x) (field_octets (lowercased_where lowercase (UncompressedName m)) ++ y) ≡ ordering_then (field_cmp lowercase (UncompressedName n) (UncompressedName m)) (slice_cmp nat_cmp x y)
 uncompressed_compared true n m x y p q = cmp_lowercased n m x y p q
 uncompressed_compared false n m x y p q = cmp_names n m x y p.sizes q.sizes
 
@@ -167,10 +172,12 @@ sized_compared o p x y = elim (cases_lt (length o) (length p)) [
 ]
 
 pub field_compared : (lowercase : Bool) (f g : Field) (x y : List ℕ) → FieldsMeet f g → slice_cmp nat_cmp (field_octets (lowercased_where lowercase f) ++ x) (field_octets (lowercased_where lowercase g) ++ y) ≡ ordering_then (field_cmp lowercase f g) (slice_cmp nat_cmp x y)
-field_compared lowercase (Compressible n) (Compressible m) x y is = name_compared lowercase n m x y is.0 is.1
-field_compared lowercase (Uncompressed n) (Uncompressed m) x y is = uncompressed_compared lowercase n m x y is.0 is.1
-field_compared lowercase (Raw o) (Raw p) x y is = plain_compared lowercase (Raw o) (Raw p) x y _ refl refl (cmp_append nat_cmp o p x y is)
-field_compared lowercase (Sized o) (Sized p) x y is = plain_compared lowercase (Sized o) (Sized p) x y _ refl refl (sized_compared o p x y)
+field_compared lowercase (CompressibleName n) (CompressibleName m) x y is = name_compared lowercase n m x y is.0 is.1
+field_compared lowercase (UncompressedName n) (UncompressedName m) x y is = uncompressed_compared lowercase n m x y is.0 is.1
+field_compared lowercase (CharacterString o) (CharacterString p) x y is = plain_compared lowercase (CharacterString o) (CharacterString p) x y _ refl refl (sized_compared o p x y)
+field_compared lowercase (CountedOctets o) (CountedOctets p) x y is = plain_compared lowercase (CountedOctets o) (CountedOctets p) x y _ refl refl (sized_compared o p x y)
+field_compared lowercase (CharacterStrings o) (CharacterStrings p) x y is = plain_compared lowercase (CharacterStrings o) (CharacterStrings p) x y _ refl refl (cmp_append nat_cmp o p x y is)
+field_compared lowercase (OtherOctets o) (OtherOctets p) x y is = plain_compared lowercase (OtherOctets o) (OtherOctets p) x y _ refl refl (cmp_append nat_cmp o p x y is)
 field_compared lowercase (Byte a) (Byte b) x y is = plain_compared lowercase (Byte a) (Byte b) x y _ refl refl refl
 field_compared lowercase (Number w a) (Number v b) x y is = plain_compared lowercase (Number w a) (Number v b) x y _ refl refl (numbers_compared lowercase w v a b x y is)
 field_compared lowercase f g x y is = absurd is
@@ -179,8 +186,10 @@ nothing_more : (lowercase : Bool) (f g : Field) → FieldsMeet f g → slice_cmp
 nothing_more lowercase f g is = field_compared lowercase f g [] [] is ∙ then_equal (field_cmp lowercase f g)
 
 last_compared : (lowercase : Bool) (f g : Field) → LastMeet f g → slice_cmp nat_cmp (field_octets (lowercased_where lowercase f) ++ []) (field_octets (lowercased_where lowercase g) ++ []) ≡ field_cmp lowercase f g
-last_compared lowercase (Raw o) (Raw p) is = plain_compared lowercase (Raw o) (Raw p) [] [] _ refl refl (rw (append-nil o, append-nil p) refl)
-last_compared lowercase (Raw o) g is = nothing_more lowercase (Raw o) g is
+last_compared lowercase (CharacterStrings o) (CharacterStrings p) is = plain_compared lowercase (CharacterStrings o) (CharacterStrings p) [] [] _ refl refl (rw (append-nil o, append-nil p) refl)
+last_compared lowercase (OtherOctets o) (OtherOctets p) is = plain_compared lowercase (OtherOctets o) (OtherOctets p) [] [] _ refl refl (rw (append-nil o, append-nil p) refl)
+last_compared lowercase (CharacterStrings o) g is = nothing_more lowercase (CharacterStrings o) g is
+last_compared lowercase (OtherOctets o) g is = nothing_more lowercase (OtherOctets o) g is
 last_compared lowercase f g is = nothing_more lowercase f g is
 
 -- the order of the octets of fields of one RDATA format

@@ -11,9 +11,8 @@ use Rattle.dns_wire.specs.Reading.{octet, octets, number, plain_at, all_of, all_
 use Rattle.dns_wire.specs.Steps.{◌>>=◌, first_to}
 use Rattle.dns_record.specs.Data.{data_as, data_in}
 use Rattle.dns_record.specs.Fields.{FieldOf, named_by}
-use Rattle.dns_record.specs.Fields.FieldOf.{Compressible, Uncompressed, Raw, Sized, Byte, Number}
+use Rattle.dns_record.specs.Fields.FieldOf.{CompressibleName, UncompressedName, CharacterString, CountedOctets, CharacterStrings, OtherOctets, Byte, Number}
 use Rattle.dns_record.specs.Kinds.{Kind, field_of, fields_of, field_in, fields_in, no_name}
-use Rattle.dns_record.specs.Kinds.Kind.{OneByte, OneNumber, SoMany, CompressibleName, UncompressedName, CharacterString, CharacterStrings, Options, TypeBitMaps, NonEmptyTypeBitMaps, Rest}
 use Rattle.dns_record.specs.Formats.{rdata_format}
 use Rattle.dns_record.specs.Options.{options}
 use Rattle.dns_record.specs.CharacterStrings.{character_string, character_strings}
@@ -23,17 +22,25 @@ use Rattle.dns_record.proofs.UncompressedNames.{is_uncompressed, all_uncompresse
 module _ {V S L : Type 0} (seen : V → S) (name : V → L) where
   -- ---- fields that are no names with pointers
 
-  same_uncompressed : (labels : List (List ℕ)) (f : FieldOf V) → Uncompressed labels ≡ named_by seen f → Uncompressed labels ≡ named_by name f
-  same_uncompressed labels (Uncompressed l) e = cc
+  same_uncompressed : (labels : List (List ℕ)) (f : FieldOf V) → UncompressedName labels ≡ named_by seen f → UncompressedName labels ≡ named_by name f
+  same_uncompressed labels (UncompressedName l) e = cc
   same_uncompressed labels f e = absurd cc
 
-  same_raw : (octets : List ℕ) (f : FieldOf V) → Raw octets ≡ named_by seen f → Raw octets ≡ named_by name f
-  same_raw octets (Raw l) e = cc
-  same_raw octets f e = absurd cc
+  same_string : (octets : List ℕ) (f : FieldOf V) → CharacterString octets ≡ named_by seen f → CharacterString octets ≡ named_by name f
+  same_string octets (CharacterString l) e = cc
+  same_string octets f e = absurd cc
 
-  same_sized : (octets : List ℕ) (f : FieldOf V) → Sized octets ≡ named_by seen f → Sized octets ≡ named_by name f
-  same_sized octets (Sized l) e = cc
-  same_sized octets f e = absurd cc
+  same_counted : (octets : List ℕ) (f : FieldOf V) → CountedOctets octets ≡ named_by seen f → CountedOctets octets ≡ named_by name f
+  same_counted octets (CountedOctets l) e = cc
+  same_counted octets f e = absurd cc
+
+  same_strings : (octets : List ℕ) (f : FieldOf V) → CharacterStrings octets ≡ named_by seen f → CharacterStrings octets ≡ named_by name f
+  same_strings octets (CharacterStrings l) e = cc
+  same_strings octets f e = absurd cc
+
+  same_other : (octets : List ℕ) (f : FieldOf V) → OtherOctets octets ≡ named_by seen f → OtherOctets octets ≡ named_by name f
+  same_other octets (OtherOctets l) e = cc
+  same_other octets f e = absurd cc
 
   same_byte : (b : ℕ) (f : FieldOf V) → Byte b ≡ named_by seen f → Byte b ≡ named_by name f
   same_byte b (Byte l) e = cc
@@ -50,28 +57,29 @@ module _ {V S L : Type 0} (seen : V → S) (name : V → L) where
 
   -- ---- names
 
-  compressible_again : {P : Type 0} (read : Option (S × P)) (labels : Option (L × P)) → ((v : V) (rest : P) → read ≡ Some (seen v, rest) → labels ≡ Some (name v, rest)) → (f : FieldOf V) (rest : P) → first_to Compressible read ≡ Some (named_by seen f, rest) → first_to Compressible labels ≡ Some (named_by name f, rest)
-  compressible_again read labels agree (Compressible v) rest e =
-      let p = put_some Compressible read (Compressible (seen v)) rest e in
+  compressible_again : {P : Type 0} (read : Option (S × P)) (labels : Option (L × P)) → ((v : V) (rest : P) → read ≡ Some (seen v, rest) → labels ≡ Some (name v, rest)) → (f : FieldOf V) (rest : P) → first_to CompressibleName read ≡ Some (named_by seen f, rest) → first_to CompressibleName labels ≡ Some (named_by name f, rest)
+  compressible_again read labels agree (CompressibleName v) rest e =
+      let p = put_some CompressibleName read (CompressibleName (seen v)) rest e in
       let same : p.0 ≡ seen v = cc in
-      ap (first_to Compressible) (agree v rest (p.1 ∙ ap (λ s. Some (s, rest)) same))
-  compressible_again read labels agree f rest e = let p = put_some Compressible read (named_by seen f) rest e in absurd cc
+      ap (first_to CompressibleName) (agree v rest (p.1 ∙ ap (λ s. Some (s, rest)) same))
+  compressible_again read labels agree f rest e = let p = put_some CompressibleName read (named_by seen f) rest e in absurd cc
 
   -- ---- one after another
 
   module _ (reads : List ℕ → Option (S × List ℕ)) (plain : List ℕ → Option (L × List ℕ)) (agree : (v : V) (bytes rest : List ℕ) → reads bytes ≡ Some (seen v, rest) → plain bytes ≡ Some (name v, rest)) where
     field_again : (kind : Kind) (bytes : List ℕ) (f : FieldOf V) (rest : List ℕ) → field_of reads kind bytes ≡ Some (named_by seen f, rest) → field_of plain kind bytes ≡ Some (named_by name f, rest)
-    field_again OneByte bytes f rest e = again Byte Byte same_byte (octet bytes) f rest e
-    field_again (OneNumber w) bytes f rest e = again (Number w) (Number w) (same_number w) (number w bytes) f rest e
-    field_again (SoMany n) bytes f rest e = again Raw Raw same_raw (octets n bytes) f rest e
-    field_again CompressibleName bytes f rest e = compressible_again (reads bytes) (plain bytes) (λ v later h. agree v bytes later h) f rest e
-    field_again UncompressedName bytes f rest e = again Uncompressed Uncompressed same_uncompressed (plain_name bytes) f rest e
-    field_again CharacterString bytes f rest e = again Sized Sized same_sized (character_string bytes) f rest e
-    field_again CharacterStrings bytes f rest e = again Raw Raw same_raw (character_strings bytes) f rest e
-    field_again Options bytes f rest e = again Raw Raw same_raw (options bytes) f rest e
-    field_again TypeBitMaps bytes f rest e = again Raw Raw same_raw (bitmap bytes) f rest e
-    field_again NonEmptyTypeBitMaps bytes f rest e = again Raw Raw same_raw (some_bitmap bytes) f rest e
-    field_again Rest bytes f rest e = again Raw Raw same_raw (Some (bytes, [])) f rest e
+    field_again Kind.Byte bytes f rest e = again Byte Byte same_byte (octet bytes) f rest e
+    field_again (Kind.Number w) bytes f rest e = again (Number w) (Number w) (same_number w) (number w bytes) f rest e
+    field_again (Kind.FixedOctets n) bytes f rest e = again OtherOctets OtherOctets same_other (octets n bytes) f rest e
+    field_again Kind.CompressibleName bytes f rest e = compressible_again (reads bytes) (plain bytes) (λ v later h. agree v bytes later h) f rest e
+    field_again Kind.UncompressedName bytes f rest e = again UncompressedName UncompressedName same_uncompressed (plain_name bytes) f rest e
+    field_again Kind.CharacterString bytes f rest e = again CharacterString CharacterString same_string (character_string bytes) f rest e
+    field_again Kind.CountedOctets bytes f rest e = again CountedOctets CountedOctets same_counted (character_string bytes) f rest e
+    field_again Kind.CharacterStrings bytes f rest e = again CharacterStrings CharacterStrings same_strings (character_strings bytes) f rest e
+    field_again Kind.Options bytes f rest e = again OtherOctets OtherOctets same_other (options bytes) f rest e
+    field_again Kind.TypeBitMaps bytes f rest e = again OtherOctets OtherOctets same_other (bitmap bytes) f rest e
+    field_again Kind.NonEmptyTypeBitMaps bytes f rest e = again OtherOctets OtherOctets same_other (some_bitmap bytes) f rest e
+    field_again Kind.Rest bytes f rest e = again OtherOctets OtherOctets same_other (Some (bytes, [])) f rest e
 
     fields_again : (kinds : List Kind) (bytes : List ℕ) (fields : List (FieldOf V)) (rest : List ℕ) → fields_of reads kinds bytes ≡ Some (map (named_by seen) fields, rest) → fields_of plain kinds bytes ≡ Some (map (named_by name) fields, rest)
     fields_again [] bytes [] rest e = ap (λ l. Some ([], l)) (some_pair_parts [] [] bytes rest e).1
@@ -97,17 +105,18 @@ module _ {V S L : Type 0} (seen : V → S) (name : V → L) where
 
   module _ (reads : List ℕ → ℕ → Option (S × ℕ)) (placed : List ℕ → ℕ → Option (L × ℕ)) (agree : (v : V) (contents : List ℕ) (at end : ℕ) → reads contents at ≡ Some (seen v, end) → placed contents at ≡ Some (name v, end)) where
     field_again_in : (kind : Kind) (contents : List ℕ) (at : ℕ) (f : FieldOf V) (end : ℕ) → field_in reads kind contents at ≡ Some (named_by seen f, end) → field_in placed kind contents at ≡ Some (named_by name f, end)
-    field_again_in OneByte c at f end e = again Byte Byte same_byte (plain_at octet c at) f end e
-    field_again_in (OneNumber w) c at f end e = again (Number w) (Number w) (same_number w) (plain_at (number w) c at) f end e
-    field_again_in (SoMany n) c at f end e = again Raw Raw same_raw (plain_at (octets n) c at) f end e
-    field_again_in CompressibleName c at f end e = compressible_again (reads c at) (placed c at) (λ v later h. agree v c at later h) f end e
-    field_again_in UncompressedName c at f end e = again Uncompressed Uncompressed same_uncompressed (plain_at plain_name c at) f end e
-    field_again_in CharacterString c at f end e = again Sized Sized same_sized (plain_at character_string c at) f end e
-    field_again_in CharacterStrings c at f end e = again Raw Raw same_raw (plain_at character_strings c at) f end e
-    field_again_in Options c at f end e = again Raw Raw same_raw (plain_at options c at) f end e
-    field_again_in TypeBitMaps c at f end e = again Raw Raw same_raw (plain_at bitmap c at) f end e
-    field_again_in NonEmptyTypeBitMaps c at f end e = again Raw Raw same_raw (plain_at some_bitmap c at) f end e
-    field_again_in Rest c at f end e = again Raw Raw same_raw (plain_at (λ bytes. Some (bytes, [])) c at) f end e
+    field_again_in Kind.Byte c at f end e = again Byte Byte same_byte (plain_at octet c at) f end e
+    field_again_in (Kind.Number w) c at f end e = again (Number w) (Number w) (same_number w) (plain_at (number w) c at) f end e
+    field_again_in (Kind.FixedOctets n) c at f end e = again OtherOctets OtherOctets same_other (plain_at (octets n) c at) f end e
+    field_again_in Kind.CompressibleName c at f end e = compressible_again (reads c at) (placed c at) (λ v later h. agree v c at later h) f end e
+    field_again_in Kind.UncompressedName c at f end e = again UncompressedName UncompressedName same_uncompressed (plain_at plain_name c at) f end e
+    field_again_in Kind.CharacterString c at f end e = again CharacterString CharacterString same_string (plain_at character_string c at) f end e
+    field_again_in Kind.CountedOctets c at f end e = again CountedOctets CountedOctets same_counted (plain_at character_string c at) f end e
+    field_again_in Kind.CharacterStrings c at f end e = again CharacterStrings CharacterStrings same_strings (plain_at character_strings c at) f end e
+    field_again_in Kind.Options c at f end e = again OtherOctets OtherOctets same_other (plain_at options c at) f end e
+    field_again_in Kind.TypeBitMaps c at f end e = again OtherOctets OtherOctets same_other (plain_at bitmap c at) f end e
+    field_again_in Kind.NonEmptyTypeBitMaps c at f end e = again OtherOctets OtherOctets same_other (plain_at some_bitmap c at) f end e
+    field_again_in Kind.Rest c at f end e = again OtherOctets OtherOctets same_other (plain_at (λ bytes. Some (bytes, [])) c at) f end e
 
     fields_again_in : (kinds : List Kind) (contents : List ℕ) (at : ℕ) (fields : List (FieldOf V)) (end : ℕ) → fields_in reads kinds contents at ≡ Some (map (named_by seen) fields, end) → fields_in placed kinds contents at ≡ Some (map (named_by name) fields, end)
     fields_again_in [] c at [] end e = ap (λ n. Some ([], n)) (some_pair_parts [] [] at end e).1
@@ -161,7 +170,7 @@ data_again_in seen name reads placed agree rtype c at fields e =
 -- ---- if no name with pointers is among the kinds, the grammar of names is never asked
 
 field_same : {N : Type 0} (name other : List ℕ → Option (N × List ℕ)) (kind : Kind) (bytes : List ℕ) → is_uncompressed kind ≡ true → field_of name kind bytes ≡ field_of other kind bytes
-field_same name other CompressibleName bytes uncompressed = absurd cc
+field_same name other Kind.CompressibleName bytes uncompressed = absurd cc
 field_same name other kind bytes uncompressed = refl
 
 pub fields_same : {N : Type 0} (name other : List ℕ → Option (N × List ℕ)) (kinds : List Kind) (bytes : List ℕ) → all_uncompressed kinds ≡ true → fields_of name kinds bytes ≡ fields_of other kinds bytes

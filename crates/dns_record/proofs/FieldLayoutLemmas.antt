@@ -8,7 +8,7 @@ use Rattle.dns_wire.specs.Layout.{LayoutPart, octets_writes, list_writes, Layout
 use Rattle.dns_wire.specs.Layout.LayoutPart.{NamePart, OctetsPart}
 use Rattle.dns_wire.specs.LayoutLemmas.{part_matches, then_matches}
 use Rattle.dns_record.specs.Fields.{FieldOf}
-use Rattle.dns_record.specs.Fields.FieldOf.{Compressible, Uncompressed, Raw, Sized, Byte, Number}
+use Rattle.dns_record.specs.Fields.FieldOf.{CompressibleName, UncompressedName, CharacterString, CountedOctets, CharacterStrings, OtherOctets, Byte, Number}
 use Rattle.dns_record.specs.InMessage.{of_field, fields_write, one_name, fields_layout}
 
 -- a value that is one name
@@ -25,10 +25,12 @@ nothing_matches contents places = refl
 
 module _ {N : Type 0} (writes : N → CompressedWrite) (layout : N → Option (List LayoutPart)) (layout_matches : (n : N) → LayoutMatches (layout n) (writes n)) where
   field_matches : (field : FieldOf N) → LayoutMatches (of_field (λ n. one_name (layout n)) (λ octets. Some (OctetsPart octets ∷ [])) field) (of_field writes octets_writes field)
-  field_matches (Compressible n) = name_matches (layout n) (writes n) (layout_matches n)
-  field_matches (Uncompressed labels) = part_matches (OctetsPart (wire labels))
-  field_matches (Raw octets) = part_matches (OctetsPart octets)
-  field_matches (Sized octets) = part_matches (OctetsPart (length octets ∷ octets))
+  field_matches (CompressibleName n) = name_matches (layout n) (writes n) (layout_matches n)
+  field_matches (UncompressedName labels) = part_matches (OctetsPart (wire labels))
+  field_matches (CharacterString octets) = part_matches (OctetsPart (length octets ∷ octets))
+  field_matches (CountedOctets octets) = part_matches (OctetsPart (length octets ∷ octets))
+  field_matches (CharacterStrings octets) = part_matches (OctetsPart octets)
+  field_matches (OtherOctets octets) = part_matches (OctetsPart octets)
   field_matches (Byte b) = part_matches (OctetsPart (b ∷ []))
   field_matches (Number w n) = part_matches (OctetsPart (to_be_bytes w n))
 

@@ -8,10 +8,9 @@ use Rattle.std.proofs.lemmas.List.{length-append}
 use Rattle.dns_wire.proofs.Lowered.{lowered_long}
 use Rattle.dns_record.specs.Data.{data_in}
 use Rattle.dns_record.specs.Fields.{Field, field_octets, fields_octets, lowercased_field, canonical_octets}
-use Rattle.dns_record.specs.Fields.FieldOf.{Compressible, Uncompressed, Raw, Sized, Byte, Number}
+use Rattle.dns_record.specs.Fields.FieldOf.{CompressibleName, UncompressedName, CharacterString, CountedOctets, CharacterStrings, OtherOctets, Byte, Number}
 use Rattle.dns_record.specs.InPlace.{FieldAt, FieldsAt, DataAt}
 use Rattle.dns_record.specs.Kinds.{Kind}
-use Rattle.dns_record.specs.Kinds.Kind.{OneByte, OneNumber, SoMany, CompressibleName, UncompressedName, CharacterString, CharacterStrings, Options, TypeBitMaps, NonEmptyTypeBitMaps, Rest}
 use Rattle.dns_record.specs.Formats.{rdata_format}
 use Rattle.dns_record.specs.Types.{is_lowercased}
 use Rattle.dns_record.proofs.EachFormat.{of_each_format}
@@ -22,10 +21,12 @@ use Rattle.dns_record.proofs.Worded.{data_is}
 -- ---- in lowercase
 
 pub field_lowercased_long : (field : Field) → length (field_octets (lowercased_field field)) ≡ length (field_octets field)
-field_lowercased_long (Compressible labels) = lowered_long labels
-field_lowercased_long (Uncompressed labels) = lowered_long labels
-field_lowercased_long (Raw octets) = refl
-field_lowercased_long (Sized octets) = refl
+field_lowercased_long (CompressibleName labels) = lowered_long labels
+field_lowercased_long (UncompressedName labels) = lowered_long labels
+field_lowercased_long (CharacterString octets) = refl
+field_lowercased_long (CountedOctets octets) = refl
+field_lowercased_long (CharacterStrings octets) = refl
+field_lowercased_long (OtherOctets octets) = refl
 field_lowercased_long (Byte b) = refl
 field_lowercased_long (Number w n) = refl
 
@@ -47,17 +48,18 @@ digits_long w64 n = refl
 digits_long w128 n = refl
 
 field_long : (kind : Kind) (contents : List ℕ) (at : ℕ) (field : Field) (end : ℕ) → is_uncompressed kind ≡ true → FieldAt kind contents at field end → end ≡ at + length (field_octets field)
-field_long OneByte contents at (Byte b) end uncompressed is = is.end_is
-field_long (OneNumber w) contents at (Number v n) end uncompressed is = omega (arith, is.1.end_is, digits_long v n, ap byte_len is.0)
-field_long (SoMany n) contents at (Raw octets) end uncompressed is = is.1.end_is
-field_long CompressibleName contents at field end uncompressed is = absurd cc
-field_long UncompressedName contents at (Uncompressed labels) end uncompressed is = is.occurs.end_is
-field_long CharacterString contents at (Sized octets) end uncompressed is = is.end_is
-field_long CharacterStrings contents at (Raw octets) end uncompressed is = is.1.end_is
-field_long Options contents at (Raw octets) end uncompressed is = is.1.end_is
-field_long TypeBitMaps contents at (Raw octets) end uncompressed is = is.1.end_is
-field_long NonEmptyTypeBitMaps contents at (Raw octets) end uncompressed is = is.1.end_is
-field_long Rest contents at (Raw octets) end uncompressed is = is.1.end_is
+field_long Kind.Byte contents at (Byte b) end uncompressed is = is.end_is
+field_long (Kind.Number w) contents at (Number v n) end uncompressed is = omega (arith, is.1.end_is, digits_long v n, ap byte_len is.0)
+field_long (Kind.FixedOctets n) contents at (OtherOctets octets) end uncompressed is = is.1.end_is
+field_long Kind.CompressibleName contents at field end uncompressed is = absurd cc
+field_long Kind.UncompressedName contents at (UncompressedName labels) end uncompressed is = is.occurs.end_is
+field_long Kind.CharacterString contents at (CharacterString octets) end uncompressed is = is.end_is
+field_long Kind.CountedOctets contents at (CountedOctets octets) end uncompressed is = is.end_is
+field_long Kind.CharacterStrings contents at (CharacterStrings octets) end uncompressed is = is.1.end_is
+field_long Kind.Options contents at (OtherOctets octets) end uncompressed is = is.1.end_is
+field_long Kind.TypeBitMaps contents at (OtherOctets octets) end uncompressed is = is.1.end_is
+field_long Kind.NonEmptyTypeBitMaps contents at (OtherOctets octets) end uncompressed is = is.1.end_is
+field_long Kind.Rest contents at (OtherOctets octets) end uncompressed is = is.1.end_is
 field_long kind contents at field end uncompressed is = absurd is
 
 fields_long : (kinds : List Kind) (contents : List ℕ) (at : ℕ) (fields : List Field) (end : ℕ) → all_uncompressed kinds ≡ true → FieldsAt kinds contents at fields end → end ≡ at + length (fields_octets fields)
@@ -70,8 +72,8 @@ fields_long (kind ∷ kinds) contents at fields end uncompressed (field, next, o
 -- ---- fields that have few octets, whatever they take
 
 abbrev is_small : Kind → Bool
-is_small (OneNumber w) = true
-is_small CompressibleName = true
+is_small (Kind.Number w) = true
+is_small Kind.CompressibleName = true
 is_small kind = false
 
 abbrev all_small : List Kind → Bool
@@ -86,17 +88,18 @@ number_small w64 = omega arith
 number_small w128 = omega arith
 
 field_small : (kind : Kind) (contents : List ℕ) (at : ℕ) (field : Field) (end : ℕ) → is_small kind ≡ true → FieldAt kind contents at field end → length (field_octets field) ≤ 256
-field_small (OneNumber w) contents at (Number v n) end small is = omega (arith, digits_long v n, number_small v)
-field_small CompressibleName contents at (Compressible labels) end small is = omega (arith, is.short)
-field_small OneByte contents at field end small is = absurd cc
-field_small (SoMany n) contents at field end small is = absurd cc
-field_small UncompressedName contents at field end small is = absurd cc
-field_small CharacterString contents at field end small is = absurd cc
-field_small CharacterStrings contents at field end small is = absurd cc
-field_small Options contents at field end small is = absurd cc
-field_small TypeBitMaps contents at field end small is = absurd cc
-field_small NonEmptyTypeBitMaps contents at field end small is = absurd cc
-field_small Rest contents at field end small is = absurd cc
+field_small (Kind.Number w) contents at (Number v n) end small is = omega (arith, digits_long v n, number_small v)
+field_small Kind.CompressibleName contents at (CompressibleName labels) end small is = omega (arith, is.short)
+field_small Kind.Byte contents at field end small is = absurd cc
+field_small (Kind.FixedOctets n) contents at field end small is = absurd cc
+field_small Kind.UncompressedName contents at field end small is = absurd cc
+field_small Kind.CharacterString contents at field end small is = absurd cc
+field_small Kind.CountedOctets contents at field end small is = absurd cc
+field_small Kind.CharacterStrings contents at field end small is = absurd cc
+field_small Kind.Options contents at field end small is = absurd cc
+field_small Kind.TypeBitMaps contents at field end small is = absurd cc
+field_small Kind.NonEmptyTypeBitMaps contents at field end small is = absurd cc
+field_small Kind.Rest contents at field end small is = absurd cc
 field_small kind contents at field end small is = absurd is
 
 fields_small : (kinds : List Kind) (contents : List ℕ) (at : ℕ) (fields : List Field) (end : ℕ) → all_small kinds ≡ true → FieldsAt kinds contents at fields end → length (fields_octets fields) ≤ 256 * length kinds

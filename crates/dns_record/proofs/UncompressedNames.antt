@@ -10,15 +10,14 @@ use Rattle.dns_record.specs.DataLemmas.{field_leaves}
 use Rattle.dns_wire.specs.Names.{plain_name}
 use Rattle.dns_wire.specs.Steps.{◌>>=◌, first_to}
 use Rattle.dns_record.specs.Fields.{FieldOf}
-use Rattle.dns_record.specs.Fields.FieldOf.{Uncompressed, Raw, Sized, Byte, Number}
+use Rattle.dns_record.specs.Fields.FieldOf.{UncompressedName, CharacterString, CountedOctets, CharacterStrings, OtherOctets, Byte, Number}
 use Rattle.dns_record.specs.Kinds.{Kind, field_of, fields_of, field_in, fields_in}
-use Rattle.dns_record.specs.Kinds.Kind.{OneByte, OneNumber, SoMany, CompressibleName, UncompressedName, CharacterString, CharacterStrings, Options, TypeBitMaps, NonEmptyTypeBitMaps, Rest}
 use Rattle.dns_record.specs.Options.{options}
 use Rattle.dns_record.specs.CharacterStrings.{character_string, character_strings}
 use Rattle.dns_record.specs.TypeBitMaps.{bitmap, some_bitmap}
 
 abbrev pub is_uncompressed : Kind → Bool
-is_uncompressed CompressibleName = false
+is_uncompressed Kind.CompressibleName = false
 is_uncompressed kind = true
 
 -- no name with pointers among the kinds
@@ -49,17 +48,18 @@ plain_first g to c at = first_at to c (ltb (length c) at) (g (drop at c))
 
 module _ {N : Type 0} (place : List ℕ → ℕ → Option (N × ℕ)) (name : List ℕ → Option (N × List ℕ)) (leaves : LeavesRest name) where
   pub field_placed : (kind : Kind) (c : List ℕ) (at : ℕ) → is_uncompressed kind ≡ true → field_in place kind c at ≡ plain_at (field_of name kind) c at
-  field_placed OneByte c at uncompressed = plain_first octet Byte c at
-  field_placed (OneNumber w) c at uncompressed = plain_first (number w) (Number w) c at
-  field_placed (SoMany n) c at uncompressed = plain_first (octets n) Raw c at
-  field_placed CompressibleName c at uncompressed = absurd cc
-  field_placed UncompressedName c at uncompressed = plain_first plain_name Uncompressed c at
-  field_placed CharacterString c at uncompressed = plain_first character_string Sized c at
-  field_placed CharacterStrings c at uncompressed = plain_first character_strings Raw c at
-  field_placed Options c at uncompressed = plain_first options Raw c at
-  field_placed TypeBitMaps c at uncompressed = plain_first bitmap Raw c at
-  field_placed NonEmptyTypeBitMaps c at uncompressed = plain_first some_bitmap Raw c at
-  field_placed Rest c at uncompressed = plain_first (λ bytes. Some (bytes, [])) Raw c at
+  field_placed Kind.Byte c at uncompressed = plain_first octet Byte c at
+  field_placed (Kind.Number w) c at uncompressed = plain_first (number w) (Number w) c at
+  field_placed (Kind.FixedOctets n) c at uncompressed = plain_first (octets n) OtherOctets c at
+  field_placed Kind.CompressibleName c at uncompressed = absurd cc
+  field_placed Kind.UncompressedName c at uncompressed = plain_first plain_name UncompressedName c at
+  field_placed Kind.CharacterString c at uncompressed = plain_first character_string CharacterString c at
+  field_placed Kind.CountedOctets c at uncompressed = plain_first character_string CountedOctets c at
+  field_placed Kind.CharacterStrings c at uncompressed = plain_first character_strings CharacterStrings c at
+  field_placed Kind.Options c at uncompressed = plain_first options OtherOctets c at
+  field_placed Kind.TypeBitMaps c at uncompressed = plain_first bitmap OtherOctets c at
+  field_placed Kind.NonEmptyTypeBitMaps c at uncompressed = plain_first some_bitmap OtherOctets c at
+  field_placed Kind.Rest c at uncompressed = plain_first (λ bytes. Some (bytes, [])) OtherOctets c at
 
   in_prefix : (f : FieldOf N) (c : List ℕ) (read : Option (List (FieldOf N) × List ℕ)) → put_first f (with_end c read) ≡ with_end c (put_first f read)
   in_prefix f c None = refl

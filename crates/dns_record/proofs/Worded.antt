@@ -14,10 +14,9 @@ use Rattle.dns_wire.proofs.Following.{name_at_is, name_at_finds}
 use Rattle.dns_wire.proofs.Spelled.{plain_name_takes, plain_name_again}
 use Rattle.dns_record.specs.Data.{data_in}
 use Rattle.dns_record.specs.Fields.{Field}
-use Rattle.dns_record.specs.Fields.FieldOf.{Compressible, Uncompressed, Raw, Sized, Byte, Number}
+use Rattle.dns_record.specs.Fields.FieldOf.{CompressibleName, UncompressedName, CharacterString, CountedOctets, CharacterStrings, OtherOctets, Byte, Number}
 use Rattle.dns_record.specs.InPlace.{OctetsAt, AreCharacterStrings, AreOptions, AreWindows, FieldAt, FieldsAt, DataAt, QuestionAt, RecordAt}
 use Rattle.dns_record.specs.Kinds.{Kind, field_in, fields_in}
-use Rattle.dns_record.specs.Kinds.Kind.{OneByte, OneNumber, SoMany, CompressibleName, UncompressedName, CharacterString, CharacterStrings, Options, TypeBitMaps, NonEmptyTypeBitMaps, Rest}
 use Rattle.dns_record.specs.Questions.{QuestionOf, question_in}
 use Rattle.dns_record.specs.Records.{RecordOf, record_in, end_of}
 use Rattle.dns_record.specs.Formats.{rdata_format}
@@ -117,46 +116,49 @@ some_found contents at found end whole o is some =
     read_placed some_bitmap contents at found end (record { within = p.within; rest = p.rest; read = some_read (drop at contents) long ∙ p.read; end_is = p.end_is })
 
 field_is : (kind : Kind) (contents : List ℕ) (at : ℕ) (field : Field) (end : ℕ) → field_in name_at kind contents at ≡ Some (field, end) → FieldAt kind contents at field end
-field_is OneByte contents at field end e =
+field_is Kind.Byte contents at field end e =
     let p = put_in Byte (plain_at octet contents at) field end e in
-    subst (λ (f : Field). FieldAt OneByte contents at f end) p.is (occurs_at octet (λ b. b ∷ []) contents at p.value end (λ rest read. octet_spelled (drop at contents) p.value rest read) p.first)
-field_is (OneNumber w) contents at field end e =
+    subst (λ (f : Field). FieldAt Kind.Byte contents at f end) p.is (occurs_at octet (λ b. b ∷ []) contents at p.value end (λ rest read. octet_spelled (drop at contents) p.value rest read) p.first)
+field_is (Kind.Number w) contents at field end e =
     let p = put_in (Number w) (plain_at (number w) contents at) field end e in
-    subst (λ (f : Field). FieldAt (OneNumber w) contents at f end) p.is (refl, number_at w contents at p.value end p.first)
-field_is (SoMany n) contents at field end e =
-    let p = put_in Raw (plain_at (octets n) contents at) field end e in
+    subst (λ (f : Field). FieldAt (Kind.Number w) contents at f end) p.is (refl, number_at w contents at p.value end p.first)
+field_is (Kind.FixedOctets n) contents at field end e =
+    let p = put_in OtherOctets (plain_at (octets n) contents at) field end e in
     let q = placed (octets n) contents at p.value end p.first in
-    subst (λ (f : Field). FieldAt (SoMany n) contents at f end) p.is
+    subst (λ (f : Field). FieldAt (Kind.FixedOctets n) contents at f end) p.is
     ((octets_spelled n (drop at contents) p.value q.rest q.read).0, occurs_at (octets n) (λ o. o) contents at p.value end (λ rest read. (octets_spelled n (drop at contents) p.value rest read).1) p.first)
-field_is CompressibleName contents at field end e =
-    let p = put_in Compressible (name_at contents at) field end e in
-    subst (λ (f : Field). FieldAt CompressibleName contents at f end) p.is (name_at_is contents at p.value end p.first)
-field_is UncompressedName contents at field end e =
-    let p = put_in Uncompressed (plain_at plain_name contents at) field end e in
+field_is Kind.CompressibleName contents at field end e =
+    let p = put_in CompressibleName (name_at contents at) field end e in
+    subst (λ (f : Field). FieldAt Kind.CompressibleName contents at f end) p.is (name_at_is contents at p.value end p.first)
+field_is Kind.UncompressedName contents at field end e =
+    let p = put_in UncompressedName (plain_at plain_name contents at) field end e in
     let q = placed plain_name contents at p.value end p.first in
-    subst (λ (f : Field). FieldAt UncompressedName contents at f end) p.is
+    subst (λ (f : Field). FieldAt Kind.UncompressedName contents at f end) p.is
     (record {
       name = (plain_name_takes (drop at contents) p.value q.rest q.read).0;
       occurs = occurs_at plain_name wire contents at p.value end (λ rest read. (plain_name_takes (drop at contents) p.value rest read).1) p.first;
     })
-field_is CharacterString contents at field end e =
-    let p = put_in Sized (plain_at character_string contents at) field end e in
-    subst (λ (f : Field). FieldAt CharacterString contents at f end) p.is (occurs_at character_string (λ o. length o ∷ o) contents at p.value end (λ rest read. text_spelled (drop at contents) p.value rest read) p.first)
-field_is CharacterStrings contents at field end e =
-    let p = put_in Raw (plain_at character_strings contents at) field end e in
-    subst (λ (f : Field). FieldAt CharacterStrings contents at f end) p.is (tested_spelled is_txt_data AreCharacterStrings character_strings_are contents at p.value end p.first)
-field_is Options contents at field end e =
-    let p = put_in Raw (plain_at options contents at) field end e in
-    subst (λ (f : Field). FieldAt Options contents at f end) p.is (tested_spelled is_option_data AreOptions options_are contents at p.value end p.first)
-field_is TypeBitMaps contents at field end e =
-    let p = put_in Raw (plain_at bitmap contents at) field end e in
-    subst (λ (f : Field). FieldAt TypeBitMaps contents at f end) p.is (tested_spelled is_bitmap AreWindows bitmap_is contents at p.value end p.first)
-field_is NonEmptyTypeBitMaps contents at field end e =
-    let p = put_in Raw (plain_at some_bitmap contents at) field end e in
-    subst (λ (f : Field). FieldAt NonEmptyTypeBitMaps contents at f end) p.is (some_spelled contents at p.value end p.first)
-field_is Rest contents at field end e =
-    let p = put_in Raw (plain_at (λ bytes. Some (bytes, [])) contents at) field end e in
-    subst (λ (f : Field). FieldAt Rest contents at f end) p.is (rest_spelled contents at p.value end p.first)
+field_is Kind.CharacterString contents at field end e =
+    let p = put_in CharacterString (plain_at character_string contents at) field end e in
+    subst (λ (f : Field). FieldAt Kind.CharacterString contents at f end) p.is (occurs_at character_string (λ o. length o ∷ o) contents at p.value end (λ rest read. text_spelled (drop at contents) p.value rest read) p.first)
+field_is Kind.CountedOctets contents at field end e =
+    let p = put_in CountedOctets (plain_at character_string contents at) field end e in
+    subst (λ (f : Field). FieldAt Kind.CountedOctets contents at f end) p.is (occurs_at character_string (λ o. length o ∷ o) contents at p.value end (λ rest read. text_spelled (drop at contents) p.value rest read) p.first)
+field_is Kind.CharacterStrings contents at field end e =
+    let p = put_in CharacterStrings (plain_at character_strings contents at) field end e in
+    subst (λ (f : Field). FieldAt Kind.CharacterStrings contents at f end) p.is (tested_spelled is_txt_data AreCharacterStrings character_strings_are contents at p.value end p.first)
+field_is Kind.Options contents at field end e =
+    let p = put_in OtherOctets (plain_at options contents at) field end e in
+    subst (λ (f : Field). FieldAt Kind.Options contents at f end) p.is (tested_spelled is_option_data AreOptions options_are contents at p.value end p.first)
+field_is Kind.TypeBitMaps contents at field end e =
+    let p = put_in OtherOctets (plain_at bitmap contents at) field end e in
+    subst (λ (f : Field). FieldAt Kind.TypeBitMaps contents at f end) p.is (tested_spelled is_bitmap AreWindows bitmap_is contents at p.value end p.first)
+field_is Kind.NonEmptyTypeBitMaps contents at field end e =
+    let p = put_in OtherOctets (plain_at some_bitmap contents at) field end e in
+    subst (λ (f : Field). FieldAt Kind.NonEmptyTypeBitMaps contents at f end) p.is (some_spelled contents at p.value end p.first)
+field_is Kind.Rest contents at field end e =
+    let p = put_in OtherOctets (plain_at (λ bytes. Some (bytes, [])) contents at) field end e in
+    subst (λ (f : Field). FieldAt Kind.Rest contents at f end) p.is (rest_spelled contents at p.value end p.first)
 
 rest_read : (contents : List ℕ) (at : ℕ) (found : List ℕ) (end : ℕ) → end ≡ length contents → OctetsAt contents at found end → plain_at (λ bytes. Some (bytes, [])) contents at ≡ Some (found, end)
 rest_read contents at found end whole o =
@@ -166,19 +168,20 @@ rest_read contents at found end whole o =
     rw fits (ap (λ (l : List ℕ). Some (l, length contents - 0)) all ∙ ap (λ (n : ℕ). Some (found, n)) last)
 
 field_found : (kind : Kind) (contents : List ℕ) (at : ℕ) (field : Field) (end : ℕ) → FieldAt kind contents at field end → field_in name_at kind contents at ≡ Some (field, end)
-field_found OneByte contents at (Byte b) end h = ap (first_to Byte) (read_at octet (λ b. b ∷ []) contents at b end (λ rest. refl) h)
-field_found (OneNumber w) contents at (Number v n) end h =
+field_found Kind.Byte contents at (Byte b) end h = ap (first_to Byte) (read_at octet (λ b. b ∷ []) contents at b end (λ rest. refl) h)
+field_found (Kind.Number w) contents at (Number v n) end h =
     let read : first_to (Number w) (plain_at (number w) contents at) ≡ Some (Number w n, end) = ap (first_to (Number w)) (read_number w contents at n end h.1) in
     read ∙ ap (λ (u : Width). Some (Number u n, end)) (sym h.0)
-field_found (SoMany n) contents at (Raw found) end h = ap (first_to Raw) (read_at (octets n) (λ o. o) contents at found end (λ rest. octets_read n found rest h.0) h.1)
-field_found CompressibleName contents at (Compressible labels) end h = ap (first_to Compressible) (name_at_finds contents at labels end h)
-field_found UncompressedName contents at (Uncompressed labels) end h = ap (first_to Uncompressed) (read_at plain_name wire contents at labels end (λ rest. plain_name_again (wire labels ++ rest) labels rest h.name refl) h.occurs)
-field_found CharacterString contents at (Sized found) end h = ap (first_to Sized) (read_at character_string (λ o. length o ∷ o) contents at found end (λ rest. text_read found rest) h)
-field_found CharacterStrings contents at (Raw found) end h = ap (first_to Raw) (tested_read is_txt_data AreCharacterStrings contents at found end h.0 h.1 (are_character_strings found h.2))
-field_found Options contents at (Raw found) end h = ap (first_to Raw) (tested_read is_option_data AreOptions contents at found end h.0 h.1 (are_these_options found h.2))
-field_found TypeBitMaps contents at (Raw found) end h = ap (first_to Raw) (tested_read is_bitmap AreWindows contents at found end h.0 h.1 (is_this_bitmap found h.2))
-field_found NonEmptyTypeBitMaps contents at (Raw found) end h = ap (first_to Raw) (some_found contents at found end h.0 h.1 h.2 h.3)
-field_found Rest contents at (Raw found) end h = ap (first_to Raw) (rest_read contents at found end h.0 h.1)
+field_found (Kind.FixedOctets n) contents at (OtherOctets found) end h = ap (first_to OtherOctets) (read_at (octets n) (λ o. o) contents at found end (λ rest. octets_read n found rest h.0) h.1)
+field_found Kind.CompressibleName contents at (CompressibleName labels) end h = ap (first_to CompressibleName) (name_at_finds contents at labels end h)
+field_found Kind.UncompressedName contents at (UncompressedName labels) end h = ap (first_to UncompressedName) (read_at plain_name wire contents at labels end (λ rest. plain_name_again (wire labels ++ rest) labels rest h.name refl) h.occurs)
+field_found Kind.CharacterString contents at (CharacterString found) end h = ap (first_to CharacterString) (read_at character_string (λ o. length o ∷ o) contents at found end (λ rest. text_read found rest) h)
+field_found Kind.CountedOctets contents at (CountedOctets found) end h = ap (first_to CountedOctets) (read_at character_string (λ o. length o ∷ o) contents at found end (λ rest. text_read found rest) h)
+field_found Kind.CharacterStrings contents at (CharacterStrings found) end h = ap (first_to CharacterStrings) (tested_read is_txt_data AreCharacterStrings contents at found end h.0 h.1 (are_character_strings found h.2))
+field_found Kind.Options contents at (OtherOctets found) end h = ap (first_to OtherOctets) (tested_read is_option_data AreOptions contents at found end h.0 h.1 (are_these_options found h.2))
+field_found Kind.TypeBitMaps contents at (OtherOctets found) end h = ap (first_to OtherOctets) (tested_read is_bitmap AreWindows contents at found end h.0 h.1 (is_this_bitmap found h.2))
+field_found Kind.NonEmptyTypeBitMaps contents at (OtherOctets found) end h = ap (first_to OtherOctets) (some_found contents at found end h.0 h.1 h.2 h.3)
+field_found Kind.Rest contents at (OtherOctets found) end h = ap (first_to OtherOctets) (rest_read contents at found end h.0 h.1)
 field_found kind contents at field end h = absurd h
 
 -- ---- fields one after another

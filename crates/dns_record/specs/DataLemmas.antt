@@ -8,9 +8,8 @@ use Rattle.dns_wire.specs.Names.{plain_name}
 use Rattle.dns_wire.proofs.NamesLemmas.{plain_name_leaves}
 use Rattle.dns_wire.specs.Reading.{Follows, LeavesRest, EndsWithin, octet, octets, number, plain_at}
 use Rattle.dns_record.specs.Fields.{FieldOf}
-use Rattle.dns_record.specs.Fields.FieldOf.{Compressible, Uncompressed, Raw, Sized, Byte, Number}
+use Rattle.dns_record.specs.Fields.FieldOf.{CompressibleName, UncompressedName, CharacterString, CountedOctets, CharacterStrings, OtherOctets, Byte, Number}
 use Rattle.dns_record.specs.Kinds.{Kind, field_of, fields_of, field_in, fields_in, no_name}
-use Rattle.dns_record.specs.Kinds.Kind.{OneByte, OneNumber, SoMany, CompressibleName, UncompressedName, CharacterString, CharacterStrings, Options, TypeBitMaps, NonEmptyTypeBitMaps, Rest}
 use Rattle.dns_record.specs.Options.{options, is_option_data}
 use Rattle.dns_record.specs.Questions.{question_at, question_in}
 use Rattle.dns_record.specs.Records.{record_at, record_in, end_of}
@@ -40,17 +39,18 @@ some_bitmap_leaves (number ∷ bytes) octets rest e = bitmap_leaves (number ∷ 
 -- ---- fields
 
 pub field_leaves : {N : Type 0} (name : List ℕ → Option (N × List ℕ)) → LeavesRest name → (kind : Kind) → LeavesRest (field_of name kind)
-field_leaves name leaves OneByte = put_leaves Byte octet octet_leaves
-field_leaves name leaves (OneNumber w) = put_leaves (Number w) (number w) (number_leaves w)
-field_leaves name leaves (SoMany n) = put_leaves Raw (octets n) (octets_leave n)
-field_leaves name leaves CompressibleName = put_leaves Compressible name leaves
-field_leaves name leaves UncompressedName = put_leaves Uncompressed plain_name plain_name_leaves
-field_leaves name leaves CharacterString = put_leaves Sized character_string character_string_leaves
-field_leaves name leaves CharacterStrings = put_leaves Raw character_strings character_strings_leave
-field_leaves name leaves Options = put_leaves Raw options options_leave
-field_leaves name leaves TypeBitMaps = put_leaves Raw bitmap bitmap_leaves
-field_leaves name leaves NonEmptyTypeBitMaps = put_leaves Raw some_bitmap some_bitmap_leaves
-field_leaves name leaves Rest = put_leaves Raw (λ bytes. Some (bytes, [])) whole_leaves
+field_leaves name leaves Kind.Byte = put_leaves Byte octet octet_leaves
+field_leaves name leaves (Kind.Number w) = put_leaves (Number w) (number w) (number_leaves w)
+field_leaves name leaves (Kind.FixedOctets n) = put_leaves OtherOctets (octets n) (octets_leave n)
+field_leaves name leaves Kind.CompressibleName = put_leaves CompressibleName name leaves
+field_leaves name leaves Kind.UncompressedName = put_leaves UncompressedName plain_name plain_name_leaves
+field_leaves name leaves Kind.CharacterString = put_leaves CharacterString character_string character_string_leaves
+field_leaves name leaves Kind.CountedOctets = put_leaves CountedOctets character_string character_string_leaves
+field_leaves name leaves Kind.CharacterStrings = put_leaves CharacterStrings character_strings character_strings_leave
+field_leaves name leaves Kind.Options = put_leaves OtherOctets options options_leave
+field_leaves name leaves Kind.TypeBitMaps = put_leaves OtherOctets bitmap bitmap_leaves
+field_leaves name leaves Kind.NonEmptyTypeBitMaps = put_leaves OtherOctets some_bitmap some_bitmap_leaves
+field_leaves name leaves Kind.Rest = put_leaves OtherOctets (λ bytes. Some (bytes, [])) whole_leaves
 
 pub fields_leave : {N : Type 0} (name : List ℕ → Option (N × List ℕ)) → LeavesRest name → (kinds : List Kind) → LeavesRest (fields_of name kinds)
 fields_leave name leaves [] bytes fields rest e = record { count = 0; within = omega arith; rest_is = sym (some_pair_parts [] fields bytes rest e).1 }
@@ -63,17 +63,18 @@ fields_leave name leaves (kind ∷ kinds) bytes fields rest e =
     follows_both bytes first.0.1 rest prefix (subst (λ (l : List ℕ). Follows l first.0.1) same.1 trailing)
 
 pub field_ends : {N : Type 0} (name : List ℕ → ℕ → Option (N × ℕ)) → EndsWithin name → (kind : Kind) → EndsWithin (field_in name kind)
-field_ends name ends OneByte = put_ends Byte (plain_at octet) (plain_ends octet octet_leaves)
-field_ends name ends (OneNumber w) = put_ends (Number w) (plain_at (number w)) (plain_ends (number w) (number_leaves w))
-field_ends name ends (SoMany n) = put_ends Raw (plain_at (octets n)) (plain_ends (octets n) (octets_leave n))
-field_ends name ends CompressibleName = put_ends Compressible name ends
-field_ends name ends UncompressedName = put_ends Uncompressed (plain_at plain_name) (plain_ends plain_name plain_name_leaves)
-field_ends name ends CharacterString = put_ends Sized (plain_at character_string) (plain_ends character_string character_string_leaves)
-field_ends name ends CharacterStrings = put_ends Raw (plain_at character_strings) (plain_ends character_strings character_strings_leave)
-field_ends name ends Options = put_ends Raw (plain_at options) (plain_ends options options_leave)
-field_ends name ends TypeBitMaps = put_ends Raw (plain_at bitmap) (plain_ends bitmap bitmap_leaves)
-field_ends name ends NonEmptyTypeBitMaps = put_ends Raw (plain_at some_bitmap) (plain_ends some_bitmap some_bitmap_leaves)
-field_ends name ends Rest = put_ends Raw (plain_at (λ bytes. Some (bytes, []))) (plain_ends (λ bytes. Some (bytes, [])) whole_leaves)
+field_ends name ends Kind.Byte = put_ends Byte (plain_at octet) (plain_ends octet octet_leaves)
+field_ends name ends (Kind.Number w) = put_ends (Number w) (plain_at (number w)) (plain_ends (number w) (number_leaves w))
+field_ends name ends (Kind.FixedOctets n) = put_ends OtherOctets (plain_at (octets n)) (plain_ends (octets n) (octets_leave n))
+field_ends name ends Kind.CompressibleName = put_ends CompressibleName name ends
+field_ends name ends Kind.UncompressedName = put_ends UncompressedName (plain_at plain_name) (plain_ends plain_name plain_name_leaves)
+field_ends name ends Kind.CharacterString = put_ends CharacterString (plain_at character_string) (plain_ends character_string character_string_leaves)
+field_ends name ends Kind.CountedOctets = put_ends CountedOctets (plain_at character_string) (plain_ends character_string character_string_leaves)
+field_ends name ends Kind.CharacterStrings = put_ends CharacterStrings (plain_at character_strings) (plain_ends character_strings character_strings_leave)
+field_ends name ends Kind.Options = put_ends OtherOctets (plain_at options) (plain_ends options options_leave)
+field_ends name ends Kind.TypeBitMaps = put_ends OtherOctets (plain_at bitmap) (plain_ends bitmap bitmap_leaves)
+field_ends name ends Kind.NonEmptyTypeBitMaps = put_ends OtherOctets (plain_at some_bitmap) (plain_ends some_bitmap some_bitmap_leaves)
+field_ends name ends Kind.Rest = put_ends OtherOctets (plain_at (λ bytes. Some (bytes, []))) (plain_ends (λ bytes. Some (bytes, [])) whole_leaves)
 
 pub fields_end_from : {N : Type 0} (name : List ℕ → ℕ → Option (N × ℕ)) → EndsWithin name → (kinds : List Kind) (contents : List ℕ) (at : ℕ) (fields : List (FieldOf N)) (end : ℕ) → at ≤ length contents → fields_in name kinds contents at ≡ Some (fields, end) → (at ≤ end) × (end ≤ length contents)
 fields_end_from name ends [] contents at fields end within e = let same = some_pair_parts [] fields at end e in (omega (arith, same.1), omega (arith, within, same.1))

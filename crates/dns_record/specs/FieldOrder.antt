@@ -8,18 +8,23 @@ use Rattle.std.specs.Hash.{le_bytes, slice, u8}
 use Rattle.std.specs.Int.{byte_len}
 use Rattle.std.specs.Ordering.{nat_cmp}
 use Rattle.dns_wire.specs.Octets.{Octets, Labels}
+use Rattle.dns_record.specs.CharStrHashing.{charstr_writes}
+use Rattle.dns_record.specs.CharStrs.{same_charstr}
 use Rattle.dns_record.specs.Fields.{FieldOf}
-use Rattle.dns_record.specs.Fields.FieldOf.{Compressible, Uncompressed, Raw, Sized, Byte, Number}
+use Rattle.dns_record.specs.Fields.FieldOf.{CompressibleName, UncompressedName, CharacterString, CountedOctets, CharacterStrings, OtherOctets, Byte, Number}
+use Rattle.dns_record.specs.Strings.{same_strings, strings_in, strings_writes}
 
 -- ---- order
 
 -- two fields: names as given, for those that may have pointers and for those without; octets as they are; numbers as
 -- numbers
 abbrev pub field_cmp : {N : Type 0} → (N → N → Ordering) → (Labels → Labels → Ordering) → FieldOf N → FieldOf N → Ordering
-field_cmp named uncompressed (Compressible a) (Compressible b) = named a b
-field_cmp named uncompressed (Uncompressed a) (Uncompressed b) = uncompressed a b
-field_cmp named uncompressed (Raw a) (Raw b) = slice_cmp nat_cmp a b
-field_cmp named uncompressed (Sized a) (Sized b) = slice_cmp nat_cmp a b
+field_cmp named uncompressed (CompressibleName a) (CompressibleName b) = named a b
+field_cmp named uncompressed (UncompressedName a) (UncompressedName b) = uncompressed a b
+field_cmp named uncompressed (CharacterString a) (CharacterString b) = slice_cmp nat_cmp a b
+field_cmp named uncompressed (CountedOctets a) (CountedOctets b) = slice_cmp nat_cmp a b
+field_cmp named uncompressed (CharacterStrings a) (CharacterStrings b) = slice_cmp nat_cmp a b
+field_cmp named uncompressed (OtherOctets a) (OtherOctets b) = slice_cmp nat_cmp a b
 field_cmp named uncompressed (Byte a) (Byte b) = nat_cmp a b
 field_cmp named uncompressed (Number v a) (Number w b) = nat_cmp a b
 field_cmp named uncompressed a b = Less
@@ -30,32 +35,37 @@ fields_cmp named uncompressed = slice_cmp (field_cmp named uncompressed)
 
 -- ---- equality
 
--- two fields: names and strings with their size as given; octets as they are; numbers as numbers
-abbrev pub field_eq : {N : Type 0} → (N → N → Bool) → (Labels → Labels → Bool) → (Octets → Octets → Bool) → FieldOf N → FieldOf N → Bool
-field_eq named uncompressed sized (Compressible a) (Compressible b) = named a b
-field_eq named uncompressed sized (Uncompressed a) (Uncompressed b) = uncompressed a b
-field_eq named uncompressed sized (Raw a) (Raw b) = pointwise nat_eq a b
-field_eq named uncompressed sized (Sized a) (Sized b) = sized a b
-field_eq named uncompressed sized (Byte a) (Byte b) = nat_eq a b
-field_eq named uncompressed sized (Number v a) (Number w b) = nat_eq a b
-field_eq named uncompressed sized a b = false
+-- two fields: names as given; character strings without regard to ASCII case (RFC 1035 section 2.3.3), those of TXT one by one;
+-- other octets as they are; numbers as numbers
+abbrev pub field_eq : {N : Type 0} → (N → N → Bool) → (Labels → Labels → Bool) → FieldOf N → FieldOf N → Bool
+field_eq named uncompressed (CompressibleName a) (CompressibleName b) = named a b
+field_eq named uncompressed (UncompressedName a) (UncompressedName b) = uncompressed a b
+field_eq named uncompressed (CharacterString a) (CharacterString b) = same_charstr a b
+field_eq named uncompressed (CountedOctets a) (CountedOctets b) = pointwise nat_eq a b
+field_eq named uncompressed (CharacterStrings a) (CharacterStrings b) = same_strings (strings_in a) (strings_in b)
+field_eq named uncompressed (OtherOctets a) (OtherOctets b) = pointwise nat_eq a b
+field_eq named uncompressed (Byte a) (Byte b) = nat_eq a b
+field_eq named uncompressed (Number v a) (Number w b) = nat_eq a b
+field_eq named uncompressed a b = false
 
 -- field by field
-abbrev pub fields_eq : {N : Type 0} → (N → N → Bool) → (Labels → Labels → Bool) → (Octets → Octets → Bool) → List (FieldOf N) → List (FieldOf N) → Bool
-fields_eq named uncompressed sized = pointwise (field_eq named uncompressed sized)
+abbrev pub fields_eq : {N : Type 0} → (N → N → Bool) → (Labels → Labels → Bool) → List (FieldOf N) → List (FieldOf N) → Bool
+fields_eq named uncompressed = pointwise (field_eq named uncompressed)
 
 -- ---- hashing
 
--- what a field feeds: names and strings with their size as given; octets after their number; numbers by their octets, the least
--- significant first
-abbrev pub field_writes : {N : Type 0} → (N → List Octets) → (Labels → List Octets) → (Octets → List Octets) → FieldOf N → List Octets
-field_writes named uncompressed sized (Compressible name) = named name
-field_writes named uncompressed sized (Uncompressed labels) = uncompressed labels
-field_writes named uncompressed sized (Raw octets) = slice u8 octets
-field_writes named uncompressed sized (Sized octets) = sized octets
-field_writes named uncompressed sized (Byte b) = u8 b
-field_writes named uncompressed sized (Number w n) = le_bytes (byte_len w) n ∷ []
+-- what a field feeds: names as given; character strings in lowercase, those of TXT one by one; other octets after their number;
+-- numbers by their octets, the least significant first
+abbrev pub field_writes : {N : Type 0} → (N → List Octets) → (Labels → List Octets) → FieldOf N → List Octets
+field_writes named uncompressed (CompressibleName name) = named name
+field_writes named uncompressed (UncompressedName labels) = uncompressed labels
+field_writes named uncompressed (CharacterString octets) = charstr_writes octets
+field_writes named uncompressed (CountedOctets octets) = slice u8 octets
+field_writes named uncompressed (CharacterStrings octets) = strings_writes (strings_in octets)
+field_writes named uncompressed (OtherOctets octets) = slice u8 octets
+field_writes named uncompressed (Byte b) = u8 b
+field_writes named uncompressed (Number w n) = le_bytes (byte_len w) n ∷ []
 
 -- one field after another
-abbrev pub fields_writes : {N : Type 0} → (N → List Octets) → (Labels → List Octets) → (Octets → List Octets) → List (FieldOf N) → List Octets
-fields_writes named uncompressed sized = flat_map (field_writes named uncompressed sized)
+abbrev pub fields_writes : {N : Type 0} → (N → List Octets) → (Labels → List Octets) → List (FieldOf N) → List Octets
+fields_writes named uncompressed = flat_map (field_writes named uncompressed)

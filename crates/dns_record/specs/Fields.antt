@@ -5,15 +5,16 @@ use Rattle.dns_wire.specs.Octets.{Octets, Labels}
 use Rattle.dns_wire.specs.Names.{wire, lowered}
 use Rattle.dns_record.specs.Types.{is_lowercased}
 
--- A name that in a message may have pointers, which is seen as its type sees it; a name without pointers, by its labels;
--- octets, octets after an octet with their number, one octet, or a number of that many bits.
+-- The words are those of `Kind`. Octets of any other kind are `OtherOctets`.
 pub data FieldOf (N : Type 0) : Type 0 where
-  Compressible : N → FieldOf N
-  Uncompressed : Labels → FieldOf N
-  Raw : Octets → FieldOf N
-  Sized : Octets → FieldOf N
+  CompressibleName : N → FieldOf N  -- a name that in a message may have pointers, as its type sees it
+  UncompressedName : Labels → FieldOf N  -- a name without pointers, by its labels
+  CharacterString : Octets → FieldOf N  -- without the octet before them
+  CountedOctets : Octets → FieldOf N  -- without the octet before them
+  CharacterStrings : Octets → FieldOf N  -- with the octet before each string
+  OtherOctets : Octets → FieldOf N
   Byte : ℕ → FieldOf N
-  Number : Width → ℕ → FieldOf N
+  Number : Width → ℕ → FieldOf N  -- of that many bits
 
 -- fields whose names are seen as their labels
 abbrev pub Field : Type 0
@@ -21,10 +22,12 @@ Field = FieldOf Labels
 
 -- the field with what is seen of its name
 abbrev pub named_by : {N S : Type 0} → (N → S) → FieldOf N → FieldOf S
-named_by name (Compressible n) = Compressible (name n)
-named_by name (Uncompressed labels) = Uncompressed labels
-named_by name (Raw octets) = Raw octets
-named_by name (Sized octets) = Sized octets
+named_by name (CompressibleName n) = CompressibleName (name n)
+named_by name (UncompressedName labels) = UncompressedName labels
+named_by name (CharacterString octets) = CharacterString octets
+named_by name (CountedOctets octets) = CountedOctets octets
+named_by name (CharacterStrings octets) = CharacterStrings octets
+named_by name (OtherOctets octets) = OtherOctets octets
 named_by name (Byte b) = Byte b
 named_by name (Number w n) = Number w n
 
@@ -32,10 +35,12 @@ named_by name (Number w n) = Number w n
 
 -- a field's octets, a name whole
 abbrev pub field_octets : Field → Octets
-field_octets (Compressible labels) = wire labels
-field_octets (Uncompressed labels) = wire labels
-field_octets (Raw octets) = octets
-field_octets (Sized octets) = length octets ∷ octets
+field_octets (CompressibleName labels) = wire labels
+field_octets (UncompressedName labels) = wire labels
+field_octets (CharacterString octets) = length octets ∷ octets
+field_octets (CountedOctets octets) = length octets ∷ octets
+field_octets (CharacterStrings octets) = octets
+field_octets (OtherOctets octets) = octets
 field_octets (Byte b) = b ∷ []
 field_octets (Number w n) = to_be_bytes w n
 
@@ -48,10 +53,12 @@ fields_octets (field ∷ fields) = field_octets field ++ fields_octets fields
 
 -- a name in lowercase; any other field stays
 abbrev pub lowercased_field : Field → Field
-lowercased_field (Compressible labels) = Compressible (lowered labels)
-lowercased_field (Uncompressed labels) = Uncompressed (lowered labels)
-lowercased_field (Raw octets) = Raw octets
-lowercased_field (Sized octets) = Sized octets
+lowercased_field (CompressibleName labels) = CompressibleName (lowered labels)
+lowercased_field (UncompressedName labels) = UncompressedName (lowered labels)
+lowercased_field (CharacterString octets) = CharacterString octets
+lowercased_field (CountedOctets octets) = CountedOctets octets
+lowercased_field (CharacterStrings octets) = CharacterStrings octets
+lowercased_field (OtherOctets octets) = OtherOctets octets
 lowercased_field (Byte b) = Byte b
 lowercased_field (Number w n) = Number w n
 

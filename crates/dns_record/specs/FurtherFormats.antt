@@ -8,7 +8,7 @@ use Rattle.dns_wire.specs.Octets.{Octets}
 use Rattle.dns_record.specs.Fields.{Field, fields_octets, lowercased_field}
 use Rattle.dns_record.specs.Formats.{format_name, format_mx, format_rp, format_under, rdata_format}
 use Rattle.dns_record.specs.Kinds.{Kind, fields_in}
-use Rattle.dns_record.specs.Kinds.Kind.{OneByte, OneNumber, CompressibleName, UncompressedName, CharacterString, Rest}
+use Rattle.dns_record.specs.Kinds.Kind.{Byte, Number, CompressibleName, UncompressedName, CharacterString, Rest}
 use Rattle.dns_record.specs.Types.{is_lowercased}
 use Rattle.dns_record.specs.declared.formats.Formats.{Formats}
 use Rattle.dns_record.specs.declared.unparsed.TheConstants.{MAX_DATA_SIZE}
@@ -16,12 +16,12 @@ use Rattle.dns_record.specs.declared.formats.Formats.TheVariants.{Usual, Listed}
 
 -- PX (RFC 2163 section 4): preference, and two names
 abbrev pub format_px : List Kind
-format_px = OneNumber w16 ∷ CompressibleName ∷ CompressibleName ∷ []
+format_px = Number w16 ∷ CompressibleName ∷ CompressibleName ∷ []
 
 -- SIG (RFC 2535 section 4.1): type covered, algorithm, labels, original TTL, expiration, inception, key tag, the signer, and the
 -- signature
 abbrev pub format_sig : List Kind
-format_sig = OneNumber w16 ∷ OneByte ∷ OneByte ∷ OneNumber w32 ∷ OneNumber w32 ∷ OneNumber w32 ∷ OneNumber w16 ∷ CompressibleName ∷ Rest ∷ []
+format_sig = Number w16 ∷ Byte ∷ Byte ∷ Number w32 ∷ Number w32 ∷ Number w32 ∷ Number w16 ∷ CompressibleName ∷ Rest ∷ []
 
 -- NXT (RFC 2535 section 5.2): the next name, and a bitmap that is not read
 abbrev pub format_nxt : List Kind
@@ -29,11 +29,11 @@ format_nxt = CompressibleName ∷ Rest ∷ []
 
 -- NAPTR (RFC 3403 section 4.1): order, preference, flags, services, a regular expression, and a name
 abbrev pub format_naptr : List Kind
-format_naptr = OneNumber w16 ∷ OneNumber w16 ∷ CharacterString ∷ CharacterString ∷ CharacterString ∷ CompressibleName ∷ []
+format_naptr = Number w16 ∷ Number w16 ∷ CharacterString ∷ CharacterString ∷ CharacterString ∷ CompressibleName ∷ []
 
 -- KX (RFC 2230 section 3.1): preference, and a name
 abbrev pub format_kx : List Kind
-format_kx = OneNumber w16 ∷ UncompressedName ∷ []
+format_kx = Number w16 ∷ UncompressedName ∷ []
 
 -- MD, MF, MB, MG, MR, MINFO, AFSDB, RT, SIG, PX, NXT, NAPTR and KX, by their numbers. Pointers are followed in the names of all but KX, as
 -- RFC 3597 section 4 has receivers do.

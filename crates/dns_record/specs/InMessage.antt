@@ -9,7 +9,7 @@ use Rattle.dns_wire.specs.Layout.{LayoutPart, octets_writes, then_writes, both_l
 use Rattle.dns_wire.specs.Layout.LayoutPart.{NamePart, OctetsPart}
 use Rattle.dns_num.specs.InMessage.{sized_compressed_writes, sized_fits}
 use Rattle.dns_record.specs.Fields.{FieldOf}
-use Rattle.dns_record.specs.Fields.FieldOf.{Compressible, Uncompressed, Raw, Sized, Byte, Number}
+use Rattle.dns_record.specs.Fields.FieldOf.{CompressibleName, UncompressedName, CharacterString, CountedOctets, CharacterStrings, OtherOctets, Byte, Number}
 
 -- ---- questions
 
@@ -36,10 +36,12 @@ record_fits owner_fits owner numbers content_fits content =
 
 -- what is said of a name, or else of the field's octets
 abbrev pub of_field : {N X : Type 0} → (N → X) → (Octets → X) → FieldOf N → X
-of_field name whole (Compressible n) = name n
-of_field name whole (Uncompressed labels) = whole (wire labels)
-of_field name whole (Raw octets) = whole octets
-of_field name whole (Sized octets) = whole (length octets ∷ octets)
+of_field name whole (CompressibleName n) = name n
+of_field name whole (UncompressedName labels) = whole (wire labels)
+of_field name whole (CharacterString octets) = whole (length octets ∷ octets)
+of_field name whole (CountedOctets octets) = whole (length octets ∷ octets)
+of_field name whole (CharacterStrings octets) = whole octets
+of_field name whole (OtherOctets octets) = whole octets
 of_field name whole (Byte b) = whole (b ∷ [])
 of_field name whole (Number w n) = whole (to_be_bytes w n)
 
@@ -50,10 +52,12 @@ fields_write name (field ∷ fields) = then_writes (of_field name octets_writes 
 
 -- what is prefixed in a field fits
 abbrev pub field_fits : {N : Type 0} → (N → Octets → Places → Type 0) → FieldOf N → Octets → Places → Type 0
-field_fits name (Compressible n) contents places = name n contents places
-field_fits name (Uncompressed labels) contents places = ⊤
-field_fits name (Raw octets) contents places = ⊤
-field_fits name (Sized octets) contents places = ⊤
+field_fits name (CompressibleName n) contents places = name n contents places
+field_fits name (UncompressedName labels) contents places = ⊤
+field_fits name (CharacterString octets) contents places = ⊤
+field_fits name (CountedOctets octets) contents places = ⊤
+field_fits name (CharacterStrings octets) contents places = ⊤
+field_fits name (OtherOctets octets) contents places = ⊤
 field_fits name (Byte b) contents places = ⊤
 field_fits name (Number w n) contents places = ⊤
 

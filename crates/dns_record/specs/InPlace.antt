@@ -6,9 +6,8 @@ use Rattle.dns_wire.specs.Octets.{Octets, Labels}
 use Rattle.dns_wire.specs.Names.{IsName, wire}
 use Rattle.dns_wire.specs.Pointers.{NameAt}
 use Rattle.dns_record.specs.Fields.{Field}
-use Rattle.dns_record.specs.Fields.FieldOf.{Compressible, Uncompressed, Raw, Sized, Byte, Number}
+use Rattle.dns_record.specs.Fields.FieldOf.{CompressibleName, UncompressedName, CharacterString, CountedOctets, CharacterStrings, OtherOctets, Byte, Number}
 use Rattle.dns_record.specs.Kinds.{Kind}
-use Rattle.dns_record.specs.Kinds.Kind.{OneByte, OneNumber, SoMany, CompressibleName, UncompressedName, CharacterString, CharacterStrings, Options, TypeBitMaps, NonEmptyTypeBitMaps, Rest}
 use Rattle.dns_record.specs.Questions.{QuestionOf}
 use Rattle.dns_record.specs.Records.{RecordOf}
 use Rattle.dns_record.specs.Formats.{rdata_format}
@@ -76,17 +75,18 @@ pub record AreWindows (octets : Octets) : Type 0 where
 
 -- a field of a kind
 abbrev pub FieldAt : Kind → Octets → ℕ → Field → ℕ → Type 0
-FieldAt OneByte contents at (Byte b) end = OctetsAt contents at (b ∷ []) end
-FieldAt (OneNumber w) contents at (Number v n) end = (v ≡ w) × NumberAt contents at w n end
-FieldAt (SoMany n) contents at (Raw octets) end = (length octets ≡ n) × OctetsAt contents at octets end
-FieldAt CompressibleName contents at (Compressible labels) end = NameAt contents at labels end
-FieldAt UncompressedName contents at (Uncompressed labels) end = PlainNameAt contents at labels end
-FieldAt CharacterString contents at (Sized octets) end = OctetsAt contents at (length octets ∷ octets) end
-FieldAt CharacterStrings contents at (Raw octets) end = (end ≡ length contents) × OctetsAt contents at octets end × AreCharacterStrings octets
-FieldAt Options contents at (Raw octets) end = (end ≡ length contents) × OctetsAt contents at octets end × AreOptions octets
-FieldAt TypeBitMaps contents at (Raw octets) end = (end ≡ length contents) × OctetsAt contents at octets end × AreWindows octets
-FieldAt NonEmptyTypeBitMaps contents at (Raw octets) end = (end ≡ length contents) × OctetsAt contents at octets end × AreWindows octets × (1 ≤ length octets)
-FieldAt Rest contents at (Raw octets) end = (end ≡ length contents) × OctetsAt contents at octets end
+FieldAt Kind.Byte contents at (Byte b) end = OctetsAt contents at (b ∷ []) end
+FieldAt (Kind.Number w) contents at (Number v n) end = (v ≡ w) × NumberAt contents at w n end
+FieldAt (Kind.FixedOctets n) contents at (OtherOctets octets) end = (length octets ≡ n) × OctetsAt contents at octets end
+FieldAt Kind.CompressibleName contents at (CompressibleName labels) end = NameAt contents at labels end
+FieldAt Kind.UncompressedName contents at (UncompressedName labels) end = PlainNameAt contents at labels end
+FieldAt Kind.CharacterString contents at (CharacterString octets) end = OctetsAt contents at (length octets ∷ octets) end
+FieldAt Kind.CountedOctets contents at (CountedOctets octets) end = OctetsAt contents at (length octets ∷ octets) end
+FieldAt Kind.CharacterStrings contents at (CharacterStrings octets) end = (end ≡ length contents) × OctetsAt contents at octets end × AreCharacterStrings octets
+FieldAt Kind.Options contents at (OtherOctets octets) end = (end ≡ length contents) × OctetsAt contents at octets end × AreOptions octets
+FieldAt Kind.TypeBitMaps contents at (OtherOctets octets) end = (end ≡ length contents) × OctetsAt contents at octets end × AreWindows octets
+FieldAt Kind.NonEmptyTypeBitMaps contents at (OtherOctets octets) end = (end ≡ length contents) × OctetsAt contents at octets end × AreWindows octets × (1 ≤ length octets)
+FieldAt Kind.Rest contents at (OtherOctets octets) end = (end ≡ length contents) × OctetsAt contents at octets end
 FieldAt kind contents at field end = ⊥
 
 -- fields of these kinds, one after another

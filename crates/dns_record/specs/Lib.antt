@@ -19,6 +19,7 @@ pub mod Formats
 pub mod Seen
 pub mod Serials
 pub mod CharacterStrings
+pub mod Strings
 pub mod Types
 pub mod Unparsed
 pub mod Whole

@@ -1,8 +1,9 @@
 //! Kinds of fields of record data, and the RDATA format of each type.
 
 ghost use Rattle.std.specs.Prelude.{◌≡◌};
-ghost use Rattle.dns_record.specs.Formats.{rdata_format};
+ghost use Rattle.dns_record.specs.Formats.{format_under, has_rdata_format, rdata_format, rdata_formats};
 ghost use Rattle.dns_record.specs.FieldKinds.{row_of};
+ghost use Rattle.dns_record.specs.ListedFormats.{IsFormat};
 
 use crate::rtype::RType;
 
@@ -15,9 +16,11 @@ pub enum FieldKind {
     CompressibleName,
     /// A name without pointers.
     UncompressedName,
-    /// Octets after an octet with their number.
+    /// A character string: octets after an octet with their number, compared without regard to ASCII case.
     CharacterString,
-    /// Such strings, at least one, up to the end.
+    /// Octets after an octet with their number, compared as they are.
+    CountedOctets,
+    /// Character strings, at least one, up to the end.
     CharacterStrings,
     /// Options, perhaps none, up to the end.
     Options,
@@ -82,13 +85,13 @@ const NEXT: &[FieldKind] = &[FieldKind::UncompressedName, FieldKind::NonEmptyTyp
 /// NSEC3.
 const NEXT_HASH: &[FieldKind] = &[
     FieldKind::Fixed(4),
-    FieldKind::CharacterString,
-    FieldKind::CharacterString,
+    FieldKind::CountedOctets,
+    FieldKind::CountedOctets,
     FieldKind::TypeBitMaps,
 ];
 
 /// NSEC3PARAM.
-const HASH_PARAMETERS: &[FieldKind] = &[FieldKind::Fixed(4), FieldKind::CharacterString];
+const HASH_PARAMETERS: &[FieldKind] = &[FieldKind::Fixed(4), FieldKind::CountedOctets];
 
 /// ZONEMD.
 const ZONE_DIGEST: &[FieldKind] = &[FieldKind::Fixed(6), FieldKind::Rest];
@@ -96,28 +99,45 @@ const ZONE_DIGEST: &[FieldKind] = &[FieldKind::Fixed(6), FieldKind::Rest];
 /// Any other type.
 const UNKNOWN: &[FieldKind] = &[FieldKind::Rest];
 
+/// The format of a type that has one of its own.
+fn own_format(rtype: RType) -> Option<&'static [FieldKind]>
+    ensures { IsFormat (format_under rdata_formats rtype.code.value) result }
+{
+    match rtype {
+        RType::A => Some(ADDRESS),
+        RType::NS | RType::CNAME | RType::PTR => Some(NAME),
+        RType::SOA => Some(AUTHORITY),
+        RType::HINFO => Some(HOST),
+        RType::MX => Some(EXCHANGE),
+        RType::TXT => Some(TEXTS),
+        RType::RP => Some(NAMES),
+        RType::AAAA => Some(LONG_ADDRESS),
+        RType::SRV => Some(SERVICE),
+        RType::DNAME => Some(OTHER_NAME),
+        RType::OPT => Some(OPTIONS),
+        RType::DS | RType::CDS | RType::DNSKEY | RType::CDNSKEY => Some(KEY),
+        RType::RRSIG => Some(SIGNATURE),
+        RType::NSEC => Some(NEXT),
+        RType::NSEC3 => Some(NEXT_HASH),
+        RType::NSEC3PARAM => Some(HASH_PARAMETERS),
+        RType::ZONEMD => Some(ZONE_DIGEST),
+        _ => None,
+    }
+}
+
+/// Whether the type has its own RDATA format.
+pub fn has_rdata_format(rtype: RType) -> bool
+    ensures { result ≡ has_rdata_format rtype.code.value }
+{
+    own_format(rtype).is_some()
+}
+
 /// The kinds of the fields of data of the type, those of fixed size joined.
 pub fn rdata_format(rtype: RType) -> &'static [FieldKind]
     ensures { result.now ≡ row_of (rdata_format rtype.code.value) }
 {
-    match rtype {
-        RType::A => ADDRESS,
-        RType::NS | RType::CNAME | RType::PTR => NAME,
-        RType::SOA => AUTHORITY,
-        RType::HINFO => HOST,
-        RType::MX => EXCHANGE,
-        RType::TXT => TEXTS,
-        RType::RP => NAMES,
-        RType::AAAA => LONG_ADDRESS,
-        RType::SRV => SERVICE,
-        RType::DNAME => OTHER_NAME,
-        RType::OPT => OPTIONS,
-        RType::DS | RType::CDS | RType::DNSKEY | RType::CDNSKEY => KEY,
-        RType::RRSIG => SIGNATURE,
-        RType::NSEC => NEXT,
-        RType::NSEC3 => NEXT_HASH,
-        RType::NSEC3PARAM => HASH_PARAMETERS,
-        RType::ZONEMD => ZONE_DIGEST,
-        _ => UNKNOWN,
+    match own_format(rtype) {
+        Some(kinds) => kinds,
+        None => UNKNOWN,
     }
 }

@@ -32,7 +32,7 @@ pub use charstr_error::CharStrParseError;
 pub use charstr_laws::character_strings;
 pub use code_laws::{class_numbers, question_type_numbers, record_type_numbers};
 pub use data_checks::{are_all_options, are_character_strings, are_options, are_windows};
-pub use field_kind::{FieldKind, rdata_format};
+pub use field_kind::{FieldKind, has_rdata_format, rdata_format};
 pub use formats::Formats;
 pub use laws::{items_in_words, serial_numbers_compare, whole_data_are_short};
 pub use order_laws::{

@@ -4,7 +4,7 @@ use Rattle.std.specs.Int.{w16, w32}
 use Rattle.dns_wire.specs.Octets.{Octets}
 use Rattle.dns_wire.specs.Names.{name_labels}
 use Rattle.dns_record.specs.Fields.{Field}
-use Rattle.dns_record.specs.Fields.FieldOf.{Uncompressed, Raw, Byte, Number}
+use Rattle.dns_record.specs.Fields.FieldOf.{UncompressedName, OtherOctets, Byte, Number}
 use Rattle.dns_sec.specs.Flags.{key_flag_bits}
 use Rattle.dns_sec.specs.declared.cdnskey.CDNSKey.{CDNSKey}
 use Rattle.dns_sec.specs.declared.cds.Cds.{Cds}
@@ -14,7 +14,7 @@ use Rattle.dns_sec.specs.declared.rrsig.Rrsig.{Rrsig}
 use Rattle.dns_sec.specs.declared.zonemd.ZoneMD.{ZoneMD}
 
 abbrev pub ds_fields : Ds → List Field
-ds_fields v = Number w16 v.keytag.value ∷ Byte v.algorithm.code ∷ Byte v.digest_type.code ∷ Raw v.digest.now ∷ []
+ds_fields v = Number w16 v.keytag.value ∷ Byte v.algorithm.code ∷ Byte v.digest_type.code ∷ OtherOctets v.digest.now ∷ []
 
 -- CDS data as DS data, and back (RFC 7344 section 3.1)
 abbrev pub as_ds : Cds → Ds
@@ -27,7 +27,7 @@ abbrev pub cds_fields : Cds → List Field
 cds_fields v = ds_fields (as_ds v)
 
 abbrev pub dnskey_fields : DNSKey → List Field
-dnskey_fields v = Number w16 (key_flag_bits v.flags) ∷ Byte v.protocol ∷ Byte v.algorithm.code ∷ Raw v.key.now ∷ []
+dnskey_fields v = Number w16 (key_flag_bits v.flags) ∷ Byte v.protocol ∷ Byte v.algorithm.code ∷ OtherOctets v.key.now ∷ []
 
 -- CDNSKEY data as DNSKEY data, and back (RFC 7344 section 3.2)
 abbrev pub as_dnskey : CDNSKey → DNSKey
@@ -43,8 +43,8 @@ abbrev pub rrsig_fields : Rrsig → List Field
 rrsig_fields v =
     Number w16 v.rtype.code.value ∷ Byte v.algorithm.code ∷ Byte v.labels ∷ Number w32 v.ttl.value.value
     ∷ Number w32 v.expiration.0.value ∷ Number w32 v.inception.0.value ∷ Number w16 v.keytag.value
-    ∷ Uncompressed (name_labels v.signer.slice.now) ∷ Raw v.signature.now ∷ []
+    ∷ UncompressedName (name_labels v.signer.slice.now) ∷ OtherOctets v.signature.now ∷ []
 
 -- the digest by its octets
 abbrev pub zonemd_fields : {D : Type 0} → (D → Octets) → ZoneMD D → List Field
-zonemd_fields octets v = Number w32 v.serial.0.value ∷ Byte v.scheme.code ∷ Byte v.hash_alg.code ∷ Raw (octets v.digest) ∷ []
+zonemd_fields octets v = Number w32 v.serial.0.value ∷ Byte v.scheme.code ∷ Byte v.hash_alg.code ∷ OtherOctets (octets v.digest) ∷ []

@@ -5,8 +5,6 @@ ghost use Rattle.std.specs.Hash.{u16, u8};
 ghost use Rattle.std.specs.Ordering.{eq_by_cmp, nat_cmp, on};
 ghost use Rattle.dns_name.specs.Hashing.{name_writes};
 ghost use Rattle.dns_name.specs.Order.{key, key_cmp};
-ghost use Rattle.dns_record.specs.CharStrHashing.{charstr_writes};
-ghost use Rattle.dns_record.specs.CharStrs.{same_charstr};
 ghost use Rattle.dns_record.specs.FieldOrder.{fields_eq, fields_writes};
 ghost use Rattle.dns_record.specs.Fields.{canonical_octets};
 ghost use Rattle.dns_sec.specs.Flags.{key_flag_bits};
@@ -30,22 +28,22 @@ use std::hash::Hash;
 /// Data are equal if all their fields are, names without regard to ASCII case (RFC 1035 section 2.3.3), digests,
 /// keys and signatures octet by octet.
 pub fn data_are_equal_by_fields()
-    ensures ds { (a b : _) → ⟦<Ds<'static> as PartialEq>⟧.eq a b ≡ fields_eq (eq_by_cmp (on key key_cmp)) (eq_by_cmp (on key key_cmp)) same_charstr (ds_fields a) (ds_fields b) }
-    ensures cds { (a b : _) → ⟦<Cds<'static> as PartialEq>⟧.eq a b ≡ fields_eq (eq_by_cmp (on key key_cmp)) (eq_by_cmp (on key key_cmp)) same_charstr (cds_fields a) (cds_fields b) }
-    ensures dnskey { (a b : _) → ⟦<DNSKey<'static> as PartialEq>⟧.eq a b ≡ fields_eq (eq_by_cmp (on key key_cmp)) (eq_by_cmp (on key key_cmp)) same_charstr (dnskey_fields a) (dnskey_fields b) }
-    ensures cdnskey { (a b : _) → ⟦<CDNSKey<'static> as PartialEq>⟧.eq a b ≡ fields_eq (eq_by_cmp (on key key_cmp)) (eq_by_cmp (on key key_cmp)) same_charstr (cdnskey_fields a) (cdnskey_fields b) }
-    ensures rrsig { (a b : _) → ⟦<Rrsig<'static> as PartialEq>⟧.eq a b ≡ fields_eq (eq_by_cmp (on key key_cmp)) (eq_by_cmp (on key key_cmp)) same_charstr (rrsig_fields a) (rrsig_fields b) }
-    ensures zonemd { (a b : _) → ⟦<ZoneMD<&'static [u8]> as PartialEq>⟧.eq a b ≡ fields_eq (eq_by_cmp (on key key_cmp)) (eq_by_cmp (on key key_cmp)) same_charstr (zonemd_fields (λ d. d.now) a) (zonemd_fields (λ d. d.now) b) }
+    ensures ds { (a b : _) → ⟦<Ds<'static> as PartialEq>⟧.eq a b ≡ fields_eq (eq_by_cmp (on key key_cmp)) (eq_by_cmp (on key key_cmp)) (ds_fields a) (ds_fields b) }
+    ensures cds { (a b : _) → ⟦<Cds<'static> as PartialEq>⟧.eq a b ≡ fields_eq (eq_by_cmp (on key key_cmp)) (eq_by_cmp (on key key_cmp)) (cds_fields a) (cds_fields b) }
+    ensures dnskey { (a b : _) → ⟦<DNSKey<'static> as PartialEq>⟧.eq a b ≡ fields_eq (eq_by_cmp (on key key_cmp)) (eq_by_cmp (on key key_cmp)) (dnskey_fields a) (dnskey_fields b) }
+    ensures cdnskey { (a b : _) → ⟦<CDNSKey<'static> as PartialEq>⟧.eq a b ≡ fields_eq (eq_by_cmp (on key key_cmp)) (eq_by_cmp (on key key_cmp)) (cdnskey_fields a) (cdnskey_fields b) }
+    ensures rrsig { (a b : _) → ⟦<Rrsig<'static> as PartialEq>⟧.eq a b ≡ fields_eq (eq_by_cmp (on key key_cmp)) (eq_by_cmp (on key key_cmp)) (rrsig_fields a) (rrsig_fields b) }
+    ensures zonemd { (a b : _) → ⟦<ZoneMD<&'static [u8]> as PartialEq>⟧.eq a b ≡ fields_eq (eq_by_cmp (on key key_cmp)) (eq_by_cmp (on key key_cmp)) (zonemd_fields (λ d. d.now) a) (zonemd_fields (λ d. d.now) b) }
 {}
 
 /// Data feed a hasher their fields one after another, names in lowercase.
 pub fn data_are_hashed_by_fields()
-    ensures ds { (v : _) → ⟦<Ds<'static> as Hash>⟧.hash_input v ≡ fields_writes name_writes name_writes charstr_writes (ds_fields v) }
-    ensures cds { (v : _) → ⟦<Cds<'static> as Hash>⟧.hash_input v ≡ fields_writes name_writes name_writes charstr_writes (cds_fields v) }
-    ensures dnskey { (v : _) → ⟦<DNSKey<'static> as Hash>⟧.hash_input v ≡ fields_writes name_writes name_writes charstr_writes (dnskey_fields v) }
-    ensures cdnskey { (v : _) → ⟦<CDNSKey<'static> as Hash>⟧.hash_input v ≡ fields_writes name_writes name_writes charstr_writes (cdnskey_fields v) }
-    ensures rrsig { (v : _) → ⟦<Rrsig<'static> as Hash>⟧.hash_input v ≡ fields_writes name_writes name_writes charstr_writes (rrsig_fields v) }
-    ensures zonemd { (v : _) → ⟦<ZoneMD<&'static [u8]> as Hash>⟧.hash_input v ≡ fields_writes name_writes name_writes charstr_writes (zonemd_fields (λ d. d.now) v) }
+    ensures ds { (v : _) → ⟦<Ds<'static> as Hash>⟧.hash_input v ≡ fields_writes name_writes name_writes (ds_fields v) }
+    ensures cds { (v : _) → ⟦<Cds<'static> as Hash>⟧.hash_input v ≡ fields_writes name_writes name_writes (cds_fields v) }
+    ensures dnskey { (v : _) → ⟦<DNSKey<'static> as Hash>⟧.hash_input v ≡ fields_writes name_writes name_writes (dnskey_fields v) }
+    ensures cdnskey { (v : _) → ⟦<CDNSKey<'static> as Hash>⟧.hash_input v ≡ fields_writes name_writes name_writes (cdnskey_fields v) }
+    ensures rrsig { (v : _) → ⟦<Rrsig<'static> as Hash>⟧.hash_input v ≡ fields_writes name_writes name_writes (rrsig_fields v) }
+    ensures zonemd { (v : _) → ⟦<ZoneMD<&'static [u8]> as Hash>⟧.hash_input v ≡ fields_writes name_writes name_writes (zonemd_fields (λ d. d.now) v) }
 {}
 
 /// Codes, flags and times are equal if their numbers are.
@@ -84,7 +82,7 @@ pub fn default_flags()
 /// length after the other fields (RFC 8976 section 2.2).
 pub fn digests_of_known_length<const N: usize>()
     ensures equal { (a b : _) → ⟦<ZoneMD<[u8; N]> as PartialEq>⟧.eq a b
-        ≡ fields_eq (eq_by_cmp (on key key_cmp)) (eq_by_cmp (on key key_cmp)) same_charstr (zonemd_fields (λ d. d) a) (zonemd_fields (λ d. d) b) }
+        ≡ fields_eq (eq_by_cmp (on key key_cmp)) (eq_by_cmp (on key key_cmp)) (zonemd_fields (λ d. d) a) (zonemd_fields (λ d. d) b) }
     ensures canonical { (v : _) → ⟦<ZoneMD<[u8; N]> as CanonicalRecordData>⟧.canonical v ≡ canonical_octets 63 (zonemd_fields (λ d. d) v) }
-    ensures fed { (v : _) → ⟦<ZoneMD<[u8; N]> as Hash>⟧.hash_input v ≡ fields_writes name_writes name_writes charstr_writes (zonemd_fields (λ d. d) v) }
+    ensures fed { (v : _) → ⟦<ZoneMD<[u8; N]> as Hash>⟧.hash_input v ≡ fields_writes name_writes name_writes (zonemd_fields (λ d. d) v) }
 {}

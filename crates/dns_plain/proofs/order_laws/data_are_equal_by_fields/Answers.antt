@@ -1,7 +1,5 @@
 use Rattle.std.proofs.Math.Bool.{and-true}
-use Rattle.dns_plain.specs.Strings.{strings_in}
-use Rattle.dns_plain.proofs.TxtLemmas.{strings_as_fields}
 use Rattle.dns_plain.proofs.order_laws.data_are_equal_by_fields.Goals as goal
 
 pub returns : goal.returns
-returns c = record { a = λ a b. simp and-true; hinfo = λ a b. simp and-true; aaaa = λ a b. simp and-true; srv = λ a b. simp and-true; dname = λ a b. simp and-true; txt = λ a b. strings_as_fields _ _ (strings_in a.slice.now) (strings_in b.slice.now) }
+returns c = record { a = λ a b. simp and-true; hinfo = λ a b. simp and-true; aaaa = λ a b. simp and-true; srv = λ a b. simp and-true; dname = λ a b. simp and-true; txt = λ a b. simp and-true }

@@ -1,9 +1,5 @@
-use Rattle.std.proofs.Common.{ℕ, List, ◌∷◌, ap}
 use Rattle.std.proofs.lemmas.List.{append-nil}
 use Rattle.dns_rdata.specs.declared.record_data.RecordData.TheVariants.{A, Ns, CName, Soa, Ptr, HInfo, Mx, Txt, Rp, Srv, Aaaa, DName, Opt, Ds, Rrsig, Nsec, DNSKey, Nsec3, Nsec3Param, Cds, CDNSKey, ZoneMD, Unknown}
-use Rattle.std.specs.Hash.{le_bytes}
-use Rattle.dns_plain.specs.Strings.{strings_in}
-use Rattle.dns_rdata.proofs.AlikeStrings.{strings_fed}
 use Rattle.dns_rdata.proofs.laws.data_of_any_type_are_hashed_by_fields.Goals as goal
 
 pub returns : goal.returns
@@ -14,7 +10,7 @@ returns g c (Soa v) = simp append-nil
 returns g c (Ptr v) = simp append-nil
 returns g c (HInfo v) = simp append-nil
 returns g c (Mx v) = simp append-nil
-returns g c (Txt v) = ap (λ (l : List (List ℕ)). le_bytes 8 7 ∷ l) (strings_fed g.N.Hash.hash_input (strings_in v.slice.now))
+returns g c (Txt v) = simp append-nil
 returns g c (Rp v) = simp append-nil
 returns g c (Srv v) = simp append-nil
 returns g c (Aaaa v) = simp append-nil

@@ -1,6 +1,6 @@
 use Rattle.std.proofs.Common.{List, ℕ, sym, ap, ◌∙◌}
 use Rattle.std.specs.Prelude.{fold}
-use Rattle.dns_plain.specs.Strings.{strings_writes}
+use Rattle.dns_record.specs.Strings.{strings_writes}
 use Rattle.dns_plain.proofs.txt.TxtHash.hash.Goals as goal
 
 pub loop-string-init : goal.loop-string-init

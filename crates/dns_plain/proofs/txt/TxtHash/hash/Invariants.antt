@@ -1,6 +1,6 @@
 use Rattle.std.proofs.Common.{◌≡◌, length}
 use Rattle.std.specs.Prelude.{fold}
-use Rattle.dns_plain.specs.Strings.{strings_in, strings_writes}
+use Rattle.dns_record.specs.Strings.{strings_in, strings_writes}
 use Rattle.dns_plain.proofs.txt.TxtHash.hash.Given as goal
 
 abbrev pub invariant-loop-string : goal.invariant-loop-string

@@ -1,7 +1,7 @@
 use Rattle.std.proofs.Common.{◌≡◌, Bool, true, false, not, ℕ, List, [], ◌∷◌, Option, Some, None, refl, sym, ◌∙◌}
 use Rattle.std.specs.Prelude.{◌&&◌, MatchOption}
 use Rattle.std.specs.Option.{is_some}
-use Rattle.dns_plain.specs.Strings.{same_strings}
+use Rattle.dns_record.specs.Strings.{same_strings}
 use Rattle.dns_plain.proofs.txt.TxtPartialEq.eq.Goals as goal
 
 differ : (same rest : Bool) → true ≡ not same → false ≡ (same && rest)

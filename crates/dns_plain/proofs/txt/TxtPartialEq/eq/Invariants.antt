@@ -1,5 +1,5 @@
 use Rattle.std.proofs.Common.{◌≡◌, length}
-use Rattle.dns_plain.specs.Strings.{strings_in, same_strings}
+use Rattle.dns_record.specs.Strings.{strings_in, same_strings}
 use Rattle.dns_plain.proofs.txt.TxtPartialEq.eq.Given as goal
 
 abbrev pub invariant-loop-string : goal.invariant-loop-string

@@ -19,7 +19,7 @@ unfoldable pub strings_within : ℕ → Octets → List Octets
 strings_within zero bytes = []
 strings_within (suc steps) bytes = then_strings (λ more. strings_within steps more) (character_string bytes)
 
--- The strings of octets, without the octets that give their sizes. `strings_of_character_strings` says it in other words.
+-- The strings of octets, without the octets that give their sizes. `strings_of_character_strings` of `dns_plain` says it in other words.
 unfoldable pub strings_in : Octets → List Octets
 strings_in bytes = strings_within (length bytes) bytes
 
