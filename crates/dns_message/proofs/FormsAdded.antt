@@ -1,5 +1,6 @@
 -- What is put after canonical forms, by what is read.
-use Rattle.std.proofs.Common.{◌≡◌, ◌≢◌, ℕ, List, [], ◌∷◌, ◌++◌, map, filter, Option, Some, None, append-nil, refl, sym, ap, ◌∙◌}
+use Rattle.std.proofs.Common.{◌≡◌, ◌≢◌, ℕ, Bool, true, false, List, [], ◌∷◌, ◌++◌, map, filter, Option, Some, None, append-nil, refl, sym, ap, ◌∙◌}
+use Rattle.std.specs.Prelude.{MatchOption}
 use Rattle.std.proofs.lemmas.List.{map-append}
 use Rattle.dns_wire.specs.Octets.{Octets}
 use Rattle.dns_wire.specs.Pointers.{name_at}
@@ -8,7 +9,7 @@ use Rattle.dns_record.specs.Fields.{Field}
 use Rattle.dns_record.specs.Questions.{question_in}
 use Rattle.dns_record.specs.Records.{record_in}
 use Rattle.dns_message.specs.Canonical.{is_not_opt}
-use Rattle.dns_message.specs.FormsRead.{AddsData, AddsForm, AddsRecord, forms_of}
+use Rattle.dns_message.specs.FormsRead.{AddsData, AddsForm, AddsRecord, forms_if, forms_of, forms_up_to}
 use Rattle.dns_record.specs.FurtherFormats.{DataReading}
 use Rattle.dns_message.specs.Messages.{Item, Question, RecordValue, records_among, item_by}
 use Rattle.dns_message.specs.Messages.Item.{QuestionItem, RecordItem}
@@ -19,18 +20,16 @@ use Rattle.dns_message.proofs.Adding.{question_there, record_there}
 
 -- ---- for the data of a record, and so for the record
 
-pub data_adds : (reads : DataReading) (contents : Octets) (start : ℕ) (r : UnparsedValue) (end : ℕ) (old : List SortKey) (read : Option (List Field)) (found : Option (List SortKey)) (new : List SortKey)
-    → record_in name_at reads contents start ≡ with_data r end read → AddsData old r read found → found ≡ Some new
+pub data_adds : (reads : DataReading) (contents : Octets) (start : ℕ) (r : UnparsedValue) (end : ℕ) (old : List SortKey) (read : Option (List Field)) (is_read : Bool) (new : List SortKey)
+    → record_in name_at reads contents start ≡ with_data r end read → AddsData old r read (forms_if new is_read) → is_read ≡ true
     → (x : RecordValue) × (record_in name_at reads contents start ≡ Some (x, end)) × (new ≡ old ++ forms_of (x ∷ []))
-data_adds reads contents start r end old read None new there adds is = absurd cc
-data_adds reads contents start r end old read (Some forms) new there adds is =
-    let same : forms ≡ new = cc in
-    (with_content r adds.0, there ∙ ap (with_data r end) adds.1, sym same ∙ adds.2)
+data_adds reads contents start r end old read true new there adds is = (with_content r adds.0, there ∙ ap (with_data r end) adds.1, adds.2)
+data_adds reads contents start r end old read false new there adds is = absurd cc
 
-pub data_adds_none : (reads : DataReading) (contents : Octets) (start : ℕ) (r : UnparsedValue) (end : ℕ) (old : List SortKey) (read : Option (List Field)) (found : Option (List SortKey))
-    → record_in name_at reads contents start ≡ with_data r end read → AddsData old r read found → found ≡ None → record_in name_at reads contents start ≡ None
-data_adds_none reads contents start r end old read None there adds is = there ∙ ap (with_data r end) adds
-data_adds_none reads contents start r end old read (Some forms) there adds is = absurd cc
+pub data_adds_none : (reads : DataReading) (contents : Octets) (start : ℕ) (r : UnparsedValue) (end : ℕ) (old : List SortKey) (read : Option (List Field)) (is_read : Bool) (new : List SortKey)
+    → record_in name_at reads contents start ≡ with_data r end read → AddsData old r read (forms_if new is_read) → is_read ≡ false → record_in name_at reads contents start ≡ None
+data_adds_none reads contents start r end old read true new there adds is = absurd cc
+data_adds_none reads contents start r end old read false new there adds is = there ∙ ap (with_data r end) adds
 
 -- ---- for an item
 
@@ -39,12 +38,18 @@ pub record_adds_form : (reads : DataReading) (section : ℕ) (contents : Octets)
 record_adds_form reads section contents start old None is_not adds = record_there reads section contents start is_not ∙ ap (first_to RecordItem) adds
 record_adds_form reads section contents start old (Some (new, end)) is_not adds = (RecordItem adds.0, record_there reads section contents start is_not ∙ ap (first_to RecordItem) adds.1, adds.2)
 
-pub question_adds_form : (reads : DataReading) (section : ℕ) (contents : Octets) (start : ℕ) (old : List SortKey) (end : ℕ) → section ≡ 0 → (q : Question) × (question_in name_at contents start ≡ Some (q, end))
+question_adds_form : (reads : DataReading) (section : ℕ) (contents : Octets) (start : ℕ) (old : List SortKey) (end : ℕ) → section ≡ 0 → (q : Question) × (question_in name_at contents start ≡ Some (q, end))
     → (item : Item) × (item_by reads section contents start ≡ Some (item, end)) × (old ≡ old ++ forms_of (records_among (item ∷ [])))
 question_adds_form reads section contents start old end is found = (QuestionItem found.0, question_there reads section contents start is ∙ ap (first_to QuestionItem) found.1, sym (append-nil old))
 
-pub question_is_not_read : (reads : DataReading) (section : ℕ) (contents : Octets) (start : ℕ) → section ≡ 0 → question_in name_at contents start ≡ None → item_by reads section contents start ≡ None
+question_is_not_read : (reads : DataReading) (section : ℕ) (contents : Octets) (start : ℕ) → section ≡ 0 → question_in name_at contents start ≡ None → item_by reads section contents start ≡ None
 question_is_not_read reads section contents start is none = question_there reads section contents start is ∙ ap (first_to QuestionItem) none
+
+pub question_adds : (reads : DataReading) (section : ℕ) (contents : Octets) (start : ℕ) (old : List SortKey) (found : Option ℕ) → section ≡ 0
+    → MatchOption found (question_in name_at contents start ≡ None) (λ end. (q : Question) × (question_in name_at contents start ≡ Some (q, end)))
+    → AddsForm old (item_by reads section contents start) (forms_up_to old found)
+question_adds reads section contents start old None is none = question_is_not_read reads section contents start is none
+question_adds reads section contents start old (Some end) is found = question_adds_form reads section contents start old end is found
 
 -- ---- after the forms of some records
 

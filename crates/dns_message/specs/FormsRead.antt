@@ -1,5 +1,5 @@
 -- What is put after canonical forms for what is read of a message: the form of a record of another type than OPT, and nothing of others.
-use Rattle.std.specs.Prelude.{◌≡◌, ℕ, List, [], ◌∷◌, ◌++◌, filter, map, Option, Some, None}
+use Rattle.std.specs.Prelude.{◌≡◌, ℕ, Bool, true, false, List, [], ◌∷◌, ◌++◌, filter, map, Option, Some, None}
 use Rattle.dns_record.specs.Fields.{Field}
 use Rattle.dns_message.specs.Canonical.{is_not_opt}
 use Rattle.dns_message.specs.Messages.{Item, RecordValue, records_among}
@@ -9,6 +9,16 @@ use Rattle.dns_message.specs.UnparsedRecords.{UnparsedValue, with_content}
 -- the forms of some records, if they are of other types than OPT
 abbrev pub forms_of : List RecordValue → List SortKey
 forms_of rs = map sort_key (filter is_not_opt rs)
+
+-- the forms, if something was read
+abbrev pub forms_if : List SortKey → Bool → Option (List SortKey)
+forms_if forms false = None
+forms_if forms true = Some forms
+
+-- the forms up to where something ends, if it was read
+abbrev pub forms_up_to : List SortKey → Option ℕ → Option (List SortKey × ℕ)
+forms_up_to forms None = None
+forms_up_to forms (Some end) = Some (forms, end)
 
 -- for the data of a record
 abbrev pub AddsData : List SortKey → UnparsedValue → Option (List Field) → Option (List SortKey) → Type 0

@@ -145,41 +145,36 @@ impl CanonicalForms {
         })
     }
 
-    /// These forms, and after them that of a record with this owner, type, class, TTL and canonical data. `AllocError` is out of memory; the
-    /// forms are then given up.
-    pub(crate) fn with_canonical(
-        self,
+    /// Puts the form of a record with this owner, type, class, TTL and canonical data after these. `AllocError` is out of memory, and puts
+    /// nothing.
+    pub(crate) fn push_canonical(
+        &mut self,
         owner: CanonicalOwner<'_>,
         rtype: RType,
         rclass: RClass,
         ttl: TTL,
-        data: &[u8],
-    ) -> Result<CanonicalForms, AllocError>
-        requires { length data.now < 2 ^ 16 }
-        ensures { IfOk result (λ forms. forms ≡ self ++ record { owner = key owner.entry; class = rclass.code.value; rtype = rtype.code.value; octets = data.now; ttl = ttl.value.value } ∷ []) }
+        rdata: &[u8],
+    ) -> Result<(), AllocError>
+        requires { length rdata.now < 2 ^ 16 }
+        ensures { OnOk result (self.new ≡ self.old ++ record { owner = key owner.entry; class = rclass.code.value; rtype = rtype.code.value; octets = rdata.now; ttl = ttl.value.value } ∷ []) }
     {
-        let CanonicalForms {
-            mut owner_keys,
-            mut octets,
-            mut spans,
-        } = self;
-        owner_keys.extend_from_slice(owner.key())?;
         let span = FormSpan {
             owner_size: owner.octets().len(),
-            size: owner.octets().len() + 10 + data.len(),
+            size: owner.octets().len() + 10 + rdata.len(),
             class: rclass.code.get(),
             rtype: rtype.code.get(),
             ttl: ttl.as_secs(),
         };
-        octets.extend_from_slice(owner.octets())?;
-        octets.extend_from_slice(&numbers(&span, data.len() as u16))?;
-        octets.extend_from_slice(data)?;
-        spans.push(span)?;
-        Ok(CanonicalForms {
-            owner_keys,
-            octets,
-            spans,
-        })
+        self.owner_keys.reserve(owner.key().len())?;
+        self.octets.reserve(span.size)?;
+        self.spans.push(span)?;
+        self.owner_keys.extend_from_slice(owner.key()).unwrap();
+        self.octets.extend_from_slice(owner.octets()).unwrap();
+        self.octets
+            .extend_from_slice(&numbers(&span, rdata.len() as u16))
+            .unwrap();
+        self.octets.extend_from_slice(rdata).unwrap();
+        Ok(())
     }
 
     /// These forms, and after them that of the record that has these parts. `AllocError` is out of memory; the forms are then given up.

@@ -5,7 +5,7 @@ ghost use Rattle.dns_wire.specs.Octets.{Labels};
 ghost use Rattle.dns_wire.specs.Pointers.{name_at};
 ghost use Rattle.dns_wire.specs.Reading.{AreOctets};
 ghost use Rattle.dns_record.specs.Records.{record_in};
-ghost use Rattle.dns_message.specs.FormsRead.{AddsData, AddsForm, AddsRecord, forms_of};
+ghost use Rattle.dns_message.specs.FormsRead.{AddsData, AddsForm, AddsRecord, forms_if, forms_of, forms_up_to};
 ghost use Rattle.dns_record.specs.FurtherFormats.{data_by};
 ghost use Rattle.dns_message.specs.Messages.{RecordValue, Valid, ValidBy, item_by};
 ghost use Rattle.dns_message.specs.Owners.{HasOwner, WasRead};
@@ -30,7 +30,7 @@ use std::mem;
 struct RecordRoom {
     owner: LastOwner,
     name: [u8; Name::MAX_SIZE],
-    data: Vec<u8>,
+    rdata: Vec<u8>,
 }
 
 impl RecordRoom {
@@ -39,69 +39,69 @@ impl RecordRoom {
         RecordRoom {
             owner: LastOwner::none(),
             name: [0; Name::MAX_SIZE],
-            data: Vec::new(alloc),
+            rdata: Vec::new(alloc),
         }
     }
 }
 
-/// Puts the form of a record whose data end at a place of the message after the forms, if the data are such of its type; nothing for a record
-/// of type OPT. Data without names in lowercase are copied as they are. `AllocError` is out of memory.
-fn with_data(
+/// Puts the form of a record whose data end at a place of the message after the forms, and says whether the data are such of its type. Data
+/// without names in lowercase are copied as they are. Nothing is put for a record of type OPT. `AllocError` is out of memory.
+fn push_data(
     alloc: Global,
-    forms: CanonicalForms,
+    forms: &mut CanonicalForms,
     items: &mut ItemReader<'_>,
     room: &mut RecordRoom,
     formats: Formats,
     parts: &UnparsedParts<'_>,
     end: usize,
-) -> Result<Option<CanonicalForms>, AllocError>
+) -> Result<bool, AllocError>
     requires within { end ≤ length items.old }
     requires placed { DataAreAt items.old parts.now.rdata.octets.now end }
     requires octets { AreOctets items.old }
     requires owner { (labels : Labels) × HasOwner room.old.owner labels }
-    ensures adds { IfOk result (λ found. (labels : Labels) → HasOwner room.old.owner labels
-        → AddsData forms (parts_value labels parts.now) (data_by formats parts.now.rtype.code.value (take end items.old) (data_start end parts.now.rdata.octets.now)) found) }
+    ensures adds { IfOk result (λ is_read. (labels : Labels) → HasOwner room.old.owner labels
+        → AddsData forms.old (parts_value labels parts.now) (data_by formats parts.now.rtype.code.value (take end items.old) (data_start end parts.now.rdata.octets.now)) (forms_if forms.new is_read)) }
     ensures items { items.new ≡ items.old }
     ensures owner { room.new.owner ≡ room.old.owner }
 {
     let octets = parts.rdata.octets();
     let (rtype, rclass, ttl) = (parts.rtype, parts.rclass, parts.ttl);
     let (kinds, lowercase) = formats.kinds(rtype);
-    let RecordRoom { owner, name, data } = room;
+    let RecordRoom { owner, name, rdata } = room;
     if !lowercase {
         if !are_fields(kinds, octets) {
-            return Ok(None);
+            return Ok(false);
         }
         if rtype == RType::OPT {
-            return Ok(Some(forms));
+            return Ok(true);
         }
-        let more = forms.with_canonical(owner.owner(), rtype, rclass, ttl, octets)?;
-        return Ok(Some(more));
+        forms.push_canonical(owner.owner(), rtype, rclass, ttl, octets)?;
+        return Ok(true);
     }
-    data.clear();
-    if !push_fields(alloc, items, name, data, kinds, end - octets.len(), end)? {
-        return Ok(None);
+    rdata.clear();
+    if !push_fields(alloc, items, name, rdata, kinds, end - octets.len(), end)? {
+        return Ok(false);
     }
-    if data.len() > MAX_DATA_SIZE {
-        return Ok(None);
+    if rdata.len() > MAX_DATA_SIZE {
+        return Ok(false);
     }
-    let more = forms.with_canonical(owner.owner(), rtype, rclass, ttl, data)?;
-    Ok(Some(more))
+    forms.push_canonical(owner.owner(), rtype, rclass, ttl, rdata)?;
+    Ok(true)
 }
 
-/// Reads the record at a place, and puts its form after the forms, unless it is of type OPT. It gives them and the place where the record
-/// ends; `None` exactly if no record is there. `AllocError` is out of memory.
-fn with_record(
+/// Reads the record at a place, and puts its form after the forms, unless it is of type OPT. It gives the place where the record ends; `None`
+/// exactly if no record is there. `AllocError` is out of memory.
+fn push_record(
     alloc: Global,
-    forms: CanonicalForms,
+    forms: &mut CanonicalForms,
     items: &mut ItemReader<'_>,
     room: &mut RecordRoom,
     formats: Formats,
     start: usize,
-) -> Result<Option<(CanonicalForms, usize)>, AllocError>
+) -> Result<Option<usize>, AllocError>
     requires { WasRead items.old room.old.owner }
-    ensures adds { IfOk result (AddsRecord forms (record_in name_at (data_by formats) items.old start)) }
-    ensures owner { IfOk result (λ found. IfSome found (λ _. WasRead items.old room.new.owner)) }
+    ensures adds { IfOk result (λ end. AddsRecord forms.old (record_in name_at (data_by formats) items.old start) (forms_up_to forms.new end)) }
+    ensures owner { IfOk result (λ end. IfSome end (λ _. WasRead items.old room.new.owner)) }
     ensures items { items.new ≡ items.old }
 {
     let Some(at) = room.owner.read(alloc, items, start)? else {
@@ -110,36 +110,31 @@ fn with_record(
     let Ok((parts, end)) = split_unparsed_parts(items.contents(), at) else {
         return Ok(None);
     };
-    match with_data(alloc, forms, items, room, formats, &parts, end)? {
-        Some(more) => Ok(Some((more, end))),
-        None => Ok(None),
-    }
+    let is_read = push_data(alloc, forms, items, room, formats, &parts, end)?;
+    if is_read { Ok(Some(end)) } else { Ok(None) }
 }
 
-/// Reads the item of a section at a place, and puts its form after the forms, unless it is a question or of type OPT. It gives them and the
-/// place where the item ends; `None` exactly if none is there. `AllocError` is out of memory.
-fn with_item(
+/// Reads the item of a section at a place, and puts its form after the forms, unless it is a question or of type OPT. It gives the place where
+/// the item ends; `None` exactly if none is there. `AllocError` is out of memory.
+fn push_item(
     alloc: Global,
-    forms: CanonicalForms,
+    forms: &mut CanonicalForms,
     items: &mut ItemReader<'_>,
     room: &mut RecordRoom,
     formats: Formats,
     section: u8,
     start: usize,
-) -> Result<Option<(CanonicalForms, usize)>, AllocError>
+) -> Result<Option<usize>, AllocError>
     requires { WasRead items.old room.old.owner }
-    ensures adds { IfOk result (AddsForm forms (item_by (data_by formats) section items.old start)) }
-    ensures owner { IfOk result (λ found. IfSome found (λ _. WasRead items.old room.new.owner)) }
+    ensures adds { IfOk result (λ end. AddsForm forms.old (item_by (data_by formats) section items.old start) (forms_up_to forms.new end)) }
+    ensures owner { IfOk result (λ end. IfSome end (λ _. WasRead items.old room.new.owner)) }
     ensures items { items.new ≡ items.old }
 {
     if section != 0 {
-        return with_record(alloc, forms, items, room, formats, start);
+        return push_record(alloc, forms, items, room, formats, start);
     }
     items.look(alloc, section, start)?;
-    match items.end_of_question(start) {
-        Some(end) => Ok(Some((forms, end))),
-        None => Ok(None),
-    }
+    Ok(items.end_of_question(start))
 }
 
 /// Reads a whole message, and gives the canonical forms of its records except those of type OPT, in the memory of earlier forms.
@@ -163,14 +158,13 @@ fn read_into(
     while let Some(position) = parser.coming() {
         let start = parser.offset();
         let section = position.section;
-        let Some(found) = with_item(alloc, forms, &mut items, room, formats, section, start)? else {
+        let pushed = push_item(alloc, &mut forms, &mut items, room, formats, section, start)?;
+        let Some(end) = pushed else {
             return Err(CanonError::Item {
                 section,
                 index: position.index,
             });
         };
-        let (more, end) = found;
-        forms = more;
         parser.pass(position, end);
     }
     Ok(forms)

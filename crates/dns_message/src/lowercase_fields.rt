@@ -65,7 +65,7 @@ fn push_name(
     alloc: Global,
     items: &mut ItemReader<'_>,
     buffer: &mut [u8],
-    data: &mut Vec<u8>,
+    rdata: &mut Vec<u8>,
     kind: FieldKind,
     start: usize,
     end: usize,
@@ -74,7 +74,7 @@ fn push_name(
     requires start { start ≤ end }
     requires within { end ≤ length items.old }
     requires room { length buffer.old ≡ 255 }
-    ensures put { IfOk result (λ next. PutsField (field_in name_at (kind_of kind) (take end items.old) start) data.old.items next data.new.items) }
+    ensures put { IfOk result (λ next. PutsField (field_in name_at (kind_of kind) (take end items.old) start) rdata.old.items next rdata.new.items) }
     ensures unchanged { items.new ≡ items.old }
     ensures room { length buffer.new ≡ 255 }
 {
@@ -83,7 +83,7 @@ fn push_name(
             let Some(span) = items.read_canonical_name(alloc, start, end, buffer)? else {
                 return Ok(None);
             };
-            data.extend_from_slice(&buffer[..span.size])?;
+            rdata.extend_from_slice(&buffer[..span.size])?;
             Ok(Some(span.end))
         }
         _ => {
@@ -91,7 +91,7 @@ fn push_name(
             let Some(span) = read_uncompressed_name(contents, start, buffer) else {
                 return Ok(None);
             };
-            data.extend_from_slice(&buffer[..span.size])?;
+            rdata.extend_from_slice(&buffer[..span.size])?;
             Ok(Some(span.end))
         }
     }
@@ -99,19 +99,19 @@ fn push_name(
 
 /// Puts the octets from a place up to another after the data. `AllocError` is out of memory.
 fn push_between(
-    data: &mut Vec<u8>,
+    rdata: &mut Vec<u8>,
     contents: &[u8],
     from: usize,
     to: usize,
 ) -> Result<(), AllocError>
     requires order { from ≤ to }
     requires within { to ≤ length contents.now }
-    ensures { IfOk result (λ _. data.new.items ≡ data.old.items ++ between from to contents.now) }
+    ensures { IfOk result (λ _. rdata.new.items ≡ rdata.old.items ++ between from to contents.now) }
 {
     if from == to {
         return Ok(());
     }
-    data.extend_from_slice(&contents[from..to])
+    rdata.extend_from_slice(&contents[from..to])
 }
 
 /// Reads the fields from a place up to `end`, and puts their octets after the data, names in lowercase. Octets between names are copied at
@@ -120,7 +120,7 @@ pub(crate) fn push_fields(
     alloc: Global,
     items: &mut ItemReader<'_>,
     buffer: &mut [u8],
-    data: &mut Vec<u8>,
+    rdata: &mut Vec<u8>,
     kinds: &[FieldKind],
     start: usize,
     end: usize,
@@ -128,7 +128,7 @@ pub(crate) fn push_fields(
     requires start { start ≤ end }
     requires within { end ≤ length items.old }
     requires room { length buffer.old ≡ 255 }
-    ensures put { IfOk result (λ read. PutsFields (all_at (take end items.old) (fields_in name_at (map kind_of kinds.now) (take end items.old) start)) data.old.items read data.new.items) }
+    ensures put { IfOk result (λ read. PutsFields (all_at (take end items.old) (fields_in name_at (map kind_of kinds.now) (take end items.old) start)) rdata.old.items read rdata.new.items) }
     ensures unchanged { items.new ≡ items.old }
     ensures room { length buffer.new ≡ 255 }
 {
@@ -143,13 +143,13 @@ pub(crate) fn push_fields(
             at = next;
             continue;
         }
-        push_between(data, contents, copied, at)?;
-        let Some(next) = push_name(alloc, items, buffer, data, *kind, at, end)? else {
+        push_between(rdata, contents, copied, at)?;
+        let Some(next) = push_name(alloc, items, buffer, rdata, *kind, at, end)? else {
             return Ok(false);
         };
         at = next;
         copied = next;
     }
-    push_between(data, contents, copied, at)?;
+    push_between(rdata, contents, copied, at)?;
     Ok(at == end)
 }

@@ -9,6 +9,7 @@ mod fields;
 mod generated;
 mod hostile;
 mod libraries;
+mod listed;
 mod longer;
 mod texts;
 
@@ -16,6 +17,7 @@ use answers::{Faults, SOUND, answer_over, answer_to, show};
 use canon::show_canon;
 use fields::{Row, number_of, octets_of};
 use libraries::Library;
+use listed::show_listed;
 use longer::{show_classes, show_longer, show_padded, show_types};
 use std::alloc::Global;
 use std::io::{self, BufRead, BufReader};
@@ -93,6 +95,7 @@ fn show_row(rt: &impl Print, alloc: Global, row: Row<'_>) -> io::Result<()> {
         "spaces" => show_longer(rt, alloc, row, b' '),
         "zeros" => show_longer(rt, alloc, row, b'0'),
         "padded" => show_padded(rt, alloc, row),
+        "listed" => show_listed(rt, alloc, row),
         "shortest-types" => show_types(rt, alloc, row),
         "shortest-classes" => show_classes(rt, alloc, row),
         "read" | "digits" | "words" => show_call(rt, alloc, row),

@@ -2,13 +2,17 @@
 
 use crate::answers::{DONE, ITEM, NO_SOA, SHORT, TOO_SMALL, USAGE};
 use crate::denial::{Nsec3Hash, nelgvasti_key_tag, nelgvasti_nsec3_hash};
+use crate::formats::{LISTED, USUAL};
 use crate::item_position::ItemPosition;
-use crate::message::{nelgvasti_canonical, nelgvasti_canonical_size, nelgvasti_same};
+use crate::message::{
+    nelgvasti_canonical, nelgvasti_canonical_by, nelgvasti_canonical_size,
+    nelgvasti_canonical_size_by, nelgvasti_same,
+};
 use crate::names::{nelgvasti_canonical_name, nelgvasti_compare_names};
 use crate::normal::nelgvasti_normal;
 use crate::records::nelgvasti_compare_records;
 use crate::version::nelgvasti_version;
-use crate::zone::{ZoneDigest, nelgvasti_zone_digest};
+use crate::zone::{ZoneDigest, nelgvasti_zone_digest, nelgvasti_zone_digest_by};
 use std::alloc::Global;
 
 /// A reply with an alias, an address and an OPT.
@@ -34,6 +38,18 @@ const SAME_SERVER: &[u8] =
 /// The same with a TTL of 43.
 const LATER_SERVER: &[u8] =
     b"\x124\x81\x80\0\0\0\x01\0\0\0\0\x03com\0\0\x02\0\x01\0\0\0\x2b\0\x05\x03com\0";
+
+/// A MINFO record with capital letters, and with pointers as BIND writes them.
+const MAILBOXES: &[u8] =
+    b"\x124\x81\x80\0\0\0\x01\0\0\0\0\x04Host\x07Example\x03ORG\0\0\x0e\0\x01\0\0\0\x3c\0\x06\x01A\xc0\x11\xc0\x0c";
+
+/// Its canonical octets if its data are octets.
+const USUAL_LIST: &[u8] =
+    b"\x04host\x07example\x03org\0\0\x0e\0\x01\0\0\0\x3c\0\x06\x01A\xc0\x11\xc0\x0c";
+
+/// Its canonical octets as RFC 4034 section 6.2 has them.
+const LISTED_LIST: &[u8] =
+    b"\x04host\x07example\x03org\0\0\x0e\0\x01\0\0\0\x3c\0\x21\x01a\x07example\x03org\0\x04host\x07example\x03org\0";
 
 /// A position that no call writes.
 const NOWHERE: ItemPosition = ItemPosition {
@@ -140,6 +156,60 @@ fn normal_forms_are_written(rt: HostRuntime) {
         after_normal(alloc, &REPLY[..30], 80) == leaving(ITEM, 9, &[], at(0, 0)),
         "a question cut"
     );
+}
+
+/// What is left by a call for the list by the formats of a number.
+fn after_canonical_by(alloc: Global, formats: u32, message: &[u8], room: usize) -> Left {
+    let mut left = leaving(0, 9, &[], NOWHERE);
+    let out = &mut left.octets[..room.min(80)];
+    left.answer = nelgvasti_canonical_by(
+        alloc,
+        formats,
+        message,
+        out,
+        &mut left.length,
+        &mut left.position,
+    );
+    left
+}
+
+#[test]
+fn lists_are_written_by_formats(rt: HostRuntime) {
+    let alloc = rt.alloc();
+    assert!(rt;
+        after_canonical_by(alloc, USUAL, MAILBOXES, 80) == leaving(DONE, 34, USUAL_LIST, NOWHERE),
+        "usual"
+    );
+    assert!(rt;
+        after_canonical_by(alloc, LISTED, MAILBOXES, 80) == leaving(DONE, 61, LISTED_LIST, NOWHERE),
+        "listed"
+    );
+    assert!(rt;
+        after_canonical_by(alloc, LISTED, MAILBOXES, 60) == leaving(TOO_SMALL, 61, &[], NOWHERE),
+        "one octet short"
+    );
+    assert!(rt;
+        after_canonical_by(alloc, LISTED, &MAILBOXES[..45], 80) == leaving(ITEM, 9, &[], at(1, 0)),
+        "cut"
+    );
+    assert!(rt;
+        after_canonical_by(alloc, 2, MAILBOXES, 80) == leaving(USAGE, 9, &[], NOWHERE),
+        "of no number"
+    );
+}
+
+#[test]
+fn sizes_are_counted_by_formats(rt: HostRuntime) {
+    let (mut octets, mut records, mut position) = (9, 9, NOWHERE);
+    let answer = nelgvasti_canonical_size_by(
+        rt.alloc(),
+        LISTED,
+        MAILBOXES,
+        &mut octets,
+        &mut records,
+        &mut position,
+    );
+    assert!(rt; (answer, octets, records, position) == (DONE, 61, 1, NOWHERE));
 }
 
 #[test]
@@ -358,6 +428,32 @@ fn after_zone(
     let (mut digest, mut position) = (NO_DIGEST, NOWHERE);
     let answer = nelgvasti_zone_digest(alloc, messages, lengths, apex, &mut digest, &mut position);
     (answer, digest, position)
+}
+
+#[test]
+fn zones_are_digested_by_formats(rt: HostRuntime) {
+    let (mut digest, mut position) = (NO_DIGEST, NOWHERE);
+    let (lengths, apex) = ([ZONE.len()], b"\x07EXAMPLE\0");
+    let answer = nelgvasti_zone_digest_by(
+        rt.alloc(),
+        2,
+        ZONE,
+        &lengths,
+        apex,
+        &mut digest,
+        &mut position,
+    );
+    assert!(rt; answer == USAGE && digest == NO_DIGEST, "of no number");
+    let answer = nelgvasti_zone_digest_by(
+        rt.alloc(),
+        LISTED,
+        ZONE,
+        &lengths,
+        apex,
+        &mut digest,
+        &mut position,
+    );
+    assert!(rt; answer == DONE && digest.digest == DIGEST, "listed");
 }
 
 #[test]

@@ -12,7 +12,7 @@ loop-kind-preserved-then-not-is_name c =
     record {
       items = so.items;
       room = so.room;
-      read = kept_more _ _ _ _ c.loop-kind.kind-index c.loop-kind.copied c.loop-kind.at c.loop-kind.data.items _ _ so.read c.loop-kind-test.true refl c.in-Some.next (rw c.contents.ensures.value at c.in-Some.ensures);
+      read = kept_more _ _ _ _ c.loop-kind.kind-index c.loop-kind.copied c.loop-kind.at c.loop-kind.rdata.items _ _ so.read c.loop-kind-test.true refl c.in-Some.next (rw c.contents.ensures.value at c.in-Some.ensures);
     }
 
 pub loop-kind-preserved : goal.loop-kind-preserved
@@ -21,7 +21,7 @@ loop-kind-preserved c =
     record {
       items = c.in_ok-next.ensures.unchanged ∙ so.items;
       room = c.in_ok-next.ensures.room;
-      read = named_more _ _ _ _ c.loop-kind.kind-index c.loop-kind.copied c.loop-kind.at c.loop-kind.data.items _ _ so.read c.loop-kind-test.true refl c.in-Some-2.next c.push_name.new.data.items
+      read = named_more _ _ _ _ c.loop-kind.kind-index c.loop-kind.copied c.loop-kind.at c.loop-kind.rdata.items _ _ so.read c.loop-kind-test.true refl c.in-Some-2.next c.push_name.new.rdata.items
           (rw (so.items, c.in-Some-2.is, c.in_ok-push_between.ensures, c.contents.ensures.value) at c.in_ok-next.ensures.put);
     }
 

@@ -7,5 +7,5 @@ abbrev pub invariant-loop-kind : goal.invariant-loop-kind
 invariant-loop-kind l = record {
   items : l.items ≡ l.initial.items;
   room : length l.buffer ≡ 255;
-  read : ReadAndKept (take l.end l.initial.items) l.start l.kinds l.initial.data.items l.kind-index l.copied l.at l.data.items;
+  read : ReadAndKept (take l.end l.initial.items) l.start l.kinds l.initial.rdata.items l.kind-index l.copied l.at l.rdata.items;
 }
