@@ -12,7 +12,7 @@ use Rattle.dns_label.specs.Text.{is_unescaped}
 use Rattle.dns_record.specs.CharStrs.{charstr_wire}
 use Rattle.dns_record.specs.CharStrTexts.{charstr_of}
 use Rattle.dns_record.specs.Fields.{Field, fields_octets}
-use Rattle.dns_record.specs.Fields.FieldOf.{Raw}
+use Rattle.dns_record.specs.Fields.FieldOf.{CharacterStrings}
 use Rattle.dns_record.specs.Kinds.{fields_of, no_name}
 use Rattle.dns_record.specs.Formats.{rdata_format}
 use Rattle.dns_record.specs.CharacterStrings.{is_character_strings, is_txt_data, character_strings_within}
@@ -171,5 +171,5 @@ pub strings_read : {E : Type 0} (string octets : List ℕ) (r : Result Txt E) �
 strings_read string octets (Ok v) is short gives = refl
 strings_read string octets (Err e) is short gives =
     let good : is_txt_data octets ≡ true = ap is_txt_data is ∙ one_string string (omega (arith, short, ap length is)) in
-    let none : all_of (fields_of no_name (rdata_format 16) octets) ≡ Some (Raw octets ∷ []) = rw good refl in
+    let none : all_of (fields_of no_name (rdata_format 16) octets) ≡ Some (CharacterStrings octets ∷ []) = rw good refl in
     let never = sym gives ∙ none in absurd cc

@@ -8,7 +8,7 @@ use Rattle.dns_wire.specs.Layout.LayoutPart.{NamePart}
 use Rattle.dns_wire.specs.LayoutLemmas.{part_matches}
 use Rattle.dns_num.specs.InMessage.{zeros}
 use Rattle.dns_record.specs.Fields.{Field, fields_octets}
-use Rattle.dns_record.specs.Fields.FieldOf.{Compressible, Uncompressed, Raw, Sized, Byte, Number}
+use Rattle.dns_record.specs.Fields.FieldOf.{CompressibleName, UncompressedName, CharacterString, CountedOctets, CharacterStrings, OtherOctets, Byte, Number}
 use Rattle.dns_record.specs.InMessage.{fields_write, fields_fit, fixed_header}
 use Rattle.dns_record.specs.declared.record.Record.{Record}
 use Rattle.dns_rdata.specs.Data.{data_fields}
@@ -42,10 +42,12 @@ record_item_is i r is = λ k. record { owner = is.owner k; rtype = is.rtype k; c
 -- nothing is prefixed in names, so all fits
 all_fit : (fields : List Field) (contents places : List ℕ) → fields_fit (λ _ _ _. ⊤) compressed_name_writes fields contents places
 all_fit [] contents places = tt
-all_fit (Compressible labels ∷ fields) contents places = let first = compressed_name_writes labels contents places in (tt, all_fit fields (contents ++ first.0) first.1)
-all_fit (Uncompressed labels ∷ fields) contents places = (tt, all_fit fields _ _)
-all_fit (Raw octets ∷ fields) contents places = (tt, all_fit fields _ _)
-all_fit (Sized octets ∷ fields) contents places = (tt, all_fit fields _ _)
+all_fit (CompressibleName labels ∷ fields) contents places = let first = compressed_name_writes labels contents places in (tt, all_fit fields (contents ++ first.0) first.1)
+all_fit (UncompressedName labels ∷ fields) contents places = (tt, all_fit fields _ _)
+all_fit (CharacterString octets ∷ fields) contents places = (tt, all_fit fields _ _)
+all_fit (CountedOctets octets ∷ fields) contents places = (tt, all_fit fields _ _)
+all_fit (CharacterStrings octets ∷ fields) contents places = (tt, all_fit fields _ _)
+all_fit (OtherOctets octets ∷ fields) contents places = (tt, all_fit fields _ _)
 all_fit (Byte b ∷ fields) contents places = (tt, all_fit fields _ _)
 all_fit (Number w n ∷ fields) contents places = (tt, all_fit fields _ _)
 

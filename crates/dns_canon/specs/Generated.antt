@@ -8,7 +8,7 @@ use Rattle.std.specs.List.{range_with_len}
 use Rattle.dns_wire.specs.Layout.{list_writes}
 use Rattle.dns_record.specs.CharStrs.{charstr_wire}
 use Rattle.dns_record.specs.Fields.{Field}
-use Rattle.dns_record.specs.Fields.FieldOf.{Compressible, Raw, Number}
+use Rattle.dns_record.specs.Fields.FieldOf.{CompressibleName, CharacterStrings, OtherOctets, Number}
 use Rattle.dns_message.specs.Built.{built}
 use Rattle.dns_message.specs.Messages.{RecordValue}
 use Rattle.dns_message.specs.Order.{canonical_list}
@@ -44,10 +44,10 @@ generated_type (suc (suc (suc turn))) = 16
 -- A: the octets 10 and 0, and the number in two octets. NS: the server. MX: the number as preference, and the exchange. TXT: the
 -- string.
 abbrev pub generated_content : ℕ → ℕ → List Field
-generated_content zero i = Raw (10 ∷ 0 ∷ i / 256 ∷ i % 256 ∷ []) ∷ []
-generated_content (suc zero) i = Compressible (generated_server i) ∷ []
-generated_content (suc (suc zero)) i = Number w16 i ∷ Compressible (generated_exchange i) ∷ []
-generated_content (suc (suc (suc turn))) i = Raw (charstr_wire (generated_string i)) ∷ []
+generated_content zero i = OtherOctets (10 ∷ 0 ∷ i / 256 ∷ i % 256 ∷ []) ∷ []
+generated_content (suc zero) i = CompressibleName (generated_server i) ∷ []
+generated_content (suc (suc zero)) i = Number w16 i ∷ CompressibleName (generated_exchange i) ∷ []
+generated_content (suc (suc (suc turn))) i = CharacterStrings (charstr_wire (generated_string i)) ∷ []
 
 -- the record of a number, from 0; its class is IN
 abbrev pub generated_record : ℕ → RecordValue

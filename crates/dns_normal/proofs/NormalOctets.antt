@@ -9,7 +9,7 @@ use Rattle.dns_wire.specs.Names.{wire}
 use Rattle.dns_wire.specs.Reading.{AreOctets}
 use Rattle.dns_num.specs.InMessage.{zeros}
 use Rattle.dns_record.specs.Fields.{Field, field_octets, fields_octets}
-use Rattle.dns_record.specs.Fields.FieldOf.{Compressible, Uncompressed, Raw, Sized, Byte, Number}
+use Rattle.dns_record.specs.Fields.FieldOf.{CompressibleName, UncompressedName, CharacterString, CountedOctets, CharacterStrings, OtherOctets, Byte, Number}
 use Rattle.dns_record.specs.InMessage.{fixed_header}
 use Rattle.dns_message.specs.Built.{built, field_part}
 use Rattle.dns_message.specs.Messages.{RecordValue}
@@ -25,10 +25,12 @@ name_octets labels contents places are = by (longest_recorded contents places 0 
   by (Some (prefix, place)) = octets_of_both (take prefix (wire labels)) (to_be_bytes w16 (49152 + 12 + place)) (octets_up_to prefix (wire labels) are) (number_octets_2 (49152 + 12 + place))
 
 part_octets : (field : Field) (contents places : List ℕ) → AreOctets (field_octets field) → AreOctets (part_writes (field_part field) contents places).0
-part_octets (Compressible labels) contents places are = name_octets labels contents places are
-part_octets (Uncompressed labels) contents places are = are
-part_octets (Raw octets) contents places are = are
-part_octets (Sized octets) contents places are = are
+part_octets (CompressibleName labels) contents places are = name_octets labels contents places are
+part_octets (UncompressedName labels) contents places are = are
+part_octets (CharacterString octets) contents places are = are
+part_octets (CountedOctets octets) contents places are = are
+part_octets (CharacterStrings octets) contents places are = are
+part_octets (OtherOctets octets) contents places are = are
 part_octets (Byte b) contents places are = are
 part_octets (Number w n) contents places are = are
 

@@ -10,7 +10,7 @@ use Rattle.dns_wire.specs.LayoutLemmas.{part_matches}
 use Rattle.dns_wire.specs.Reading.{Gives}
 use Rattle.dns_num.specs.InMessage.{zeros}
 use Rattle.dns_record.specs.Fields.{FieldOf, fields_octets, named_by}
-use Rattle.dns_record.specs.Fields.FieldOf.{Compressible, Uncompressed, Raw, Sized, Byte, Number}
+use Rattle.dns_record.specs.Fields.FieldOf.{CompressibleName, UncompressedName, CharacterString, CountedOctets, CharacterStrings, OtherOctets, Byte, Number}
 use Rattle.dns_record.specs.InMessage.{fields_write, fields_fit, fixed_header}
 use Rattle.dns_record.specs.Seen.{record_seen}
 use Rattle.dns_record.specs.declared.record.Record.{Record}
@@ -31,10 +31,12 @@ use Rattle.dns_normal.proofs.AnswersLemmas.{pushed_more}
 -- nothing is prefixed in names, so all fits
 all_fit : {N : Type 0} (writes : N → CompressedWrite) (fields : List (FieldOf N)) (contents places : List ℕ) → fields_fit (λ _ _ _. ⊤) writes fields contents places
 all_fit writes [] contents places = tt
-all_fit writes (Compressible n ∷ fields) contents places = (tt, all_fit writes fields _ _)
-all_fit writes (Uncompressed labels ∷ fields) contents places = (tt, all_fit writes fields _ _)
-all_fit writes (Raw octets ∷ fields) contents places = (tt, all_fit writes fields _ _)
-all_fit writes (Sized octets ∷ fields) contents places = (tt, all_fit writes fields _ _)
+all_fit writes (CompressibleName n ∷ fields) contents places = (tt, all_fit writes fields _ _)
+all_fit writes (UncompressedName labels ∷ fields) contents places = (tt, all_fit writes fields _ _)
+all_fit writes (CharacterString octets ∷ fields) contents places = (tt, all_fit writes fields _ _)
+all_fit writes (CountedOctets octets ∷ fields) contents places = (tt, all_fit writes fields _ _)
+all_fit writes (CharacterStrings octets ∷ fields) contents places = (tt, all_fit writes fields _ _)
+all_fit writes (OtherOctets octets ∷ fields) contents places = (tt, all_fit writes fields _ _)
 all_fit writes (Byte b ∷ fields) contents places = (tt, all_fit writes fields _ _)
 all_fit writes (Number w n ∷ fields) contents places = (tt, all_fit writes fields _ _)
 

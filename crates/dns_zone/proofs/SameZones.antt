@@ -10,7 +10,7 @@ use Rattle.std.proofs.lemmas.List.{length-map, map-append}
 use Rattle.std.proofs.lemmas.List.Elements.{All-contains, All-contains_itself, All-filter, filter_passes}
 use Rattle.std.proofs.lemmas.Str.Ascii.{lowercase_is}
 use Rattle.dns_wire.specs.Names.{labels_wire, lowered, wire}
-use Rattle.dns_record.specs.Fields.{Compressible, Uncompressed, Raw, Sized, Byte, Number, Field, canonical_fields, field_octets, fields_octets, lowercased_field}
+use Rattle.dns_record.specs.Fields.{CompressibleName, UncompressedName, CharacterString, CountedOctets, CharacterStrings, OtherOctets, Byte, Number, Field, canonical_fields, field_octets, fields_octets, lowercased_field}
 use Rattle.dns_record.specs.Types.{is_lowercased}
 use Rattle.dns_message.specs.Canonical.{lowercase_names}
 use Rattle.dns_message.specs.Messages.{RecordValue}
@@ -38,10 +38,12 @@ name_low labels =
     map-append to_ascii_lowercase (labels_wire (lowered labels)) (0 ∷ []) ∙ ap (λ (l : List ℕ). l ++ 0 ∷ []) (labels_low labels) ∙ sym (map-append to_ascii_lowercase (labels_wire labels) (0 ∷ []))
 
 field_low : (f : Field) → str_to_ascii_lowercase (field_octets (lowercased_field f)) ≡ str_to_ascii_lowercase (field_octets f)
-field_low (Compressible labels) = name_low labels
-field_low (Uncompressed labels) = name_low labels
-field_low (Raw o) = refl
-field_low (Sized o) = refl
+field_low (CompressibleName labels) = name_low labels
+field_low (UncompressedName labels) = name_low labels
+field_low (CharacterString o) = refl
+field_low (CountedOctets o) = refl
+field_low (CharacterStrings o) = refl
+field_low (OtherOctets o) = refl
 field_low (Byte b) = refl
 field_low (Number w n) = refl
 
