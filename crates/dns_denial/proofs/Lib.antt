@@ -1,6 +1,5 @@
 -- The crate's own lemmas.
 pub mod Circle
-pub mod Coverages
 pub mod Groups
 pub mod Lines
 pub mod Outcomes

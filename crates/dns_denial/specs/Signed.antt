@@ -33,14 +33,23 @@ signature_at number records = slice_get (signatures records) number
 abbrev pub type_covered : Octets → ℕ
 type_covered octets = slice_index octets 0 * 256 + slice_index octets 1
 
+abbrev pub algorithm : Octets → ℕ
+algorithm octets = slice_index octets 2
+
 abbrev pub labels_field : Octets → ℕ
 labels_field octets = slice_index octets 3
 
 abbrev pub original_ttl : Octets → ℕ
 original_ttl octets = from_be_bytes w32 (take 4 (drop 4 octets))
 
+abbrev pub key_tag_field : Octets → ℕ
+key_tag_field octets = slice_index octets 16 * 256 + slice_index octets 17
+
 abbrev pub signer : Octets → Labels
 signer octets = name_before (plain_name (drop 18 octets))
+
+abbrev pub signature_field : Octets → Octets
+signature_field octets = drop (18 + length (wire (signer octets))) octets
 
 abbrev pub without_signature : Octets → Octets
 without_signature octets = take 18 octets ++ wire (signer octets)

@@ -1,22 +1,21 @@
 //! What NSEC and NSEC3 records say of a name (RFC 4034 section 4, RFC 5155 section 7).
 
-ghost use Rattle.std.specs.Prelude.{◌≡◌};
+ghost use Rattle.std.specs.Prelude.{◌≡◌, ◌≤◌, length};
 ghost use Rattle.std.specs.Cmp.Lexicographic.{slice_cmp};
 ghost use Rattle.std.specs.Ordering.{nat_cmp};
-ghost use Rattle.dns_wire.specs.Names.{lowered, name_labels};
-ghost use Rattle.dns_name.specs.Order.{key};
-ghost use Rattle.dns_record.specs.Fields.{fields_octets};
-ghost use Rattle.dns_nsec.specs.Types.{nsec_fields, nsec3_fields};
-ghost use Rattle.dns_message.specs.Order.{SortKey};
-ghost use Rattle.dns_denial.specs.Coverage.{coverage_by, coverage_in, coverage_word, first_label, hash_iterations, hash_salt, is_computed, nsec_coverage, nsec3_coverage};
-ghost use Rattle.dns_denial.specs.Hashes.{nsec3_hash_of};
+ghost use Rattle.dns_wire.specs.Names.{name_labels};
+ghost use Rattle.dns_denial.specs.Coverage.{coverage_by, coverage_in, coverage_word, first_label, hash_iterations, hash_salt, is_computed, next_hash, nsec_coverage, nsec3_coverage};
 ghost use Rattle.dns_denial.specs.Unbase32.{hash_of_text};
 
 use crate::nsec3::nsec3_hash;
+use crate::octets::{first_octets, name_at_start, octet_at, octets_from};
 use crate::unbase32::unbase32hex;
-use dns_name::{CanonicalName, Name, RevNameBuf};
-use dns_nsec::{Nsec, Nsec3, Nsec3HashAlgorithm};
+use dns_message::CanonicalForm;
+use dns_name::Name;
 use std::cmp::Ordering;
+
+/// The number of SHA-1 among the algorithms of NSEC3 (RFC 5155 section 11).
+const SHA1: u8 = 1;
 
 /// The most iterations with which hashes are computed.
 const MOST_ITERATIONS: u16 = 500;
@@ -69,40 +68,55 @@ fn coverage_by(owner_next: Ordering, owner_name: Ordering, name_next: Ordering) 
 }
 
 /// What an NSEC record says of a name, in the order of names (RFC 4034 section 6.1).
-pub(crate) fn nsec_coverage(owner: &RevNameBuf, nsec: &Nsec<'_>, name: &RevNameBuf) -> Coverage
-    ensures { (k : SortKey) → k.owner ≡ key owner.now → k.octets ≡ fields_octets (nsec_fields nsec.now) → result ≡ nsec_coverage name.now k }
+pub(crate) fn nsec_coverage(found: &CanonicalForm<'_>, name: Name<'_>) -> Coverage
+    ensures { result ≡ nsec_coverage (name_labels name.entry.slice.now) found.now }
 {
-    let next = nsec.next_name().to_revname();
-    coverage_by(owner.cmp(&next), owner.cmp(name), name.cmp(&next))
+    let owner = found.owner();
+    let next = name_at_start(found.data());
+    coverage_by(owner.cmp(&next), owner.cmp(&name), name.cmp(&next))
 }
 
-/// The hash whose text is the owner's first label in lowercase; `None` if it is that of none.
+/// The hash whose text is the owner's first label; `None` if it is that of none.
 fn owner_hash(owner: Name<'_>) -> Option<[u8; 20]>
-    ensures { result ≡ hash_of_text (first_label (lowered (name_labels owner.entry.slice.now))) }
+    ensures { result ≡ hash_of_text (first_label (name_labels owner.entry.slice.now)) }
 {
-    let mut octets = [0; Name::MAX_SIZE];
-    owner.build_lowercased_at(&mut octets, 0).unwrap();
-    if octets[0] != 32 {
-        return None;
-    }
-    unbase32hex(&octets[1..33])
+    let octets = owner.as_bytes();
+    unbase32hex(first_octets(octets_from(octets, 1), usize::from(octet_at(octets, 0))))
 }
 
-/// Whether the hashes of a record are computed: by SHA-1, with few iterations, and the next hash is one (RFC 5155 section 11).
-fn is_computed(nsec3: &Nsec3<'_>) -> bool
-    ensures { result ≡ is_computed (fields_octets (nsec3_fields nsec3.now)) }
+/// The number of iterations in the data of an NSEC3 record.
+fn hash_iterations(octets: &[u8]) -> u16
+    ensures { result ≡ hash_iterations octets.now }
 {
-    nsec3.algorithm() == Nsec3HashAlgorithm::SHA1
-        && nsec3.iterations() <= MOST_ITERATIONS
-        && nsec3.next_owner().into_data().len() == 20
+    u16::from(octet_at(octets, 2)) * 256 + u16::from(octet_at(octets, 3))
 }
 
-/// The hash of a name with the parameters of an NSEC3 record.
-fn hash_for(nsec3: &Nsec3<'_>, name: &RevNameBuf) -> [u8; 20]
-    ensures { result ≡ nsec3_hash_of name.now (hash_salt (fields_octets (nsec3_fields nsec3.now))) (hash_iterations (fields_octets (nsec3_fields nsec3.now))) }
+/// The salt in the data of an NSEC3 record.
+fn hash_salt(octets: &[u8]) -> &[u8]
+    ensures value { result.now ≡ hash_salt octets.now }
+    ensures short { length result.now ≤ 255 }
 {
-    let name = name.as_revname().to_name();
-    nsec3_hash(name.as_name(), nsec3.salt().into_data(), nsec3.iterations())
+    first_octets(octets_from(octets, 5), usize::from(octet_at(octets, 4)))
+}
+
+/// The next hash in the data of an NSEC3 record.
+fn next_hash(octets: &[u8]) -> &[u8]
+    ensures { result.now ≡ next_hash octets.now }
+{
+    let after_salt = octets_from(octets_from(octets, 5), usize::from(octet_at(octets, 4)));
+    first_octets(
+        octets_from(after_salt, 1),
+        usize::from(octet_at(after_salt, 0)),
+    )
+}
+
+/// Whether the hashes of a record are computed, by its data: by SHA-1, with few iterations, and the next hash is one (RFC 5155 section 11).
+fn is_computed(octets: &[u8]) -> bool
+    ensures { result ≡ is_computed octets.now }
+{
+    octet_at(octets, 0) == SHA1
+        && hash_iterations(octets) <= MOST_ITERATIONS
+        && next_hash(octets).len() == 20
 }
 
 /// What is said of a name by hashes: the owner's, the next one, and the name's.
@@ -113,18 +127,17 @@ fn hashed_coverage(owner: &[u8], next: &[u8], hash: &[u8]) -> Coverage
 }
 
 /// What an NSEC3 record says of a name, in the order of hashes (RFC 5155 section 3.1.7).
-pub(crate) fn nsec3_coverage(owner: &RevNameBuf, nsec3: &Nsec3<'_>, name: &RevNameBuf) -> Coverage
-    ensures { (k : SortKey) → k.owner ≡ key owner.now → k.octets ≡ fields_octets (nsec3_fields nsec3.now) → result ≡ nsec3_coverage name.now k }
+pub(crate) fn nsec3_coverage(found: &CanonicalForm<'_>, name: Name<'_>) -> Coverage
+    ensures { result ≡ nsec3_coverage (name_labels name.entry.slice.now) found.now }
 {
-    if !is_computed(nsec3) {
+    let octets = found.data();
+    if !is_computed(octets) {
         return Coverage::Unknown;
     }
-    let owner = owner.as_revname().to_name();
-    match owner_hash(owner.as_name()) {
+    match owner_hash(found.owner()) {
         Some(owner) => {
-            let hash = hash_for(nsec3, name);
-            let next = nsec3.next_owner().into_data();
-            hashed_coverage(owner.as_slice(), next, hash.as_slice())
+            let hash = nsec3_hash(name, hash_salt(octets), hash_iterations(octets));
+            hashed_coverage(owner.as_slice(), next_hash(octets), hash.as_slice())
         }
         None => Coverage::Unknown,
     }

@@ -8,6 +8,7 @@ mod coverage;
 mod laws;
 mod message;
 mod nsec3;
+mod octets;
 mod refusal;
 mod salt;
 mod signed;
@@ -23,5 +24,6 @@ pub use laws::{
     matches_and_covers_exclude_each_other, words_of_denial,
 };
 pub use nsec3::nsec3_hash;
+pub use signed::{Signature, signed_octets};
 pub use status::DenialStatus;
 pub use tag::key_tag;

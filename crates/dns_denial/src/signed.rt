@@ -1,79 +1,139 @@
-//! The octets that a signature is over (RFC 4035 section 5.3.2, RFC 4034 section 3.1.8.1).
+//! Signatures, and the octets that they are over (RFC 4034 section 3, RFC 4035 section 5.3.2).
 
-ghost use Rattle.std.specs.Prelude.{◌≡◌, ◌≤◌, ◌<◌, ◌++◌, ◌↔◌, [], Some, None, IfOk, IsTrue, OnOk, drop, flat_map, length, map, reverse, take, if◌then◌else◌};
-ghost use Rattle.std.specs.Int.{w16, w32, to_be_bytes};
-ghost use Rattle.std.specs.Option.{option_map};
+ghost use Rattle.std.specs.Prelude.{◌≡◌, ◌≤◌, ◌<◌, ◌++◌, ◌↔◌, [], Some, None, IfOk, IsTrue, OnOk, drop, flat_map, length, reverse, take, if◌then◌else◌};
+ghost use Rattle.std.specs.Int.{w32, to_be_bytes};
 ghost use Rattle.dns_wire.specs.Names.{name_labels, wire};
-ghost use Rattle.dns_name.specs.Order.{key};
 ghost use Rattle.dns_record.specs.Records.{octets_of_parts};
-ghost use Rattle.dns_sec.specs.Types.{rrsig_fields};
-ghost use Rattle.dns_message.specs.Canonical.{canonical_wire};
-ghost use Rattle.dns_message.specs.Order.{sort_key};
-ghost use Rattle.dns_denial.specs.Signed.{is_signature, is_signed_by, labels_field, signature_at, signed_octets, signed_owner, signed_part, without_signature};
+ghost use Rattle.dns_denial.specs.Signed.{algorithm, is_signature, is_signed_by, key_tag_field, labels_field, original_ttl, signature_at, signature_field, signed_octets, signed_owner, signed_part, signer, type_covered, without_signature};
 
-use crate::message::data_of;
-use dns_message::{CanonicalRecord, put_canonical};
-use dns_name::{CanonicalName, Name, RevNameBuf};
-use dns_rdata::RecordData;
-use dns_sec::Rrsig;
+use crate::octets::{first_octets, name_at_start, octet_at, octets_from};
+use dns_message::CanonicalForm;
+use dns_name::Name;
+use dns_record::RType;
 use std::alloc::{AllocError, Global};
+use std::marker::Model;
 
-/// A signature among the records of a message, and its data.
-#[derive(Clone, Copy)]
-pub(crate) struct Signature<'r, 'a> {
-    pub(crate) found: &'r CanonicalRecord<'a>,
-    rrsig: &'r Rrsig<'a>,
-    ghost rtype: { found.now.rtype ≡ 46 },
-    ghost read: { found.now.content ≡ rrsig_fields rrsig.now },
+/// The octets of the data before the signer's name (RFC 4034 section 3.1).
+const FIXED_SIZE: usize = 18;
+
+/// A signature: the canonical form of a record of type RRSIG (RFC 4034 section 3). It is seen as what records are compared by.
+#[derive(Debug, Drop)]
+pub struct Signature<'r, 'f> {
+    form: &'r CanonicalForm<'f>,
 }
 
-impl<'r, 'a> Signature<'r, 'a> {
-    /// The signature that a record is; `None` if it is of another type.
-    fn of(found: &'r CanonicalRecord<'a>) -> Option<Signature<'r, 'a>>
-        ensures { option_map (λ s. sort_key s.found.now) result ≡ (if is_signature (sort_key found.now) then Some (sort_key found.now) else None) }
+impl<'r, 'f> Model for Signature<'r, 'f> {
+    ghost use Rattle.dns_message.specs.Order.{SortKey};
+
+    ghost Value = { SortKey };
+
+    ghost view = { λ s. s.form.now };
+}
+
+impl<'r, 'f> Signature<'r, 'f> {
+    /// The signature that a form is; `None` if it is of another type.
+    pub fn of(form: &'r CanonicalForm<'f>) -> Option<Signature<'r, 'f>>
+        ensures { result ≡ (if is_signature form.now then Some form.now else None) }
     {
-        match found.rdata() {
-            RecordData::Rrsig(rrsig) => Some(Signature { found, rrsig }),
-            _ => None,
+        if form.rtype() == RType::RRSIG {
+            Some(Signature { form })
+        } else {
+            None
         }
     }
 
-    /// Whether the labels field is more than the number of the owner's labels.
-    pub fn has_too_many_labels(&self) -> bool
-        ensures { IsTrue result ↔ (length (sort_key self.now.found.now).owner < labels_field (sort_key self.now.found.now).octets) }
+    /// The type of the records that it is over (RFC 4034 section 3.1.1).
+    pub fn type_covered(&self) -> RType
+        ensures { result.code.value ≡ type_covered self.now.octets }
     {
-        usize::from(self.rrsig.labels) > label_count(self.found.owner())
+        let octets = self.form.data();
+        RType::from(u16::from(octet_at(octets, 0)) * 256 + u16::from(octet_at(octets, 1)))
+    }
+
+    /// The number of the algorithm (RFC 4034 section 3.1.2).
+    pub fn algorithm(&self) -> u8
+        ensures { result ≡ algorithm self.now.octets }
+    {
+        octet_at(self.form.data(), 2)
+    }
+
+    /// The number of labels of the owner that was signed, without the root and a first label `*` (RFC 4034 section 3.1.3).
+    pub fn labels(&self) -> u8
+        ensures { result ≡ labels_field self.now.octets }
+    {
+        octet_at(self.form.data(), 3)
+    }
+
+    /// The TTL of the records that it is over, in seconds (RFC 4034 section 3.1.4).
+    fn original_ttl(&self) -> u32
+        ensures { result ≡ original_ttl self.now.octets }
+    {
+        let octets = self.form.data();
+        u32::from_be_bytes([
+            octet_at(octets, 4),
+            octet_at(octets, 5),
+            octet_at(octets, 6),
+            octet_at(octets, 7),
+        ])
+    }
+
+    /// The tag of the key (RFC 4034 section 3.1.6).
+    pub fn key_tag(&self) -> u16
+        ensures { result ≡ key_tag_field self.now.octets }
+    {
+        let octets = self.form.data();
+        u16::from(octet_at(octets, 16)) * 256 + u16::from(octet_at(octets, 17))
+    }
+
+    /// The signer's name in lowercase, of at most 255 octets (RFC 4034 section 3.1.7).
+    pub fn signer(&self) -> Name<'f>
+        ensures { name_labels result.slice.now ≡ signer self.now.octets }
+    {
+        name_at_start(octets_from(self.form.data(), FIXED_SIZE))
+    }
+
+    /// The octets of the signature itself (RFC 4034 section 3.1.8).
+    pub fn signature(&self) -> &'f [u8]
+        ensures { result.now ≡ signature_field self.now.octets }
+    {
+        let signer = self.signer();
+        octets_from(self.form.data(), FIXED_SIZE + signer.len())
+    }
+
+    /// Whether the labels field is more than the number of the owner's labels, so that it is over nothing (RFC 4035 section 5.3.1).
+    pub fn has_too_many_labels(&self) -> bool
+        ensures { IsTrue result ↔ (length self.now.owner < labels_field self.now.octets) }
+    {
+        usize::from(self.labels()) > label_count(self.form.owner())
     }
 
     /// Whether this is over a record: the record has its owner, its class, and the type that it covers.
-    fn is_over(&self, found: &CanonicalRecord<'_>) -> bool
-        ensures { result ≡ is_signed_by (sort_key self.now.found.now) (sort_key found.now) }
+    fn is_over(&self, found: &CanonicalForm<'_>) -> bool
+        ensures { result ≡ is_signed_by self.now found.now }
     {
-        found.owner() == self.found.owner()
-            && (found.rclass() == self.found.rclass() && found.rtype() == self.rrsig.type_covered())
+        found.owner() == self.form.owner()
+            && (found.rclass() == self.form.rclass() && found.rtype() == self.type_covered())
     }
 
-    /// The data without the signature. There is room for the record's canonical octets.
-    fn start(&self, alloc: Global, octets: &mut [u8]) -> Result<Vec<u8>, AllocError>
-        requires { CanonicalRecord.MAX_SIZE ≤ length octets.old }
-        ensures { IfOk result (λ start. start.items ≡ without_signature (sort_key self.now.found.now).octets) }
+    /// The data without the signature.
+    fn start(&self, alloc: Global) -> Result<Vec<u8>, AllocError>
+        ensures { IfOk result (λ start. start.items ≡ without_signature self.now.octets) }
     {
-        let size = self.found.size();
-        put_canonical(self.found, octets);
-        let data = data_of(self.found, &octets[..size]);
-        Vec::from_slice(alloc, &data[..18 + self.rrsig.signer.len()])
+        let mut start = Vec::from_slice(alloc, first_octets(self.form.data(), FIXED_SIZE))?;
+        start.extend_from_slice(self.signer().as_bytes())?;
+        Ok(start)
     }
 }
 
-/// The signature of this number, from 0, among records; `None` if they have fewer.
-pub(crate) fn signature_at<'r, 'a>(
-    records: &[&'r CanonicalRecord<'a>],
+/// The signature of this number, from 0, among forms; `None` if they have fewer.
+pub(crate) fn signature_at<'r, 'f>(
+    forms: &'r [CanonicalForm<'f>],
     number: u16,
-) -> Option<Signature<'r, 'a>>
-    ensures { option_map (λ s. sort_key s.found.now) result ≡ signature_at number (map (λ r. sort_key r.now) records.now) }
+) -> Option<Signature<'r, 'f>>
+    ensures { result ≡ signature_at number forms.now }
 {
     let mut left = number;
-    for found in records {
+    for found in forms {
         if let Some(signature) = Signature::of(found) {
             if left == 0 {
                 return Some(signature);
@@ -85,10 +145,10 @@ pub(crate) fn signature_at<'r, 'a>(
 }
 
 /// The number of a name's labels without the root.
-fn label_count(name: &RevNameBuf) -> usize
-    ensures { result ≡ length name.now }
+fn label_count(name: Name<'_>) -> usize
+    ensures { result ≡ length (name_labels name.entry.slice.now) }
 {
-    name.as_revname().labels().count() - 1
+    name.labels().count() - 1
 }
 
 /// The octets of a name without that many labels at its start.
@@ -105,28 +165,24 @@ fn after_labels(name: &[u8], count: usize) -> &[u8]
 }
 
 /// The octets of the owner that was signed, by the labels field and the owner.
-fn signed_owner(alloc: Global, count: usize, owner: &RevNameBuf) -> Result<Vec<u8>, AllocError>
-    requires { count ≤ length owner.now }
-    ensures { IfOk result (λ octets. octets.items ≡ wire (reverse (signed_owner count (key owner.now)))) }
+fn signed_owner(alloc: Global, count: usize, owner: Name<'_>) -> Result<Vec<u8>, AllocError>
+    requires { count ≤ length (name_labels owner.slice.now) }
+    ensures { IfOk result (λ octets. octets.items ≡ wire (reverse (signed_owner count (reverse (name_labels owner.entry.slice.now))))) }
 {
-    let size = owner.composed_size();
-    let mut octets = [0; Name::MAX_SIZE];
-    owner.build_lowercased_at(&mut octets, 0).unwrap();
     let passed = label_count(owner) - count;
     if passed == 0 {
-        return Vec::from_slice(alloc, &octets[..size]);
+        return Vec::from_slice(alloc, owner.as_bytes());
     }
     let mut signed = Vec::from_slice(alloc, b"\x01*")?;
-    signed.extend_from_slice(after_labels(&octets[..size], passed))?;
+    signed.extend_from_slice(after_labels(owner.as_bytes(), passed))?;
     Ok(signed)
 }
 
 /// The canonical octets of a record after its owner.
-fn after_owner<'o>(found: &CanonicalRecord<'_>, octets: &'o [u8]) -> &'o [u8]
-    requires { octets.now ≡ canonical_wire found.now }
-    ensures { result.now ≡ octets_of_parts [] found.now.rtype found.now.class found.now.ttl (sort_key found.now).octets }
+fn after_owner<'f>(found: &CanonicalForm<'f>) -> &'f [u8]
+    ensures { result.now ≡ octets_of_parts [] found.now.rtype found.now.class found.now.ttl found.now.octets }
 {
-    &octets[found.owner().composed_size()..]
+    octets_from(found.octets(), found.owner().len())
 }
 
 /// Appends the canonical octets of a record with another owner and TTL, by those after its own owner: two of type, two of class, four of
@@ -141,73 +197,52 @@ fn push_record(owner: &[u8], ttl: u32, rest: &[u8], signed: &mut Vec<u8>) -> Res
     signed.extend_from_slice(&rest[8..])
 }
 
-/// Appends the canonical octets of a record as it was signed, if the signature is over it. There is room for the record's canonical octets.
+/// Appends the canonical octets of a record as it was signed, if the signature is over it.
 fn push_part(
     signature: &Signature<'_, '_>,
     owner: &[u8],
-    found: &CanonicalRecord<'_>,
-    octets: &mut [u8],
+    found: &CanonicalForm<'_>,
     signed: &mut Vec<u8>,
 ) -> Result<(), AllocError>
-    requires owner { owner.now ≡ wire (reverse (signed_owner (labels_field (sort_key signature.now.found.now).octets) (sort_key signature.now.found.now).owner)) }
-    requires room { CanonicalRecord.MAX_SIZE ≤ length octets.old }
-    ensures { OnOk result (signed.new.items ≡ signed.old.items ++ signed_part (sort_key signature.now.found.now) (sort_key found.now)) }
+    requires { owner.now ≡ wire (reverse (signed_owner (labels_field signature.now.octets) signature.now.owner)) }
+    ensures { OnOk result (signed.new.items ≡ signed.old.items ++ signed_part signature.now found.now) }
 {
     if !signature.is_over(found) {
         return Ok(());
     }
-    let size = found.size();
-    put_canonical(found, octets);
-    let rest = after_owner(found, &octets[..size]);
-    push_record(owner, signature.rrsig.ttl.as_secs(), rest, signed)
+    push_record(owner, signature.original_ttl(), after_owner(found), signed)
 }
 
-/// Appends the canonical octets of the records that the signature is over, as they were signed. There is room for those of each.
+/// Appends the canonical octets of the records that the signature is over, as they were signed.
 fn push_parts(
     signature: &Signature<'_, '_>,
     owner: &[u8],
-    records: &[&CanonicalRecord<'_>],
-    octets: &mut [u8],
+    forms: &[CanonicalForm<'_>],
     signed: &mut Vec<u8>,
 ) -> Result<(), AllocError>
-    requires owner { owner.now ≡ wire (reverse (signed_owner (labels_field (sort_key signature.now.found.now).octets) (sort_key signature.now.found.now).owner)) }
-    requires room { CanonicalRecord.MAX_SIZE ≤ length octets.old }
-    ensures { OnOk result (signed.new.items ≡ signed.old.items ++ flat_map (signed_part (sort_key signature.now.found.now)) (map (λ r. sort_key r.now) records.now)) }
+    requires { owner.now ≡ wire (reverse (signed_owner (labels_field signature.now.octets) signature.now.owner)) }
+    ensures { OnOk result (signed.new.items ≡ signed.old.items ++ flat_map (signed_part signature.now) forms.now) }
 {
-    for found in records {
-        push_part(signature, owner, found, octets, signed)?;
+    for found in forms {
+        push_part(signature, owner, found, signed)?;
     }
     Ok(())
 }
 
-/// The octets that a signature among records is over, by the owner that was signed. There is room for the canonical octets of each.
-fn octets_over(
+/// The octets that a signature among records is over, by the records' canonical forms: its data without the signature, and each record that
+/// it is over, as it was signed (RFC 4034 section 3.1.8.1, RFC 4035 section 5.3.2). The condition is that the labels field is no more than
+/// the number of the owner's labels. `AllocError` is out of memory.
+pub fn signed_octets(
     alloc: Global,
-    records: &[&CanonicalRecord<'_>],
+    forms: &[CanonicalForm<'_>],
     signature: &Signature<'_, '_>,
-    owner: &[u8],
-    octets: &mut [u8],
 ) -> Result<Vec<u8>, AllocError>
-    requires owner { owner.now ≡ wire (reverse (signed_owner (labels_field (sort_key signature.now.found.now).octets) (sort_key signature.now.found.now).owner)) }
-    requires room { CanonicalRecord.MAX_SIZE ≤ length octets.old }
-    ensures { IfOk result (λ signed. signed.items ≡ signed_octets (map (λ r. sort_key r.now) records.now) (sort_key signature.now.found.now)) }
+    requires { labels_field signature.now.octets ≤ length signature.now.owner }
+    ensures { IfOk result (λ signed. signed.items ≡ signed_octets forms.now signature.now) }
 {
-    let mut signed = signature.start(alloc, octets)?;
-    push_parts(signature, owner, records, octets, &mut signed)?;
+    let count = usize::from(signature.labels());
+    let owner = signed_owner(alloc, count, signature.form.owner())?;
+    let mut signed = signature.start(alloc)?;
+    push_parts(signature, &owner, forms, &mut signed)?;
     Ok(signed)
-}
-
-/// The octets that a signature among records is over.
-pub(crate) fn signed_octets(
-    alloc: Global,
-    records: &[&CanonicalRecord<'_>],
-    signature: &Signature<'_, '_>,
-) -> Result<Vec<u8>, AllocError>
-    requires { labels_field (sort_key signature.now.found.now).octets ≤ length (sort_key signature.now.found.now).owner }
-    ensures { IfOk result (λ signed. signed.items ≡ signed_octets (map (λ r. sort_key r.now) records.now) (sort_key signature.now.found.now)) }
-{
-    let count = usize::from(signature.rrsig.labels);
-    let owner = signed_owner(alloc, count, signature.found.owner())?;
-    let mut octets = vec![in alloc; 0; CanonicalRecord::MAX_SIZE]?;
-    octets_over(alloc, records, signature, &owner, &mut octets)
 }

@@ -3,9 +3,10 @@
 ghost use Rattle.std.specs.Prelude.{◌≡◌, ◌≤◌, length};
 ghost use Rattle.dns_denial.specs.KeyTags.{is_rsa_md5, tag};
 
-/// The tag of a key's data, if these are no more octets than a whole record has in canonical form.
-pub(crate) fn tag_of(octets: &[u8]) -> u16
-    requires { length octets.now ≤ 65800 }
+/// The tag of a key by the data of its DNSKEY record, for every algorithm but 1 (RFC 4034 appendix B). The condition is that the data have at
+/// most 65,535 octets, as their number is in two octets (RFC 1035 section 3.2.1).
+pub fn key_tag(octets: &[u8]) -> u16
+    requires { length octets.now ≤ 65535 }
     ensures { result ≡ tag octets.now }
 {
     let mut sum = 0u64;
@@ -14,15 +15,6 @@ pub(crate) fn tag_of(octets: &[u8]) -> u16
         sum += if index % 2 == 0 { octet * 256 } else { octet };
     }
     ((sum + sum / 65536 % 65536) % 65536) as u16
-}
-
-/// The tag of a key by the data of its DNSKEY record, for every algorithm but 1 (RFC 4034 appendix B). The condition is that the data have at
-/// most 65,535 octets, as their number is in two octets (RFC 1035 section 3.2.1).
-pub fn key_tag(octets: &[u8]) -> u16
-    requires { length octets.now ≤ 65535 }
-    ensures { result ≡ tag octets.now }
-{
-    tag_of(octets)
 }
 
 /// Whether the algorithm of a key is RSA/MD5, by the data of its DNSKEY record: their fourth octet is 1 (RFC 4034 section 2.1 and appendix

@@ -8,7 +8,7 @@ ghost use Rattle.dns_name.specs.Text.{parsed_name};
 ghost use Rattle.dns_denial.specs.Words.{command_of, hash_named};
 
 use crate::salt::Salt;
-use dns_name::{NameBuf, RevNameBuf};
+use dns_name::NameBuf;
 use dns_text::{Args, number_within};
 
 /// What is asked for.
@@ -22,7 +22,7 @@ pub(crate) enum DenialCommand {
     },
     /// `covers`: what the NSEC and NSEC3 records in a message say of a name.
     Covers {
-        name: RevNameBuf,
+        name: NameBuf,
     },
     /// `signed`: the octets that a signature in a message is over, by its number from 0.
     Signed {
@@ -50,7 +50,7 @@ fn hash_named(name: &str, salt: &str, iterations: &str) -> Option<DenialCommand>
 fn covers_named(name: &str) -> Option<DenialCommand>
     ensures { result ≡ option_map DenialCommand.Covers (result_ok (parsed_name name.now)) }
 {
-    match RevNameBuf::parse_str(name.as_bytes()) {
+    match NameBuf::parse_str(name.as_bytes()) {
         Ok(name) => Some(DenialCommand::Covers { name }),
         Err(_) => None,
     }

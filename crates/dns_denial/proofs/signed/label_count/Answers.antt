@@ -1,10 +1,10 @@
-use Rattle.std.proofs.Common.{[], ap, arith, reverse, ◌∙◌, ◌∷◌}
+use Rattle.std.proofs.Common.{◌++◌, ◌∷◌, [], arith, length-append}
 use Rattle.std.proofs.lemmas.Iterator.Consumers.{YieldsList-from_first, count_from_yields_List}
-use Rattle.std.proofs.lemmas.List.{length-reverse}
+use Rattle.dns_wire.specs.Names.{name_labels}
 use Rattle.dns_denial.proofs.signed.label_count.Goals as goal
 
 pub returns : goal.returns
 returns c =
-    let labels = c.labels.ensures.labels ∙ ap (λ l. [] ∷ reverse l) c.as_revname.ensures in
-    let counted = count_from_yields_List c.labels.result _ c.count.ensures.ran (YieldsList-from_first _ _ ([] ∷ reverse c.args.name.now) labels) in
-    omega (arith, counted, length-reverse c.args.name.now)
+    let labels = name_labels c.args.name.slice.now in
+    let counted = count_from_yields_List c.labels.result _ c.count.ensures.ran (YieldsList-from_first _ _ (labels ++ [] ∷ []) c.labels.ensures.labels) in
+    omega (arith, counted, length-append labels ([] ∷ []))

@@ -1,16 +1,13 @@
 use Rattle.std.proofs.Common.{◌++◌, ◌∙◌, List, ap, ℕ}
-use Rattle.dns_message.specs.Order.{sort_key}
 use Rattle.dns_denial.specs.Signed.{signed_part}
 use Rattle.dns_denial.proofs.Lines.{lines_all, push_more}
 use Rattle.dns_denial.proofs.signed.push_parts.Goals as goal
 
 pub loop-found-preserved : goal.loop-found-preserved
 loop-found-preserved c =
-    let g = sort_key c.args.signature.now.found.now in
-    push_more c.args.records.now (λ r. signed_part g (sort_key r.now)) c.loop-found.found-index c.found-item.result c.args.signed.now.items _ _ c.loop-found-test.true c.found-item.is c.loop-found.invariant c.in_ok-push_part.ensures
+    push_more c.args.forms.now (signed_part c.args.signature.now) c.loop-found.found-index c.found-item.result c.args.signed.now.items _ _ c.loop-found-test.true c.found-item.is c.loop-found.invariant c.in_ok-push_part.ensures
 
 pub returns : goal.returns
 returns c =
-    let g = sort_key c.args.signature.now.found.now in
     c.loop-found.invariant
-    ∙ ap (λ (l : List ℕ). c.args.signed.now.items ++ l) (lines_all c.args.records.now (λ r. sort_key r.now) (signed_part g) c.loop-found.found-index c.loop-found-test.false)
+    ∙ ap (λ (l : List ℕ). c.args.signed.now.items ++ l) (lines_all c.args.forms.now (signed_part c.args.signature.now) c.loop-found.found-index c.loop-found-test.false)

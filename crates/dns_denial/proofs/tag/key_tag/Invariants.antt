@@ -1,6 +1,6 @@
 use Rattle.std.proofs.Common.{◌≡◌, ◌+◌, ◌*◌, ◌≤◌, drop}
 use Rattle.dns_denial.specs.KeyTags.{tag_sum}
-use Rattle.dns_denial.proofs.tag.tag_of.Given as goal
+use Rattle.dns_denial.proofs.tag.key_tag.Given as goal
 
 abbrev pub invariant-loop-index : goal.invariant-loop-index
 invariant-loop-index l = record {
