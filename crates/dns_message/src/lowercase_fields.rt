@@ -28,6 +28,7 @@ fn is_name(kind: FieldKind) -> bool
 }
 
 /// Where the field at a place ends, of a kind that is no name; `None` exactly if no such field is there.
+#[inline(always)]
 fn kept_end(kind: FieldKind, contents: &[u8], start: usize) -> Option<usize>
     requires kept { is_name_kind kind ≡ false }
     requires start { start ≤ length contents.now }

@@ -51,6 +51,7 @@ fn after_string(bytes: &[u8]) -> Option<&[u8]>
 }
 
 /// The octets after the field at the start; `None` exactly if no such field is there.
+#[inline(always)]
 pub(crate) fn after_field(kind: FieldKind, bytes: &[u8]) -> Option<&[u8]>
     ensures { AfterField (field_of plain_name (kind_of kind) bytes.now) result }
 {
