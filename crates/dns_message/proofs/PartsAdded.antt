@@ -148,7 +148,7 @@ parts_put owner rtype class ttl body keys octets spans more_keys more_octets mor
     let same = other_octets rtype body in
     let whole : octets_of_parts (wire owner) rtype class ttl body ≡ canonical_wire r = λ i. octets_of_parts (wire (sym low i)) rtype class ttl (sym same i) in
     let long : length (canonical_wire r) ≡ length (wire owner) + (10 + length body) = ap length (sym whole) ∙ ap (λ (l : List (List ℕ)). length (octets_of_parts (wire l) rtype class ttl body)) (sym low) ∙ parts_long owner rtype class ttl body in
-    let put = record_put r keys octets spans more_keys more_octets more_spans s so name (omega (arith, long, short, name.size)) (omega (arith, ap length raw, short)) keys-are
+    let put = record_put r keys octets spans more_keys more_octets more_spans s so name (omega (arith, long, short, name.size)) (omega (arith, ap length same, short)) keys-are
     (octets-are ∙ assoc octets (wire owner) (to_be_bytes w16 rtype) (to_be_bytes w16 class) (to_be_bytes w32 ttl) (to_be_bytes w16 (length body)) body ∙ ap (λ (l : List ℕ). octets ++ l) whole)
     spans-are owner_size-is (omega (arith, size-is, long)) class-is rtype-is ttl-is in
     (put.0 ∙ ap (λ (l : List ℕ). forms_in spans octets ++ record { owner = key owner; class = class; rtype = rtype; octets = l; ttl = ttl } ∷ []) same, put.1)

@@ -35,7 +35,7 @@ returns-then-eq-clause-adds c = λ labels has.
     let are = placed_octets c.args.items.now parts.rdata.octets.now c.args.end c.requires.octets c.requires.placed in
     let found = joined_are rtype _ parts.rdata.octets.now true row usual.1 are (rw c.octets-octets.ensures.octets at c.if-not-are_fields.ensures) in
     let read = found.1 in
-    let added = opt_added (parts_value labels parts) found.0 c.args.forms.now.now read (sym c.eq.ensures ∙ c.if-eq.true) in
+    let added = opt_added (parts_value labels parts) found.0 c.args.forms.now read (sym c.eq.ensures ∙ c.if-eq.true) in
     (added.0, cased_in_place_by further c.args.items.now parts.rdata.octets.now rtype c.args.end low c.requires.within c.requires.placed ∙ added.1, added.2)
 
 pub returns-then-not-lowercase-clause-adds : goal.returns-then-not-lowercase-clause-adds

@@ -17,19 +17,19 @@ loop-position-init c = record {
   owner = λ some. absurd (omega (arith, some, c.forget.ensures));
 }
 
-pub returns-in_default-2-clause-refused : goal.returns-in_default-2-clause-refused
-returns-in_default-2-clause-refused c =
+pub returns-in_default-pushed-clause-refused : goal.returns-in_default-pushed-clause-refused
+returns-in_default-pushed-clause-refused c =
     let so = c.loop-position.invariant in
     let there = so.items ∙ ap (λ (l : Octets). drop 12 l) (sym so.read.1.of_message) in
     read_fails (data_by c.args.formats) c.args.message.now c.loop-position.parser c.in-Some.position.section c.in-Some.position.index so.read.0 so.read.1 c.in-Some.ensures.none
-    (ap₂ (λ (l : Octets) (n : ℕ). item_by (data_by c.args.formats) c.in-Some.position.section l n) (sym there) (sym c.offset-start.ensures) ∙ (rw c.in_default-2.is at c.in_ok-pushed.ensures.adds))
+    (ap₂ (λ (l : Octets) (n : ℕ). item_by (data_by c.args.formats) c.in-Some.position.section l n) (sym there) (sym c.offset-start.ensures) ∙ (rw c.in_default-pushed.is at c.in_ok-pushed.ensures.adds))
 
 pub loop-position-preserved : goal.loop-position-preserved
 loop-position-preserved c =
     let so = c.loop-position.invariant in
     let section = c.in-Some.position.section in
-    let end = c.in-Some-2.end in
-    let more = form_adds (data_by c.args.formats) section c.loop-position.items c.offset-start.result so.read.0 c.loop-position.forms c.push_item.new.forms end so.read.2 (rw c.in-Some-2.is at c.in_ok-pushed.ensures.adds) in
+    let end = c.in-Some-pushed.end in
+    let more = form_adds (data_by c.args.formats) section c.loop-position.items c.offset-start.result so.read.0 c.loop-position.forms c.push_item.new.forms end so.read.2 (rw c.in-Some-pushed.is at c.in_ok-pushed.ensures.adds) in
     record {
       read = (
         more.0,
@@ -39,7 +39,7 @@ loop-position-preserved c =
         more.2,
       );
       items = c.push_item.ensures.items ∙ so.items;
-      owner = subst (λ (l : Octets). WasRead l c.push_item.new.room.owner) (sym c.push_item.ensures.items) (rw c.in-Some-2.is at c.in_ok-pushed.ensures.owner);
+      owner = subst (λ (l : Octets). WasRead l c.push_item.new.room.owner) (sym c.push_item.ensures.items) (rw c.in-Some-pushed.is at c.in_ok-pushed.ensures.owner);
     }
 
 pub returns-clause-read : goal.returns-clause-read
