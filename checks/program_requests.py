@@ -68,9 +68,13 @@ def runs():
 
 
 def line_runs():
-    """Each command of `dnslines`, on a reply, a line that is refused, and the reply again."""
-    text = samples.REPLY.strip() + b"\nxyz\n" + samples.REPLY.strip() + b"\n"
-    for word, answer in (("normal", samples.REPLY_NORMAL), ("digest", samples.REPLY_DIGEST)):
+    """Each command of `dnslines`, on a message, a line that is refused, and the message again."""
+    for word, message, answer in (
+        ("normal", samples.REPLY, samples.REPLY_NORMAL),
+        ("digest", samples.REPLY, samples.REPLY_DIGEST),
+        ("signed", samples.SIGNED, b"1 8 1 3 016200 ff " + samples.SIGNED_OCTETS),
+    ):
+        text = message.strip() + b"\nxyz\n" + message.strip() + b"\n"
         printed = answer + b"! bad hex\n" + answer
         yield LinesRun(f"dnslines, {word}", text, "status 8", REFUSED, Ended(0, printed, b""), "dnslines", [word])
 

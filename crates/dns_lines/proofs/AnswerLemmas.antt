@@ -11,18 +11,22 @@ use Rattle.dns_text.specs.declared.notice.Notice.TheVariants as notice
 use Rattle.dns_message.specs.Messages.{RecordValue}
 use Rattle.dns_message.specs.Order.{canonical_list}
 use Rattle.dns_message.specs.Same.{Same}
-use Rattle.dns_message.specs.Texts.{HasRecords}
-use Rattle.dns_message.proofs.CanonicalListSameness.{canonical_list_from_same}
-use Rattle.dns_message.proofs.TextLemmas.{one_records, text_well}
+use Rattle.dns_record.specs.FurtherFormats.{data_by}
+use Rattle.dns_record.specs.declared.formats.Formats.TheVariants.{Listed}
+use Rattle.dns_message.specs.Texts.{HasRecordsBy}
+use Rattle.dns_message.proofs.CanonicalListSameness.{canonical_list_from_same, keys_from_same}
+use Rattle.dns_message.proofs.TextLemmas.{one_records, one_records_by, text_well}
 use Rattle.dns_normal.specs.Normal.{normal_form}
-use Rattle.dns_normal.specs.Texts.{form_refusal, normal_note, size_refusal, spelling_refusal}
+use Rattle.dns_denial.specs.Texts.{members}
+use Rattle.dns_normal.specs.Texts.{form_refusal, normal_note, reading_refusal, size_refusal, spelling_refusal, spelling_refusal_by}
 use Rattle.dns_normal.specs.declared.refusal.Refusal.{Refusal}
 use Rattle.dns_normal.proofs.NormalForms.{same_normal}
 use Rattle.dns_normal.proofs.NormalOutcomes.{valid_refusal}
-use Rattle.dns_lines.specs.Answers.{Answers, AreAnswers, IsAnswer, IsAnswerAs, PrintsFor, marked, refusal_for, refusal_line}
+use Rattle.dns_lines.specs.Answers.{Answers, AreAnswers, IsAnswer, IsAnswerAs, PrintsFor, formats_for, refusal_for, refusal_line}
 use Rattle.dns_lines.specs.Lines.{HasLines, ended}
+use Rattle.dns_lines.specs.Signatures.{marked, signature_lines}
 use Rattle.dns_lines.specs.declared.command.LineCommand.{LineCommand}
-use Rattle.dns_lines.specs.declared.command.LineCommand.TheVariants.{Normal, Digest}
+use Rattle.dns_lines.specs.declared.command.LineCommand.TheVariants.{Normal, Digest, Signed}
 use Rattle.dns_lines.proofs.LineLemmas.{ended_lines, lines_on, one_lines}
 
 -- ---- the answer to a line
@@ -58,18 +62,24 @@ kept_answer command text answer is = elim (cases_lt 131072 (length text)) [
 -- ---- one answer
 
 -- what is printed for one of two texts with the same records is printed for the other
-same_printed : (command : LineCommand) (t u printed other : List ℕ) (rs ss : List RecordValue) → HasRecords t rs → HasRecords u ss → Same rs ss → PrintsFor command t printed → PrintsFor command u other → printed ≡ other
+same_printed : (command : LineCommand) (t u printed other : List ℕ) (rs ss : List RecordValue) → HasRecordsBy (data_by (formats_for command)) t rs → HasRecordsBy (data_by (formats_for command)) u ss → Same rs ss
+    → PrintsFor command t printed → PrintsFor command u other → printed ≡ other
 same_printed Normal t u printed other rs ss first second same (rs', has, is) (ss', also, js) =
     is ∙ ap (λ (l : List RecordValue). line (normal_form l)) (one_records t rs' rs has first) ∙ ap line (same_normal rs ss (text_well t rs first) (text_well u ss second) same)
     ∙ ap (λ (l : List RecordValue). line (normal_form l)) (one_records u ss ss' second also) ∙ sym js
 same_printed Digest t u printed other rs ss first second same (rs', has, is) (ss', also, js) =
     is ∙ ap (λ (l : List RecordValue). line (sha384 (concat (canonical_list l)))) (one_records t rs' rs has first) ∙ ap (λ (l : List (List ℕ)). line (sha384 (concat l))) (canonical_list_from_same rs ss same)
     ∙ ap (λ (l : List RecordValue). line (sha384 (concat (canonical_list l)))) (one_records u ss ss' second also) ∙ sym js
+same_printed Signed t u printed other rs ss first second same (rs', has, is) (ss', also, js) =
+    is ∙ ap (λ (l : List RecordValue). signature_lines (members l)) (one_records_by (data_by Listed) t rs' rs has first) ∙ ap signature_lines (keys_from_same rs ss same)
+    ∙ ap (λ (l : List RecordValue). signature_lines (members l)) (one_records_by (data_by Listed) u ss ss' second also) ∙ sym js
 
 one_printed : (command : LineCommand) (t printed other : List ℕ) → PrintsFor command t printed → PrintsFor command t other → printed ≡ other
 one_printed Normal t printed other (rs, has, is) (ss, also, js) = is ∙ ap (λ (l : List RecordValue). line (normal_form l)) (one_records t rs ss has also) ∙ sym js
 one_printed Digest t printed other (rs, has, is) (ss, also, js) =
     is ∙ ap (λ (l : List RecordValue). line (sha384 (concat (canonical_list l)))) (one_records t rs ss has also) ∙ sym js
+one_printed Signed t printed other (rs, has, is) (ss, also, js) =
+    is ∙ ap (λ (l : List RecordValue). signature_lines (members l)) (one_records_by (data_by Listed) t rs ss has also) ∙ sym js
 
 pub one_answer : (command : LineCommand) (text answer other : List ℕ) → IsAnswer command text answer → IsAnswer command text other → answer ≡ other
 one_answer command text answer other is also = on_refusal (refusal_line command text) is also where
@@ -118,16 +128,19 @@ divided command t u written other first second =
 abbrev pub refusal_of : LineCommand → List RecordValue → Option Refusal
 refusal_of Normal rs = form_refusal rs
 refusal_of Digest rs = None
+refusal_of Signed rs = None
 
-pub records_refusal : (command : LineCommand) (t : List ℕ) (rs : List RecordValue) → HasRecords t rs → refusal_for command t ≡ refusal_of command rs
+pub records_refusal : (command : LineCommand) (t : List ℕ) (rs : List RecordValue) → HasRecordsBy (data_by (formats_for command)) t rs → refusal_for command t ≡ refusal_of command rs
 records_refusal Normal t rs (m, spells, valid) = ap (spelling_refusal form_refusal) spells ∙ valid_refusal form_refusal m rs valid
 records_refusal Digest t rs (m, spells, valid) = ap (spelling_refusal (λ rs. None)) spells ∙ valid_refusal (λ rs. None) m rs valid
+records_refusal Signed t rs (m, spells, (items, end, is, are)) = ap (spelling_refusal_by (data_by Listed) (λ rs. None)) spells ∙ ap (reading_refusal (λ rs. None)) is
 
-same_refusal : (command : LineCommand) (t u : List ℕ) (rs ss : List RecordValue) → HasRecords t rs → HasRecords u ss → Same rs ss → refusal_of command rs ≡ refusal_of command ss
+same_refusal : (command : LineCommand) (t u : List ℕ) (rs ss : List RecordValue) → HasRecordsBy (data_by (formats_for command)) t rs → HasRecordsBy (data_by (formats_for command)) u ss → Same rs ss → refusal_of command rs ≡ refusal_of command ss
 same_refusal Normal t u rs ss first second same = ap (λ (m : List ℕ). size_refusal m) (same_normal rs ss (text_well t rs first) (text_well u ss second) same)
 same_refusal Digest t u rs ss first second same = refl
+same_refusal Signed t u rs ss first second same = refl
 
-pub equal_answers : (command : LineCommand) (t u answer reply : List ℕ) (rs ss : List RecordValue) → HasRecords t rs → HasRecords u ss → Same rs ss → length t ≤ 131072 → length u ≤ 131072
+pub equal_answers : (command : LineCommand) (t u answer reply : List ℕ) (rs ss : List RecordValue) → HasRecordsBy (data_by (formats_for command)) t rs → HasRecordsBy (data_by (formats_for command)) u ss → Same rs ss → length t ≤ 131072 → length u ≤ 131072
     → IsAnswer command t answer → IsAnswer command u reply → answer ≡ reply
 equal_answers command t u answer reply rs ss first second same short few is also =
     let e = short_line command t short ∙ ap (option_map normal_note) (records_refusal command t rs first) in

@@ -1,10 +1,10 @@
--- Each answer is one line, and digits are no marked line.
-use Rattle.std.proofs.Common.{◌≡◌, ◌≢◌, eqb, ℕ, zero, suc, ◌+◌, ◌/◌, ◌%◌, ◌≤◌, Bool, true, false, cond, List, [], ◌∷◌, ◌++◌, length, flat_map, codes, slice_index, nat_lt, Option, Some, None, refl, sym, ap, subst, ◌∙◌, inl, inr, append_assoc, arith, decimal, drop, get_or}
+-- Answers are lines, and digits are no marked line.
+use Rattle.std.proofs.Common.{◌≡◌, ◌≢◌, eqb, ℕ, zero, suc, ◌+◌, ◌/◌, ◌%◌, ◌≤◌, Bool, true, false, cond, List, [], ◌∷◌, ◌++◌, length, flat_map, codes, slice_index, nat_lt, Option, Some, None, refl, sym, ap, subst, ◌∙◌, ◌⊎◌, inl, inr, append-nil, append_assoc, arith, decimal, drop, get_or}
 use Rattle.std.specs.Fmt.{digit_glyph, digits, digits_onto}
 use Rattle.std.specs.Option.{option_map}
-use Rattle.std.specs.List.{All, concat, list_any}
+use Rattle.std.specs.List.{All, AllByRecursion, concat, list_any}
 use Rattle.sha2.specs.Sha512.{sha384}
-use Rattle.dns_message.specs.Order.{canonical_list}
+use Rattle.dns_message.specs.Order.{SortKey, canonical_list}
 use Rattle.std.proofs.lemmas.Bool.{agree_below_at, cases_lt}
 use Rattle.std.proofs.lemmas.List.{get_or_past}
 use Rattle.std.proofs.lemmas.List.Concat.{flat_map-cons}
@@ -17,6 +17,9 @@ use Rattle.dns_message.specs.Texts.{HasRecords}
 use Rattle.dns_message.specs.WellFormed.{WellFormed}
 use Rattle.dns_wire.specs.Reading.{AreOctets}
 use Rattle.dns_message.proofs.TextLemmas.{one_records, text_well}
+use Rattle.dns_wire.specs.Names.{wire}
+use Rattle.dns_denial.specs.Signed.{algorithm, is_signature, key_tag_field, labels_field, signature_field, signed_octets, signer, type_covered}
+use Rattle.dns_denial.specs.Texts.{members}
 use Rattle.dns_normal.specs.Normal.{normal_form}
 use Rattle.dns_normal.specs.Texts.{normal_note}
 use Rattle.dns_normal.specs.declared.refusal.Refusal.{Refusal}
@@ -24,10 +27,11 @@ use Rattle.dns_normal.specs.declared.refusal.Refusal.TheVariants.{BadHex, Short,
 use Rattle.dns_normal.proofs.NormalForms.{normal_octets, other_normal}
 use Rattle.dns_normal.proofs.NormalOutcomes.{accepted_size}
 use Rattle.dns_normal.proofs.NormalTexts.{line_back}
-use Rattle.dns_lines.specs.Answers.{IsAnswer, PrintsFor, marked, refusal_for, refusal_line}
+use Rattle.dns_lines.specs.Answers.{IsAnswer, PrintsFor, refusal_for, refusal_line}
+use Rattle.dns_lines.specs.Signatures.{marked, number_field, octets_field, signature_answer, signature_line, signature_numbers, signature_part}
 use Rattle.dns_lines.specs.Lines.{IsLine, ended}
 use Rattle.dns_lines.specs.declared.command.LineCommand.{LineCommand}
-use Rattle.dns_lines.specs.declared.command.LineCommand.TheVariants.{Normal, Digest}
+use Rattle.dns_lines.specs.declared.command.LineCommand.TheVariants.{Normal, Digest, Signed}
 use Rattle.dns_lines.proofs.LineLemmas.{all_append}
 use Rattle.dns_lines.proofs.AnswerLemmas.{answer_printed, answer_refused, long_line, records_refusal, short_line}
 
@@ -101,18 +105,75 @@ refusal_is_line TooLarge = note_is_line (codes "too large") [] refl
 
 -- ---- answers
 
-printed_line : (command : LineCommand) (t printed : List ℕ) → PrintsFor command t printed → IsOneLine printed
-printed_line Normal t printed (rs, has, is) = (flat_map shown (normal_form rs), shown_line (normal_form rs), is)
-printed_line Digest t printed (rs, has, is) = let octets = sha384 (concat (canonical_list rs)) in (flat_map shown octets, shown_line octets, is)
+printed_line : (command : LineCommand) (t printed : List ℕ) → command ≢ Signed → PrintsFor command t printed → IsOneLine printed
+printed_line Normal t printed other (rs, has, is) = (flat_map shown (normal_form rs), shown_line (normal_form rs), is)
+printed_line Digest t printed other (rs, has, is) = let octets = sha384 (concat (canonical_list rs)) in (flat_map shown octets, shown_line octets, is)
+printed_line Signed t printed other prints = absurd (other refl)
 
-pub answer_is_line : (command : LineCommand) (t answer : List ℕ) → IsAnswer command t answer → IsOneLine answer
-answer_is_line command t answer is = elim (cases_lt 131072 (length t)) [
-  | inl long ↦ subst IsOneLine (sym (answer_refused command t (notice_line notice.TooLong) answer (long_line command t long) is)) (note_is_line (codes "too long") [] refl)
+-- an answer is a marked line, or what is printed
+marked_or_printed : (command : LineCommand) (t answer : List ℕ) → IsAnswer command t answer → IsOneLine answer ⊎ PrintsFor command t answer
+marked_or_printed command t answer is = elim (cases_lt 131072 (length t)) [
+  | inl long ↦ inl (subst IsOneLine (sym (answer_refused command t (notice_line notice.TooLong) answer (long_line command t long) is)) (note_is_line (codes "too long") [] refl))
   | inr short ↦ on_refusal (short_line command t short) (refusal_for command t) refl
 ] where
-  on_refusal : refusal_line command t ≡ option_map normal_note (refusal_for command t) → (o : Option Refusal) → refusal_for command t ≡ o → IsOneLine answer
-  on_refusal e None f = printed_line command t answer (answer_printed command t answer (e ∙ ap (option_map normal_note) f) is)
-  on_refusal e (Some r) f = subst IsOneLine (sym (answer_refused command t (normal_note r) answer (e ∙ ap (option_map normal_note) f) is)) (refusal_is_line r)
+  on_refusal : refusal_line command t ≡ option_map normal_note (refusal_for command t) → (o : Option Refusal) → refusal_for command t ≡ o → IsOneLine answer ⊎ PrintsFor command t answer
+  on_refusal e None f = inr (answer_printed command t answer (e ∙ ap (option_map normal_note) f) is)
+  on_refusal e (Some r) f = inl (subst IsOneLine (sym (answer_refused command t (normal_note r) answer (e ∙ ap (option_map normal_note) f) is)) (refusal_is_line r))
+
+pub answer_is_line : (command : LineCommand) (t answer : List ℕ) → command ≢ Signed → IsAnswer command t answer → IsOneLine answer
+answer_is_line command t answer other is = elim (marked_or_printed command t answer is) [ inl one ↦ one | inr prints ↦ printed_line command t answer other prints ]
+
+-- ---- the lines of signatures
+
+-- octets that are some whole lines
+abbrev AreLines : List ℕ → Type 0
+AreLines octets = (shown : List (List ℕ)) × AllByRecursion IsLine shown × (octets ≡ flat_map ended shown)
+
+both_lines : (xs ys : List ℕ) → IsLine xs → IsLine ys → IsLine (xs ++ ys)
+both_lines = all_append (λ b. b ≢ 10)
+
+number_line : (n : ℕ) → IsLine (number_field n)
+number_line n = both_lines (decimal n) (codes " ") (decimal_line n) ((λ e. absurd cc), tt)
+
+octets_line : (octets : List ℕ) → IsLine (octets_field octets)
+octets_line [] = ((λ e. absurd cc), ((λ e. absurd cc), tt))
+octets_line (b ∷ octets) = both_lines (flat_map shown (b ∷ octets)) (codes " ") (shown_line (b ∷ octets)) ((λ e. absurd cc), tt)
+
+one_more : (front back : List ℕ) → IsLine front → IsOneLine back → IsOneLine (front ++ back)
+one_more front back is (shown, line, back-is) = (front ++ shown, both_lines front shown is line, ap (λ (l : List ℕ). front ++ l) back-is ∙ sym (append_assoc front shown (10 ∷ [])))
+
+signature_is_line : (records : List SortKey) (g : SortKey) → IsOneLine (signature_line records g)
+signature_is_line records g =
+    one_more (signature_numbers g.octets) _
+    (both_lines (number_field (type_covered g.octets)) _ (number_line (type_covered g.octets))
+    (both_lines (number_field (algorithm g.octets)) _ (number_line (algorithm g.octets))
+    (both_lines (number_field (labels_field g.octets)) (number_field (key_tag_field g.octets)) (number_line (labels_field g.octets)) (number_line (key_tag_field g.octets)))))
+    (one_more (octets_field (wire (signer g.octets))) _ (octets_line (wire (signer g.octets)))
+    (one_more (octets_field (signature_field g.octets)) (line (signed_octets records g)) (octets_line (signature_field g.octets))
+    (flat_map shown (signed_octets records g), shown_line (signed_octets records g), refl)))
+
+answer_to_signature : (records : List SortKey) (g : SortKey) → IsOneLine (signature_answer records g)
+answer_to_signature records g = by (nat_lt (length g.owner) (labels_field g.octets)) where
+  by : (b : Bool) → IsOneLine (cond {A = List ℕ} b (marked (note_line (codes "too many labels") [])) (signature_line records g))
+  by true = note_is_line (codes "too many labels") [] refl
+  by false = signature_is_line records g
+
+part_before : (records : List SortKey) (k : SortKey) (rest : List ℕ) (b : Bool) → AreLines rest → AreLines (cond {A = List ℕ} b (signature_answer records k) [] ++ rest)
+part_before records k rest false are = are
+part_before records k rest true (shown, are, rest-is) =
+    let one = answer_to_signature records k in
+    (one.0 ∷ shown, (one.1, are), (λ i. one.2 i ++ rest-is i) ∙ sym (flat_map-cons ended one.0 shown))
+
+parts_are_lines : (records ks : List SortKey) → AreLines (flat_map (signature_part records) ks)
+parts_are_lines records [] = ([], tt, refl)
+parts_are_lines records (k ∷ ks) =
+    subst AreLines (sym (flat_map-cons (signature_part records) k ks)) (part_before records k (flat_map (signature_part records) ks) (is_signature k) (parts_are_lines records ks))
+
+pub answer_is_lines : (t answer : List ℕ) → IsAnswer Signed t answer → AreLines answer
+answer_is_lines t answer is = elim (marked_or_printed Signed t answer is) [
+  | inl one ↦ (one.0 ∷ [], (one.1, tt), one.2 ∙ sym (append-nil (ended one.0)))
+  | inr prints ↦ subst AreLines (sym prints.2) (parts_are_lines (members prints.0) (members prints.0))
+]
 
 -- ---- equal answers to lines with other records
 

@@ -1,5 +1,5 @@
--- The line that answers a line.
-use Rattle.std.specs.Prelude.{◌≡◌, ◌++◌, List, [], ◌∷◌, ⊤, codes, length, nat_lt, Option, Some, None, if◌then◌else◌}
+-- The lines that answer a line.
+use Rattle.std.specs.Prelude.{◌≡◌, ◌++◌, List, [], ◌∷◌, ⊤, length, nat_lt, Option, Some, None, if◌then◌else◌}
 use Rattle.std.specs.List.{concat}
 use Rattle.std.specs.Option.{option_map}
 use Rattle.sha2.specs.Sha512.{sha384}
@@ -9,12 +9,17 @@ use Rattle.dns_text.specs.Notes.{notice_line}
 use Rattle.dns_text.specs.declared.notice.Notice.TheVariants.{TooLong}
 use Rattle.dns_message.specs.Messages.{RecordValue}
 use Rattle.dns_message.specs.Order.{canonical_list}
-use Rattle.dns_message.specs.Texts.{HasRecords}
-use Rattle.dns_normal.specs.Texts.{PrintsNormal, message_refusal, normal_note, normal_refusal}
+use Rattle.dns_message.specs.Texts.{HasRecords, HasRecordsBy}
+use Rattle.dns_record.specs.FurtherFormats.{data_by}
+use Rattle.dns_record.specs.declared.formats.Formats.{Formats}
+use Rattle.dns_record.specs.declared.formats.Formats.TheVariants.{Usual, Listed}
+use Rattle.dns_denial.specs.Texts.{members}
+use Rattle.dns_normal.specs.Texts.{PrintsNormal, message_refusal, message_refusal_by, normal_note, normal_refusal}
 use Rattle.dns_normal.specs.declared.refusal.Refusal.{Refusal}
 use Rattle.dns_lines.specs.Lines.{HasLines}
+use Rattle.dns_lines.specs.Signatures.{marked, signature_lines}
 use Rattle.dns_lines.specs.declared.command.LineCommand.{LineCommand}
-use Rattle.dns_lines.specs.declared.command.LineCommand.TheVariants.{Normal, Digest}
+use Rattle.dns_lines.specs.declared.command.LineCommand.TheVariants.{Normal, Digest, Signed}
 use Rattle.dns_lines.specs.declared.line.TheConstants.{LINE_LIMIT}
 
 -- ---- the digest of a message
@@ -27,23 +32,37 @@ digest_refusal text = message_refusal (λ rs. None) text
 abbrev pub PrintsDigest : Octets → Octets → Type 0
 PrintsDigest text printed = (rs : List RecordValue) × HasRecords text rs × (printed ≡ line (sha384 (concat (canonical_list rs))))
 
+-- ---- the signatures of a message
+
+-- why the text of a message is refused whose signatures are asked for, by the formats of all types that RFC 4034 section 6.2 lists
+abbrev pub signatures_refusal : Octets → Option Refusal
+signatures_refusal text = message_refusal_by (data_by Listed) (λ rs. None) text
+
+-- what is printed: the lines that answer the signatures among the message's records, in canonical order
+abbrev pub PrintsSignatures : Octets → Octets → Type 0
+PrintsSignatures text printed = (rs : List RecordValue) × HasRecordsBy (data_by Listed) text rs × (printed ≡ signature_lines (members rs))
+
 -- ---- by command
+
+-- the formats by which a message is read
+abbrev pub formats_for : LineCommand → Formats
+formats_for Normal = Usual
+formats_for Digest = Usual
+formats_for Signed = Listed
 
 -- why the text of a message is refused; `None` if a text is printed for it
 abbrev pub refusal_for : LineCommand → Octets → Option Refusal
 refusal_for Normal text = normal_refusal tt text
 refusal_for Digest text = digest_refusal text
+refusal_for Signed text = signatures_refusal text
 
 -- what is printed for the text of a message
 abbrev pub PrintsFor : LineCommand → Octets → Octets → Type 0
 PrintsFor Normal text printed = PrintsNormal tt text printed
 PrintsFor Digest text printed = PrintsDigest text printed
+PrintsFor Signed text printed = PrintsSignatures text printed
 
 -- ---- answers
-
--- `!`, a space, and the line
-abbrev pub marked : Octets → Octets
-marked note = codes "! " ++ note
 
 -- the line for the refusal of a line: first of one that is too long, and then of its message
 abbrev pub refusal_line : LineCommand → Octets → Option Octets

@@ -3,4 +3,5 @@ pub mod Answers
 pub mod Lines
 pub mod Pieces
 pub mod Runs
+pub mod Signatures
 pub mod Words

@@ -4,12 +4,14 @@ ghost use Rattle.std.specs.Prelude.{◌≡◌, ◌≤◌, ◌++◌, None, IfOk, 
 ghost use Rattle.dns_wire.specs.Octets.{Octets};
 ghost use Rattle.dns_text.specs.Outcomes.{RefusesFor};
 ghost use Rattle.dns_normal.specs.Texts.{normal_note};
-ghost use Rattle.dns_lines.specs.Answers.{AddsAnswer, AddsPrinted, marked, refusal_for};
+ghost use Rattle.dns_lines.specs.Answers.{AddsAnswer, AddsPrinted, refusal_for};
+ghost use Rattle.dns_lines.specs.Signatures.{marked};
 
 use crate::command::LineCommand;
 use crate::digest::add_digest;
 use crate::line::LINE_LIMIT;
 use crate::note::NoteSink;
+use crate::signed::add_signed;
 use dns_normal::{Normal, Refusal, TextReader};
 use dns_text::{PrintError, TextCommand, push_hex_line};
 use std::alloc::{AllocError, Global};
@@ -47,6 +49,7 @@ fn add_printed(
     match command {
         LineCommand::Normal => add_normal_form(alloc, reader, line, answers),
         LineCommand::Digest => add_digest(alloc, reader, line, answers),
+        LineCommand::Signed => add_signed(alloc, reader, line, answers),
     }
 }
 

@@ -18,9 +18,11 @@ pub enum LineCommand {
     Normal,
     /// `digest`: the SHA-384 digest of the canonical octets of the records of the line's message, in hexadecimal digits.
     Digest,
+    /// `signed`: a line for each signature of the line's message, with what it says and the octets that it is over.
+    Signed,
 }
 
-/// The command that the words are: `normal` or `digest` alone, and no others.
+/// The command that the words are: `normal`, `digest` or `signed` alone, and no others.
 fn command_of(args: &Args) -> Option<LineCommand>
     ensures { result ≡ command_of args.now }
 {
@@ -30,6 +32,7 @@ fn command_of(args: &Args) -> Option<LineCommand>
     match word {
         "normal" => Some(LineCommand::Normal),
         "digest" => Some(LineCommand::Digest),
+        "signed" => Some(LineCommand::Signed),
         _ => None,
     }
 }
@@ -65,9 +68,10 @@ fn execute<S: Source, K: Sink>(
     }
 }
 
-/// Answers each line of the source's text by one line, in their order: `normal` by the normal form of the message that the line has in
-/// hexadecimal digits, and `digest` by the SHA-384 digest of the canonical octets of its records. A line whose message is refused is
-/// answered by `!` and why: a refused line ends nothing. A line of more than 131,072 octets is too long. A line ends at LF, or at the
+/// Answers each line of the source's text, in their order: `normal` by the normal form of the message that the line has in hexadecimal
+/// digits, `digest` by the SHA-384 digest of the canonical octets of its records, and `signed` by a line for each of its signatures: what
+/// the signature says, and the octets that it is over (RFC 4035 section 5.3.2). A line whose message is refused, and a signature whose
+/// labels are too many, are answered by `!` and why: a refused line ends nothing. A line of more than 131,072 octets is too long. A line ends at LF, or at the
 /// end of the text unless it is empty there. The answers to the lines that a read has ended are written and flushed before the next
 /// read; so memory is needed for one read, for the answers to it, and for one message. If the words are no command, or the run
 /// stops before the end of the text, a line on `notes` says why.

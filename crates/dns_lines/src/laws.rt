@@ -1,15 +1,16 @@
 //! What follows from the definitions.
 
-ghost use Rattle.std.specs.Prelude.{◌≡◌, ◌≤◌, ◌↔◌, ◌⊎◌, ◌++◌, ◌∷◌, [], List, Some, None, codes, length, IsTrue};
-ghost use Rattle.std.specs.List.{concat};
+ghost use Rattle.std.specs.Prelude.{◌≡◌, ◌≢◌, ◌≤◌, ◌↔◌, ◌⊎◌, ◌++◌, ◌∷◌, [], List, Some, None, codes, flat_map, length, IsTrue};
+ghost use Rattle.std.specs.List.{AllByRecursion, concat};
 ghost use Rattle.dns_wire.specs.Octets.{Octets};
 ghost use Rattle.dns_message.specs.Messages.{RecordValue};
 ghost use Rattle.dns_message.specs.Order.{canonical_list};
 ghost use Rattle.dns_message.specs.Same.{Same};
-ghost use Rattle.dns_message.specs.Texts.{HasRecords};
+ghost use Rattle.dns_message.specs.Texts.{HasRecords, HasRecordsBy};
+ghost use Rattle.dns_record.specs.FurtherFormats.{data_by};
 ghost use Rattle.dns_message.specs.declared.message.TheConstants.{MAX_MESSAGE_SIZE};
 ghost use Rattle.dns_normal.specs.Normal.{normal_form};
-ghost use Rattle.dns_lines.specs.Answers.{Answers, IsAnswer};
+ghost use Rattle.dns_lines.specs.Answers.{Answers, IsAnswer, formats_for};
 ghost use Rattle.dns_lines.specs.Lines.{HasLines, IsLine, ended, line_feed};
 ghost use Rattle.dns_lines.specs.Words.{command_of};
 
@@ -35,14 +36,15 @@ pub fn answers_of_parts()
         → Answers command (ended t ++ u) (written ++ other) }
 {}
 
-/// Each answer is one line.
+/// Each answer of `normal` and `digest` is one line, and each of `signed` is some whole lines.
 pub fn answers_are_lines()
-    ensures { (command : LineCommand) (line answer : Octets) → IsAnswer command line answer → (shown : Octets) × IsLine shown × (answer ≡ ended shown) }
+    ensures one { (command : LineCommand) (line answer : Octets) → command ≢ LineCommand.Signed → IsAnswer command line answer → (shown : Octets) × IsLine shown × (answer ≡ ended shown) }
+    ensures some { (line answer : Octets) → IsAnswer LineCommand.Signed line answer → (shown : List Octets) × AllByRecursion IsLine shown × (answer ≡ flat_map ended shown) }
 {}
 
-/// Lines with messages that have the same records have equal answers.
+/// Lines with messages that have the same records, by the formats of the command, have equal answers.
 pub fn equal_records()
-    ensures { (command : LineCommand) (line other answer reply : Octets) (rs ss : List RecordValue) → HasRecords line rs → HasRecords other ss → Same rs ss
+    ensures { (command : LineCommand) (line other answer reply : Octets) (rs ss : List RecordValue) → HasRecordsBy (data_by (formats_for command)) line rs → HasRecordsBy (data_by (formats_for command)) other ss → Same rs ss
         → length line ≤ LINE_LIMIT → length other ≤ LINE_LIMIT → IsAnswer command line answer → IsAnswer command other reply → answer ≡ reply }
 {}
 
@@ -58,10 +60,11 @@ pub fn equal_streams()
     ensures { (line other : Octets) (rs ss : List RecordValue) → HasRecords line rs → HasRecords other ss → (concat (canonical_list rs) ≡ concat (canonical_list ss)) ↔ Same rs ss }
 {}
 
-/// The words of the commands are `normal` or `digest`, alone.
+/// The words of the commands are `normal`, `digest` or `signed`, alone.
 pub fn words_of_lines()
     ensures normal { (words : List Octets) → (command_of words ≡ Some LineCommand.Normal) ↔ (words ≡ codes "normal" ∷ []) }
     ensures digest { (words : List Octets) → (command_of words ≡ Some LineCommand.Digest) ↔ (words ≡ codes "digest" ∷ []) }
+    ensures signed { (words : List Octets) → (command_of words ≡ Some LineCommand.Signed) ↔ (words ≡ codes "signed" ∷ []) }
 {}
 
 /// Statuses are equal exactly if they are the same, and so are commands.

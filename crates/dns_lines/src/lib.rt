@@ -8,6 +8,7 @@ mod filter;
 mod laws;
 mod line;
 mod note;
+mod signed;
 mod status;
 
 pub use command::{LineCommand, run_lines};

@@ -9,7 +9,10 @@ use Rattle.dns_text.specs.Endings.{Rules}
 use Rattle.dns_text.specs.Outcomes.{expected_outcome, text_rules}
 use Rattle.dns_text.specs.declared.outcome.Outcome.{Outcome}
 use Rattle.dns_text.specs.declared.outcome.Outcome.TheVariants as outcome
-use Rattle.dns_message.specs.Messages.{Reading, RecordValue, message_reading, records_among}
+use Rattle.dns_wire.specs.Pointers.{name_at}
+use Rattle.dns_record.specs.Data.{data_in}
+use Rattle.dns_record.specs.FurtherFormats.{DataReading}
+use Rattle.dns_message.specs.Messages.{Reading, RecordValue, message_by, records_among}
 use Rattle.dns_message.specs.Messages.Reading.{Short as TooShort, Stopped, Whole}
 use Rattle.dns_message.specs.Texts.{HasRecords}
 use Rattle.dns_message.specs.declared.message.TheConstants.{MAX_MESSAGE_SIZE}
@@ -43,14 +46,20 @@ reading_refusal refusal TooShort = Some Short
 reading_refusal refusal (Stopped items section index place) = Some (Item section index)
 reading_refusal refusal (Whole items end) = refusal (records_among items)
 
--- why a text is refused that does or does not spell octets
+-- why a text is refused that does or does not spell octets, if data are read so
+abbrev pub spelling_refusal_by : DataReading → (List RecordValue → Option Refusal) → Option Octets → Option Refusal
+spelling_refusal_by reads refusal None = Some BadHex
+spelling_refusal_by reads refusal (Some m) = reading_refusal refusal (message_by reads m)
+
 abbrev pub spelling_refusal : (List RecordValue → Option Refusal) → Option Octets → Option Refusal
-spelling_refusal refusal None = Some BadHex
-spelling_refusal refusal (Some m) = reading_refusal refusal (message_reading m)
+spelling_refusal = spelling_refusal_by (data_in name_at)
 
 -- why a text is refused whose message is read
+abbrev pub message_refusal_by : DataReading → (List RecordValue → Option Refusal) → Octets → Option Refusal
+message_refusal_by reads refusal text = spelling_refusal_by reads refusal (spelled (trim text))
+
 abbrev pub message_refusal : (List RecordValue → Option Refusal) → Octets → Option Refusal
-message_refusal refusal text = spelling_refusal refusal (spelled (trim text))
+message_refusal = message_refusal_by (data_in name_at)
 
 -- why a text is refused; `None` if the normal form of its message is printed for it
 abbrev pub normal_refusal : ⊤ → Octets → Option Refusal

@@ -4,7 +4,8 @@ ghost use Rattle.std.specs.Prelude.{◌≡◌, ◌≤◌, ◌+◌, ℕ, min, Lis
 ghost use Rattle.dns_text.specs.Outcomes.{RefusesFor};
 ghost use Rattle.dns_message.specs.Canonical.{canonical_wire, lowercase_names};
 ghost use Rattle.dns_message.specs.FormsRead.{forms_of};
-ghost use Rattle.dns_message.specs.Messages.{RecordValue, Valid, message_reading};
+ghost use Rattle.dns_record.specs.FurtherFormats.{data_by};
+ghost use Rattle.dns_message.specs.Messages.{RecordValue, Valid, ValidBy, message_by, message_reading};
 ghost use Rattle.dns_message.specs.Order.{octets_of_key};
 ghost use Rattle.dns_message.specs.WellFormed.{WellFormed};
 ghost use Rattle.dns_normal.specs.Answers.{AreRecordsOf, HasAnswers, HasAnswersIfFew, HaveRecords, IsRecordOf, octets_among};
@@ -19,7 +20,7 @@ use dns_message::{
 use dns_name::Name;
 use dns_num::U16;
 use dns_rdata::RecordData;
-use dns_record::Record;
+use dns_record::{Formats, Record};
 use dns_text::{PrintError, zeros};
 use dns_wire::{HEADER_SIZE, NameCompressor, SplitBytes};
 use std::alloc::Global;
@@ -89,16 +90,18 @@ fn answers_message(
     Ok(built)
 }
 
-/// The canonical forms of a message's records other than OPT. `Refusal::Short` and `Refusal::Item` are those of a message that is not valid.
+/// The canonical forms of a message's records other than OPT, by these formats. `Refusal::Short` and `Refusal::Item` are those of a message
+/// that is not read whole.
 pub(crate) fn forms_in<'r>(
     alloc: Global,
     reader: &'r mut FormsReader,
     message: &[u8],
+    formats: Formats,
 ) -> Result<&'r CanonicalForms, PrintError<Refusal>>
-    ensures read { IfOk result (λ forms. (rs : List RecordValue) × Valid message.now rs × (forms.now ≡ forms_of rs)) }
-    ensures refused { (refusal : List RecordValue → Option Refusal) → IfErr result (RefusesFor (reading_refusal refusal (message_reading message.now))) }
+    ensures read { IfOk result (λ forms. (rs : List RecordValue) × ValidBy (data_by formats) message.now rs × (forms.now ≡ forms_of rs)) }
+    ensures refused { (refusal : List RecordValue → Option Refusal) → IfErr result (RefusesFor (reading_refusal refusal (message_by (data_by formats) message.now))) }
 {
-    match reader.read(alloc, message) {
+    match reader.read_by(alloc, message, formats) {
         Ok(forms) => Ok(forms),
         Err(CanonError::Short) => Err(PrintError::Refused(Refusal::Short)),
         Err(CanonError::Item { section, index }) => {
@@ -118,7 +121,7 @@ pub(crate) fn read_normal_form(
     ensures accepted { IfOk result (λ _. reading_refusal form_refusal (message_reading message.now) ≡ None) }
     ensures refused { IfErr result (RefusesFor (reading_refusal form_refusal (message_reading message.now))) }
 {
-    let forms = forms_in(alloc, reader, message)?;
+    let forms = forms_in(alloc, reader, message, Formats::Usual)?;
     let order = forms.collapsed(alloc)?;
     answers_message(alloc, &order)
 }

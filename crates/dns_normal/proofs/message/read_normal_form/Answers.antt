@@ -8,7 +8,8 @@ use Rattle.dns_message.specs.Order.{collapsed, octets_of_key}
 use Rattle.dns_message.proofs.WellFormedLemmas.{all_well}
 use Rattle.dns_normal.specs.Answers.{AreRecordsOf}
 use Rattle.dns_normal.specs.Normal.{normal_form}
-use Rattle.dns_normal.specs.Texts.{form_refusal}
+use Rattle.dns_message.specs.Messages.{message_reading}
+use Rattle.dns_normal.specs.Texts.{form_refusal, reading_refusal}
 use Rattle.dns_normal.proofs.NormalForms.{left_well}
 use Rattle.dns_normal.proofs.NormalOutcomes.{accepted_size, valid_refusal}
 use Rattle.dns_normal.proofs.message.read_normal_form.Goals as goal
@@ -56,4 +57,6 @@ returns-clause-refused c =
     subst (λ o. IfErr c.answers_message.result (RefusesFor o)) (sym (valid_refusal form_refusal c.args.message.now read.0 read.1)) (c.answers_message.ensures.refused (collapsed (filter is_not_opt read.0)) are)
 
 pub returns-in_err-forms-clause-refused : goal.returns-in_err-forms-clause-refused
-returns-in_err-forms-clause-refused c = let refused = c.in_err-forms.ensures.refused form_refusal in search (rules, refused)
+returns-in_err-forms-clause-refused c =
+    let refused : RefusesFor (reading_refusal form_refusal (message_reading c.args.message.now)) c.in_err-forms.field-0.0 = c.in_err-forms.ensures.refused form_refusal in
+    search (rules, refused)

@@ -1,10 +1,12 @@
 use Rattle.std.proofs.Common.{◌∙◌, ap, rules, sym, Some}
 use Rattle.std.proofs.lemmas.Result.{IfOk-weaker}
+use Rattle.dns_wire.specs.Pointers.{name_at}
+use Rattle.dns_record.specs.Data.{data_in}
 use Rattle.dns_normal.specs.Texts.{form_refusal}
 use Rattle.dns_normal.proofs.reader.TextReader.read_normal_form.Goals as goal
 
 pub returns-in_err-read_message-clause-refused : goal.returns-in_err-read_message-clause-refused
-returns-in_err-read_message-clause-refused c = let refused = c.in_err-read_message.ensures.refused form_refusal in search (rules, refused)
+returns-in_err-read_message-clause-refused c = let refused = c.in_err-read_message.ensures.refused (data_in name_at) form_refusal in search (rules, refused)
 
 pub returns-clause-formed : goal.returns-clause-formed
 returns-clause-formed c =
