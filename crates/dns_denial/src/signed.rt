@@ -230,7 +230,7 @@ fn push_parts(
 }
 
 /// The octets that a signature among records is over, by the records' canonical forms: its data without the signature, and each record that
-/// it is over, as it was signed (RFC 4034 section 3.1.8.1, RFC 4035 section 5.3.2). The condition is that the labels field is no more than
+/// it is over, as it was signed (RFC 4035 section 5.3.2, RFC 4034 section 3.1.8.1). The condition is that the labels field is no more than
 /// the number of the owner's labels. `AllocError` is out of memory.
 pub fn signed_octets(
     alloc: Global,

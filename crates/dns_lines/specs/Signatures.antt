@@ -25,7 +25,7 @@ abbrev pub signature_numbers : Octets → Octets
 signature_numbers octets = number_field (type_covered octets) ++ (number_field (algorithm octets) ++ (number_field (labels_field octets) ++ number_field (key_tag_field octets)))
 
 -- The line of a signature among some records: these numbers; and then in hexadecimal digits the octets of the signer's name, the signature,
--- and the octets that it is over (RFC 4034 section 3.1.8.1, RFC 4035 section 5.3.2). A space is between two of the seven.
+-- and the octets that it is over (RFC 4035 section 5.3.2, RFC 4034 section 3.1.8.1). A space is between two of the seven.
 abbrev pub signature_line : List SortKey → SortKey → Octets
 signature_line records g = signature_numbers g.octets ++ (octets_field (wire (signer g.octets)) ++ (octets_field (signature_field g.octets) ++ line (signed_octets records g)))
 
