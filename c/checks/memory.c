@@ -53,6 +53,14 @@ static uint32_t call_canonical(void) {
     return nelgvasti_canonical(message, length, state.out, sizeof state.out, &state.out_length, &state.position);
 }
 
+static uint32_t call_size_by(void) {
+    return nelgvasti_canonical_size_by(NELGVASTI_LISTED, message, length, &state.out_length, &state.records, &state.position);
+}
+
+static uint32_t call_canonical_by(void) {
+    return nelgvasti_canonical_by(NELGVASTI_LISTED, message, length, state.out, sizeof state.out, &state.out_length, &state.position);
+}
+
 static uint32_t call_same(void) {
     return nelgvasti_same(message, length, message, length, &state.same, &state.position);
 }
@@ -64,6 +72,11 @@ static uint32_t call_normal(void) {
 static uint32_t call_zone(void) {
     static const uint8_t apex[] = "\7example";
     return nelgvasti_zone_digest(message, length, &length, 1, apex, sizeof apex, &state.digest, &state.position);
+}
+
+static uint32_t call_zone_by(void) {
+    static const uint8_t apex[] = "\7example";
+    return nelgvasti_zone_digest_by(NELGVASTI_LISTED, message, length, &length, 1, apex, sizeof apex, &state.digest, &state.position);
 }
 
 static int check(const char *name, uint32_t (*call)(void)) {
@@ -85,6 +98,8 @@ static int check(const char *name, uint32_t (*call)(void)) {
 int main(void) {
     length = read_message();
     int wrong = check("nelgvasti_canonical_size", call_size) + check("nelgvasti_canonical", call_canonical) + check("nelgvasti_same", call_same) +
-                check("nelgvasti_normal", call_normal) + check("nelgvasti_zone_digest", call_zone);
+                check("nelgvasti_normal", call_normal) + check("nelgvasti_zone_digest", call_zone) +
+                check("nelgvasti_canonical_size_by", call_size_by) + check("nelgvasti_canonical_by", call_canonical_by) +
+                check("nelgvasti_zone_digest_by", call_zone_by);
     return wrong != 0;
 }

@@ -43,6 +43,9 @@ class _Digest(ctypes.Structure):
     _fields_ = [("records", ctypes.c_uint64), ("octets", ctypes.c_uint64), ("digest", ctypes.c_uint8 * 48)]
 
 
+# The formats of RDATA that a call goes by: those of `dnscanon`, and those of the types of RFC 4034 section 6.2 too, as signers have them.
+USUAL, LISTED = 0, 1
+
 _OCTETS = (ctypes.c_char_p, ctypes.c_size_t)
 _SIZE = ctypes.POINTER(ctypes.c_size_t)
 _POSITION = ctypes.POINTER(_ItemPosition)
@@ -54,11 +57,11 @@ def _call(name, *types):
     return function
 
 
-_canonical_size = _call("canonical_size", *_OCTETS, _SIZE, _SIZE, _POSITION)
-_canonical = _call("canonical", *_OCTETS, *_OCTETS, _SIZE, _POSITION)
+_canonical_size = _call("canonical_size_by", ctypes.c_uint32, *_OCTETS, _SIZE, _SIZE, _POSITION)
+_canonical = _call("canonical_by", ctypes.c_uint32, *_OCTETS, *_OCTETS, _SIZE, _POSITION)
 _same = _call("same", *_OCTETS, *_OCTETS, ctypes.POINTER(ctypes.c_uint32), _POSITION)
 _normal = _call("normal", *_OCTETS, *_OCTETS, _SIZE, _POSITION)
-_zone_digest = _call("zone_digest", *_OCTETS, _SIZE, ctypes.c_size_t, *_OCTETS, ctypes.POINTER(_Digest), _POSITION)
+_zone_digest = _call("zone_digest_by", ctypes.c_uint32, *_OCTETS, _SIZE, ctypes.c_size_t, *_OCTETS, ctypes.POINTER(_Digest), _POSITION)
 _nsec3_hash = _call("nsec3_hash", *_OCTETS, *_OCTETS, ctypes.c_uint16, ctypes.c_char_p)
 _key_tag = _call("key_tag", *_OCTETS, ctypes.POINTER(ctypes.c_uint16))
 version = _call("version")
@@ -91,12 +94,12 @@ def _records(octets):
     return found
 
 
-def canonical(message):
+def canonical(message, formats=USUAL):
     """The canonical octets of each record of a message other than OPT, in canonical order."""
     octets, records, position = ctypes.c_size_t(), ctypes.c_size_t(), _ItemPosition()
-    _check(_canonical_size(message, len(message), octets, records, position), position)
+    _check(_canonical_size(formats, message, len(message), octets, records, position), position)
     out = ctypes.create_string_buffer(max(octets.value, 1))
-    _check(_canonical(message, len(message), out, octets.value, octets, position), position)
+    _check(_canonical(formats, message, len(message), out, octets.value, octets, position), position)
     return _records(out.raw[: octets.value])
 
 
@@ -114,11 +117,11 @@ def normal(message):
     return out.raw[: length.value]
 
 
-def zone_digest(messages, apex):
+def zone_digest(messages, apex, formats=USUAL):
     """How many records are in the zone of an apex, a name in wire format, how many octets they have, and their digest."""
     lengths = (ctypes.c_size_t * max(len(messages), 1))(*map(len, messages))
     octets, digest, position = b"".join(messages), _Digest(), _ItemPosition()
-    _check(_zone_digest(octets, len(octets), lengths, len(messages), apex, len(apex), digest, position), position)
+    _check(_zone_digest(formats, octets, len(octets), lengths, len(messages), apex, len(apex), digest, position), position)
     return digest.records, digest.octets, bytes(digest.digest)
 
 
