@@ -6,7 +6,7 @@ ghost use Rattle.dns_wire.specs.Outside.{HasCause, BecomesFlag, Puts};
 ghost use Rattle.dns_message.specs.Order.{octets_of_key};
 
 use dns_message::{CanonicalForm, CanonicalRecord};
-use dns_text::{put_all, put_digits, put_text};
+use dns_text::{put_all, put_digits, put_text, zeros};
 use dns_wire::{Failed, Sink};
 use std::alloc::{AllocError, Global};
 use std::marker::Model;
@@ -52,7 +52,7 @@ impl LineBuffer {
     pub fn new(alloc: Global) -> Result<LineBuffer, AllocError>
         ensures { IfOk result (λ held. held ≡ []) }
     {
-        let text = vec![in alloc; 0; MOST_LINE]?;
+        let text = zeros(alloc, MOST_LINE)?;
         Ok(LineBuffer { text, filled: 0 })
     }
 

@@ -3,3 +3,4 @@ pub mod Chaining
 pub mod FewSteps
 pub mod UnchainedNames
 pub mod WrittenNames
+pub mod Pointing

@@ -1,6 +1,6 @@
 //! Names of a message in canonical form, read into a buffer.
 
-ghost use Rattle.std.specs.Prelude.{◌≡◌, ◌≤◌, ◌<◌, ◌⊎◌, ◌+◌, ◌++◌, ◌∷◌, [], None, length, take, IfNone, IfSome, OnSome};
+ghost use Rattle.std.specs.Prelude.{◌≡◌, ◌≤◌, ◌<◌, ◌⊎◌, ◌+◌, ◌++◌, ◌∷◌, [], None, drop, length, take, IfNone, IfSome, OnSome};
 ghost use Rattle.std.specs.Str.{str_to_ascii_lowercase};
 ghost use Rattle.dns_wire.specs.Pointers.{name_at};
 ghost use Rattle.dns_chain.specs.CanonicalNames.{IsReadAs, IsReadOrNone};
@@ -27,6 +27,21 @@ fn put_root(buffer: &mut [u8], size: usize)
 {
     copy_at(&[0], buffer, size);
     buffer[..size + 1].make_ascii_lowercase();
+}
+
+/// Copies a label after its length octet, which is at a place of the contents, to a place of the buffer. Short labels are copied by sixteen
+/// octets, which is one step, so octets of the buffer after them are unspecified.
+fn copy_label(contents: &[u8], at: usize, label: usize, buffer: &mut [u8], size: usize)
+    requires within { at + 1 + label ≤ length contents.now }
+    requires room { size + 1 + label ≤ length buffer.old }
+    ensures prefix { take (size + (1 + label)) buffer.new ≡ take size buffer.old ++ take (1 + label) (drop at contents.now) }
+    ensures long { length buffer.new ≡ length buffer.old }
+{
+    if label < 16 && 16 <= contents.len() - at && 16 <= buffer.len() - size {
+        copy_at(&contents[at..at + 16], buffer, size);
+    } else {
+        copy_at(&contents[at..at + 1 + label], buffer, size);
+    }
 }
 
 /// Reads the name at a place, and writes its octets in lowercase to the beginning of a buffer of 255 octets, if none of its pointers leads
@@ -56,7 +71,7 @@ pub fn read_unchained_name(contents: &[u8], start: usize, buffer: &mut [u8]) -> 
                 if size + 1 + label >= Name::MAX_SIZE {
                     return None;
                 }
-                copy_at(&contents[at..at + 1 + label], buffer, size);
+                copy_label(contents, at, label, buffer, size);
                 size += 1 + label;
             }
             Ok(LabelType::Pointer(target)) => {

@@ -2,13 +2,16 @@
 //! once for the whole message.
 #![tactic(auto)]
 
+mod base_name;
 mod canonical_name;
 mod final_targets;
 mod laws;
+mod pointed;
 mod question;
 mod record;
 mod unchained;
 
+pub use base_name::BaseName;
 pub use canonical_name::{NameSpan, read_unchained_name};
 pub use final_targets::FinalTargets;
 pub use laws::{equal_spans, unchained_names_take_few_steps};

@@ -30,6 +30,7 @@ pub mod Repushed
 pub mod FirstOfRuns
 pub mod FormLemmas
 pub mod FormsAdded
+pub mod FrontLemmas
 pub mod CanonicalListSameness
 pub mod SeveralMessages
 pub mod Shorter

@@ -5,6 +5,7 @@ pub mod Canonical
 pub mod Counted
 pub mod Forms
 pub mod FormsRead
+pub mod Fronts
 pub mod Headers
 pub mod MessageOctets
 pub mod LowercaseFields

@@ -5,9 +5,9 @@ ghost use Rattle.std.proofs.Common.{rules};
 ghost use Rattle.std.specs.Cmp.{partial_order_from_own_ties};
 ghost use Rattle.std.specs.Cmp.Rules.{comparing};
 ghost use Rattle.std.specs.Ordering.{as_partial_cmp, eq_by_cmp};
-ghost use Rattle.dns_wire.specs.Names.{name_labels};
+ghost use Rattle.dns_wire.specs.Names.{lowered, name_labels};
 ghost use Rattle.dns_name.specs.Order.{key_cmp, key_of};
-ghost use Rattle.dns_message.specs.Forms.{span_of};
+ghost use Rattle.dns_message.specs.Forms.{form_owner_key, span_of};
 ghost use Rattle.dns_message.specs.Order.{octets_of_key, sort_key_cmp, alike_cmp};
 
 use crate::canonical_record::CanonicalRecord;
@@ -43,6 +43,27 @@ impl<'f> Model for CanonicalForm<'f> {
 }
 
 impl<'f> CanonicalForm<'f> {
+    /// The same form.
+    pub(crate) fn again(&self) -> CanonicalForm<'f>
+        ensures { result ≡ self.now }
+    {
+        CanonicalForm {
+            owner_key: self.owner_key,
+            octets: self.octets,
+            class: self.class,
+            rtype: self.rtype,
+            ttl: self.ttl,
+        }
+    }
+
+    /// The key of the owner.
+    pub(crate) fn owner_key(&self) -> &'f [u8]
+        ensures key { result.now ≡ form_owner_key self.now }
+        ensures lowercase { lowered self.now.owner ≡ self.now.owner }
+    {
+        self.owner_key
+    }
+
     /// The canonical octets, at most 65,800 (RFC 4034 section 6.2).
     pub fn octets(&self) -> &'f [u8]
         ensures octets { result.now ≡ octets_of_key self.now }

@@ -17,6 +17,7 @@ use crate::canonical_form::CanonicalForm;
 use crate::canonical_owner::CanonicalOwner;
 use crate::canonical_parts::{build_canonical_record, canonical_size};
 use crate::canonical_record::CanonicalRecord;
+use crate::form_order::sorted;
 use crate::form_span::FormSpan;
 use crate::owner_key::push_owner_key;
 use dns_name::{CanonicalName, RevNameBuf};
@@ -266,8 +267,8 @@ impl CanonicalForms {
         ensures keys { IfOk result (λ order. (rs : List RecordValue) → self.now ≡ map sort_key rs → order.items ≡ map sort_key (collapsed rs)) }
         ensures octets { IfOk result (λ order. (rs : List RecordValue) → self.now ≡ map sort_key rs → map octets_of_key order.items ≡ map canonical_wire (collapsed rs)) }
     {
-        let mut forms = self.views(alloc)?;
-        forms.sort_unstable();
+        let forms = self.views(alloc)?;
+        let mut forms = sorted(alloc, forms)?;
         forms.dedup_by(|later, first| later.alike(first));
         Ok(forms)
     }

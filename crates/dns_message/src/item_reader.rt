@@ -14,7 +14,9 @@ ghost use Rattle.dns_message.specs.UnparsedRecords.{DataAreAt, data_start, unpar
 
 use crate::chained_data::parse_chained_record_data;
 use crate::item::{ParsedRecord, end_of_question};
-use dns_chain::{FinalTargets, NameSpan, has_chained_name, read_unchained_name, unchained_end};
+use dns_chain::{
+    BaseName, FinalTargets, NameSpan, has_chained_name, read_unchained_name, unchained_end,
+};
 use dns_name::{NameBuf, RevNameBuf};
 use dns_rdata::RecordData;
 use dns_record::{ParseRecordData, RType, Record, UnparsedRecordData};
@@ -25,23 +27,26 @@ use std::marker::Model;
 /// A record whose data are as they are.
 pub(crate) type UnparsedRecord<'a> = Record<RevNameBuf, UnparsedRecordData<'a>>;
 
-/// The contents of a message, and the final targets of its pointers once a chain of pointers was met. It is seen as the contents.
+/// The contents of a message, the final targets of its pointers once a chain of pointers was met, and the name where pointers led last. It is
+/// seen as the contents.
 #[derive(Drop)]
 pub(crate) struct ItemReader<'a> {
     contents: &'a [u8],
     targets: Option<FinalTargets<'a>>,
+    base: BaseName,
 }
 
 impl<'a> Model for ItemReader<'a> {
     ghost use Rattle.std.specs.Prelude.{◌≡◌, IfSome};
     ghost use Rattle.dns_wire.specs.Octets.{Octets};
     ghost use Rattle.dns_wire.specs.Reading.{AreOctets};
+    ghost use Rattle.dns_chain.specs.Pointed.{KnowsBase};
 
     ghost Value = { Octets };
 
     ghost view = { λ r. r.contents.now };
 
-    ghost invariant = { λ r. AreOctets r.contents.now × IfSome r.targets (λ targets. targets ≡ r.contents.now) };
+    ghost invariant = { λ r. AreOctets r.contents.now × IfSome r.targets (λ targets. targets ≡ r.contents.now) × KnowsBase r.contents.now r.base };
 }
 
 impl<'a> ItemReader<'a> {
@@ -52,6 +57,7 @@ impl<'a> ItemReader<'a> {
         ItemReader {
             contents,
             targets: None,
+            base: BaseName::none(),
         }
     }
 
@@ -104,6 +110,12 @@ impl<'a> ItemReader<'a> {
     {
         if let Some(targets) = &self.targets {
             return Ok(targets.read_canonical_name(start, end, buffer));
+        }
+        if end == self.contents.len() {
+            let span = self.base.read_name(self.contents, start, buffer);
+            if span.is_some() {
+                return Ok(span);
+            }
         }
         let span = read_unchained_name(&self.contents[..end], start, buffer);
         if span.is_some() {

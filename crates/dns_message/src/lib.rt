@@ -12,6 +12,7 @@ mod canonical_owner;
 mod canonical_parts;
 mod canonical_record;
 mod chained_data;
+mod form_order;
 mod form_reader;
 mod form_span;
 mod header;

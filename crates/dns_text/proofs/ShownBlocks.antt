@@ -1,15 +1,14 @@
 -- The digits of octets, by blocks.
-use Rattle.std.proofs.Common.{◌≡◌, ℕ, ◌+◌, ◌*◌, ◌/◌, ◌%◌, ◌<◌, ◌≤◌, bit_and, cond, ltb, true, Fits, w8, List, [], ◌∷◌, ◌++◌, length, map, take, drop, refl, sym, ap, ap₂, ◌∙◌, subst, arith, codes, slice_index, flat_map, append_assoc, append-nil}
+use Rattle.std.proofs.Common.{◌≡◌, ℕ, ◌+◌, ◌*◌, ◌/◌, ◌%◌, ◌<◌, ◌≤◌, bit_and, cond, ltb, true, Fits, w8, List, [], ◌∷◌, ◌++◌, length, map, take, drop, refl, sym, ap, ap₂, ◌∙◌, subst, arith, codes, slice_index, flat_map, append_assoc, take_all}
 use Rattle.std.specs.Prelude.{All}
 use Rattle.std.proofs.lemmas.Bool.{agree_below, agree_below_at, ltb-true}
-use Rattle.std.proofs.lemmas.List.{length-drop, length-take-le, take-append-drop}
-use Rattle.std.proofs.Math.Seq.{take-add}
+use Rattle.std.proofs.lemmas.List.{length-drop, length-take-le, take-append-drop, take-take}
+use Rattle.std.proofs.Math.Seq.{take-add, take-append_seam}
 use Rattle.std.proofs.lemmas.Grind.{flat_map-append}
 use Rattle.std.proofs.lemmas.Simd.{below_from_Fits, length-chunk, length-put_chunk, pick_l_whole, take_more_put_chunk, Each1-get_or}
 use lib.Lanes.{Each1, chunk, pick_l, put_chunk, top}
-use Rattle.hex.specs.Hex.{encode_lower}
 use Rattle.dns_wire.specs.Hexadecimal.{shown}
-use Rattle.dns_text.proofs.Encoding.{encoded, shown_long}
+use Rattle.dns_text.proofs.Encoding.{shown_long}
 use Rattle.dns_wire.proofs.Lanes.{at_each}
 use Rattle.dns_text.proofs.Lanes.{below, more}
 
@@ -76,9 +75,19 @@ module _ (octets text first second : List ℕ) (at : ℕ) (within : at + 16 ≤ 
       ∙ ap (λ (l : List ℕ). flat_map shown (take at octets) ++ l) (sym (flat_map-append shown (take 8 here) (drop 8 here)) ∙ ap (flat_map shown) (take-append-drop 8 here))
       ∙ sym (flat_map-append shown (take at octets) here) ∙ ap (flat_map shown) (sym (take-add at 16 octets))
 
--- what fills no block, and nothing after it
-pub all_shown : (octets text rest last back : List ℕ) (at : ℕ) → at ≤ length octets → take (2 * at) text ≡ flat_map shown (take at octets) → rest ≡ drop at octets → last ≡ encode_lower rest → back ≡ []
-    → take (2 * at) text ++ (last ++ back) ≡ flat_map shown octets
-all_shown octets text rest last back at within so_far rest-is last-is none =
-    ap₂ (λ (x y : List ℕ). x ++ y) so_far (ap (λ (l : List ℕ). last ++ l) none ∙ append-nil last ∙ last-is ∙ encoded rest ∙ ap (flat_map shown) rest-is)
-    ∙ sym (flat_map-append shown (take at octets) (drop at octets)) ∙ ap (flat_map shown) (take-append-drop at octets)
+-- ---- the last block, which may overlap the one before it
+
+-- the digits of fewer octets are the first of the digits
+pub fewer_shown : (octets text : List ℕ) (at fewer : ℕ) → fewer ≤ at → at ≤ length octets → take (2 * at) text ≡ flat_map shown (take at octets) → take (2 * fewer) text ≡ flat_map shown (take fewer octets)
+fewer_shown octets text at fewer less within so_far =
+    let first = take fewer octets in
+    let others = drop fewer (take at octets) in
+    let split : take at octets ≡ first ++ others = sym (take-append-drop fewer (take at octets)) ∙ ap (λ (l : List ℕ). l ++ others) (take-take fewer at octets less) in
+    let long : length (flat_map shown first) ≡ 2 * fewer = shown_long first ∙ ap (λ (n : ℕ). 2 * n) (length-take-le fewer octets (omega (arith, less, within))) in
+    sym (take-take (2 * fewer) (2 * at) text (omega (arith, less))) ∙ ap (take (2 * fewer)) (so_far ∙ ap (flat_map shown) split ∙ flat_map-append shown first others)
+    ∙ (λ i. take (sym long i) (flat_map shown first ++ flat_map shown others)) ∙ take-append_seam (flat_map shown first) (flat_map shown others)
+
+-- once the last block is there, all digits are
+pub last_block : (octets text : List ℕ) (at : ℕ) → at ≡ length octets → length text ≡ 2 * length octets → take (2 * at) text ≡ flat_map shown (take at octets) → text ≡ flat_map shown octets
+last_block octets text at whole long all =
+    sym (take_all (2 * at) text (omega (arith, whole, long))) ∙ all ∙ ap (flat_map shown) (take_all at octets (omega (arith, whole)))

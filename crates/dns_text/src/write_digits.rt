@@ -1,6 +1,6 @@
 //! The hexadecimal digits of octets, by blocks of sixteen octets (RFC 4648 section 8).
 
-ghost use Rattle.std.specs.Prelude.{◌≡◌, ◌<◌, ◌*◌, length, map, take, drop, codes, slice_index, flat_map, All};
+ghost use Rattle.std.specs.Prelude.{◌≡◌, ◌≤◌, ◌<◌, ◌+◌, ◌*◌, length, map, take, drop, codes, slice_index, flat_map, All};
 ghost use Rattle.dns_wire.specs.Hexadecimal.{shown};
 
 use crate::read_digits::BLOCK;
@@ -28,17 +28,34 @@ fn block_shown(octets: u8x16) -> (u8x16, u8x16)
     high.interleave(low)
 }
 
+/// Puts the digits of the sixteen octets at a place into the text.
+#[inline(always)]
+fn put_block(octets: &[u8], text: &mut [u8], at: usize)
+    requires within { at + 16 ≤ length octets.now }
+    requires long { length text.old ≡ 2 * length octets.now }
+    ensures long { length text.new ≡ length text.old }
+    ensures next { take (2 * at) text.old ≡ flat_map shown (take at octets.now)
+        → take (2 * (at + 16)) text.new ≡ flat_map shown (take (at + 16) octets.now) }
+{
+    let (first, second) = block_shown(u8x16::from_slice(&octets[at..]));
+    first.copy_to_slice(&mut text[2 * at..]);
+    second.copy_to_slice(&mut text[2 * at + BLOCK..]);
+}
+
 /// Puts the digits of the octets into the text, in lowercase.
 pub fn put_digits(octets: &[u8], text: &mut [u8])
     requires { length text.old ≡ 2 * length octets.now }
     ensures { text.new ≡ flat_map shown octets.now }
 {
+    if octets.len() < BLOCK {
+        hex::encode_to_slice(octets, text).unwrap();
+        return;
+    }
     let mut at = 0;
-    while octets.len() - at >= BLOCK {
-        let (first, second) = block_shown(u8x16::from_slice(&octets[at..]));
-        first.copy_to_slice(&mut text[2 * at..]);
-        second.copy_to_slice(&mut text[2 * at + BLOCK..]);
+    while octets.len() - at > BLOCK {
+        put_block(octets, text, at);
         at += BLOCK;
     }
-    hex::encode_to_slice(&octets[at..], &mut text[2 * at..]).unwrap();
+    // The last block overlaps the one before it.
+    put_block(octets, text, octets.len() - BLOCK);
 }

@@ -1,4 +1,4 @@
-use Rattle.std.proofs.Common.{arith, ◌+◌, ◌-◌, ◌≡◌, drop, ◌++◌, ◌∷◌, [], take, length, inl, inr, ◌∙◌, ap}
+use Rattle.std.proofs.Common.{arith, ◌+◌, ◌-◌, ◌≡◌, drop, ◌++◌, ◌∷◌, [], take, length, inl, inr, ◌∙◌, ap, sym, ℕ}
 use Rattle.std.specs.Prelude.{slice_range}
 use Rattle.std.specs.Str.{str_to_ascii_lowercase}
 use Rattle.std.proofs.lemmas.List.{length-take, length-drop, length-append}
@@ -36,7 +36,8 @@ loop-buffer-preserved-in-Ok-Label c =
     let fits = rw c.in-Ok-Label.field-0-is at c.in-Ok-Label.ensures.fits in
     let moves = rw c.in-Ok-Label.field-0-is at c.in-Ok-Label.ensures.moves in
     let long : length (slice_range contents c.loop-buffer.cursor.at (c.loop-buffer.cursor.at + 1 + c.in-Ok-Label.label)) ≡ 1 + c.in-Ok-Label.label = omega (arith, length-take (c.loop-buffer.cursor.at + 1 + c.in-Ok-Label.label - c.loop-buffer.cursor.at) (drop c.loop-buffer.cursor.at contents), length-drop c.loop-buffer.cursor.at contents, fits) in
-    let prefix = rw long at c.copy_at.ensures.prefix in
+    let count : c.loop-buffer.cursor.at + 1 + c.in-Ok-Label.label - c.loop-buffer.cursor.at ≡ 1 + c.in-Ok-Label.label = omega arith in
+    let prefix = c.copy_label.ensures.prefix ∙ ap (λ (n : ℕ). take c.loop-buffer.size c.loop-buffer.buffer ++ take n (drop c.loop-buffer.cursor.at contents)) (sym count) in
     record {
       long = omega arith;
       room = omega arith;

@@ -12,7 +12,7 @@ pub returns-clause-keys : goal.returns-clause-keys
 returns-clause-keys c = λ rs are.
     let left = dedup_same _ (eq_by_cmp alike_cmp) _ (λ x y b f' x' y' k. search rules) _ _ c.dedup_by.ensures.filtered in
     let forms : c.in_ok-forms.forms.items ≡ map sort_key rs = c.in_ok-forms.ensures ∙ are in
-    left ∙ ap (dedup (eq_by_cmp alike_cmp)) (sorted_forms rs _ c.sort_unstable.new.self.items forms c.sort_unstable.ensures.permutation c.sort_unstable.ensures.sorted) ∙ sym (keys_collapsed rs)
+    left ∙ ap (dedup (eq_by_cmp alike_cmp)) (sorted_forms rs _ c.in_ok-forms-2.forms.items forms c.in_ok-forms-2.ensures.permutation c.in_ok-forms-2.ensures.sorted) ∙ sym (keys_collapsed rs)
 
 pub returns-clause-octets : goal.returns-clause-octets
 returns-clause-octets c = λ rs are. ap (map octets_of_key) (returns-clause-keys c rs are) ∙ octets_of_keys (collapsed rs)
