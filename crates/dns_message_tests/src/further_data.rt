@@ -213,7 +213,7 @@ fn pointers_are_refused_in_kx(rt: HostRuntime) {
 /// SIG data with a signature of that many octets.
 fn signed_data(alloc: Global, size: usize) -> Result<Vec<u8>, AllocError> {
     let mut data = Vec::from_slice(alloc, SIGNED)?;
-    data.resize(SIGNED.len() + size, 7)?;
+    data.resize(SIGNED.len().saturating_add(size), 7)?;
     Ok(data)
 }
 
