@@ -1,4 +1,4 @@
 -- What the contracts on chains of pointers cite.
 pub mod CanonicalNames
 pub mod Chains
-pub mod Pointed
+pub mod OwnLabels

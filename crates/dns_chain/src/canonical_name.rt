@@ -20,7 +20,7 @@ pub struct NameSpan {
 }
 
 /// Puts the root after the labels at the beginning of the buffer, and all in lowercase.
-fn put_root(buffer: &mut [u8], size: usize)
+pub(crate) fn put_root(buffer: &mut [u8], size: usize)
     requires { size < length buffer.old }
     ensures name { take (size + 1) buffer.new ≡ str_to_ascii_lowercase (take size buffer.old ++ 0 ∷ []) }
     ensures long { length buffer.new ≡ length buffer.old }
@@ -31,7 +31,7 @@ fn put_root(buffer: &mut [u8], size: usize)
 
 /// Copies a label after its length octet, which is at a place of the contents, to a place of the buffer. Short labels are copied by sixteen
 /// octets, which is one step, so octets of the buffer after them are unspecified.
-fn copy_label(contents: &[u8], at: usize, label: usize, buffer: &mut [u8], size: usize)
+pub(crate) fn copy_label(contents: &[u8], at: usize, label: usize, buffer: &mut [u8], size: usize)
     requires within { at + 1 + label ≤ length contents.now }
     requires room { size + 1 + label ≤ length buffer.old }
     ensures prefix { take (size + (1 + label)) buffer.new ≡ take size buffer.old ++ take (1 + label) (drop at contents.now) }

@@ -60,13 +60,6 @@ impl<'a> FinalTargets<'a> {
         Ok(FinalTargets { contents, targets })
     }
 
-    /// The contents.
-    pub fn contents(&self) -> &'a [u8]
-        ensures { result.now ≡ self.now }
-    {
-        self.contents
-    }
-
     /// Where a pointer to the place leads in the end. To a place after the contents or after the last one there is no pointer.
     fn final_target(&self, place: usize) -> usize
         ensures reached { Leads self.now place result }
@@ -80,7 +73,11 @@ impl<'a> FinalTargets<'a> {
 
     /// Reads the name at a place of the contents, of which only those up to `end` are read, and gives the place where it ends. Each of its pointers
     /// is followed to its final target at once. `ParseError` comes exactly if no name is there (RFC 1035 section 4.1.4).
-    pub fn split_name(&self, start: usize, end: usize) -> Result<(NameBuf, usize), ParseError>
+    pub(crate) fn split_name(
+        &self,
+        start: usize,
+        end: usize,
+    ) -> Result<(NameBuf, usize), ParseError>
         requires { end ≤ length self.now }
         ensures exact { Gives (λ x. (x.0, x.1)) result (name_at (take end self.now) start) }
         ensures within { IfOk result (λ x. (start ≤ x.1) × (x.1 ≤ end)) }

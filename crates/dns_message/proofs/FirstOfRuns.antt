@@ -1,8 +1,7 @@
 -- Of a list in order, the first of each run of alike elements: which these are, and that they settle the list.
-use Rattle.std.proofs.Common.{◌≡◌, zero, suc, ◌+◌, ◌⊎◌, inl, inr, Bool, true, false, cond, List, [], ◌∷◌, map, refl, sym, ap, ◌∙◌, subst, arith}
+use Rattle.std.proofs.Common.{◌≡◌, zero, suc, ◌⊎◌, inl, inr, Bool, true, false, cond, List, [], ◌∷◌, map, refl, sym, ap, ◌∙◌, subst, arith}
 use Rattle.std.specs.Prelude.{◌↔◌, Contains}
 use Rattle.std.specs.List.{dedup, dedup_from}
-use Rattle.std.specs.List.Sorted.{IsSorted}
 use Rattle.std.specs.declared.cmp.Ordering.{Ordering}
 use Rattle.std.specs.declared.cmp.Ordering.TheVariants.{Less, Equal, Greater}
 use Rattle.std.specs.Ordering.{is_lt, is_eq, ordering_reverse, ordering_then, then_cmp, eq_by_cmp}
@@ -10,7 +9,6 @@ use Rattle.std.specs.Cmp.{IsTotalOrder}
 use Rattle.dns_message.specs.Sorted.{NoneBelow, Ascends, AllAbove, Climbs}
 use Rattle.std.proofs.lemmas.Bool.{true≢false}
 use Rattle.std.proofs.lemmas.Cmp.{then_total, tied_itself, tied_back, alike_right}
-use Rattle.std.proofs.lemmas.List.{length-map, get_or-map}
 use Rattle.std.proofs.lemmas.List.Sorted.{ranks_by}
 
 -- ---- lists by recursion
@@ -52,15 +50,6 @@ seen_runs {X} {Y} f E k (x ∷ xs) =
 pub seen_firsts : {X Y : Type 0} (f : X → Y) (E : Y → Y → Bool) (xs : List X) → map f (dedup (λ x y. E (f x) (f y)) xs) ≡ dedup E (map f xs)
 seen_firsts f E [] = refl
 seen_firsts f E (x ∷ xs) = seen_runs f E x xs
-
--- order, seen through a function
-pub seen_sorted : {X Y : Type 0} (f : X → Y) (R : Y → Y → Ordering) (xs : List X) → IsSorted (λ x y. R (f x) (f y)) xs → IsSorted R (map f xs)
-seen_sorted f R [] h k d low high = absurd (omega arith)
-seen_sorted f R (x ∷ xs) h k d low high =
-    let long = length-map (x ∷ xs) f in
-    let one = get_or-map f (x ∷ xs) k x d (omega arith) in
-    let two = get_or-map f (x ∷ xs) (k + 1) x d (omega arith) in
-    rw (one, two) (h k x low (omega arith))
 
 -- ---- answers of orders
 

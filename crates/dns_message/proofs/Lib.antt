@@ -25,6 +25,7 @@ pub mod PartsAdded
 pub mod Phrased
 pub mod NextItem
 pub mod Pushed
+pub mod QuestionEnds
 pub mod BuiltLemmas
 pub mod Repushed
 pub mod FirstOfRuns
@@ -40,6 +41,7 @@ pub mod SortedRecords
 pub mod Sound
 pub mod ItemLemmas
 pub mod KindLemmas
+pub mod KnownNameLemmas
 pub mod Streamed
 pub mod Surviving
 pub mod ListTexts
@@ -47,7 +49,6 @@ pub mod TextLemmas
 pub mod UnparsedRecords
 pub mod WellFormedLemmas
 pub mod Whole
-pub mod WholeData
 pub mod JoinedFields
 pub mod KeptOctets
 pub mod LowercasedFields

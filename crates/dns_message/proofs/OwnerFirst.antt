@@ -23,7 +23,7 @@ use Rattle.dns_message.proofs.UnparsedRecords.{data_are_at, record_in_none, reco
 abbrev pub owned : Labels → UnparsedValue → UnparsedValue
 owned labels r = record { owner = labels; rtype = r.rtype; class = r.class; ttl = r.ttl; content = r.content }
 
-step : {A B C : Type 0} (h : B → C) (read : Option A) (f : A → Option (C × ℕ)) (g : A → Option (B × ℕ)) → ((a : A) → f a ≡ first_to h (g a)) → (read >>= f) ≡ first_to h (read >>= g)
+pub step : {A B C : Type 0} (h : B → C) (read : Option A) (f : A → Option (C × ℕ)) (g : A → Option (B × ℕ)) → ((a : A) → f a ≡ first_to h (g a)) → (read >>= f) ≡ first_to h (read >>= g)
 step h None f g each = refl
 step h (Some a) f g each = each a
 

@@ -11,7 +11,7 @@ use Rattle.std.specs.Char.{to_ascii_lowercase}
 use Rattle.std.specs.Str.{str_to_ascii_lowercase}
 use Rattle.std.proofs.lemmas.Str.Ascii.{lowercase_is, lowercase-lowercase}
 use Rattle.dns_wire.specs.Names.{IsLabel, labels_wire, name_labels, plain_name, wire}
-use Rattle.dns_wire.proofs.Backward.{lowered-reverse, reversed_wire_long}
+use Rattle.dns_wire.proofs.Backward.{reversed_wire_long}
 use Rattle.std.proofs.Math.Seq.{take-append_seam, take-append-add, take-nil}
 use Rattle.std.specs.List.{AllByRecursion}
 use Rattle.dns_wire.specs.Reading.{all_of}
@@ -19,7 +19,7 @@ use Rattle.dns_wire.proofs.Spelled.{name_octets}
 use Rattle.dns_wire.proofs.Walk.{wire_long}
 use Rattle.std.specs.Prelude.{reverse}
 use Rattle.dns_record.proofs.ComparedOctets.{then_assoc}
-use Rattle.dns_name.specs.Order.{key, key_cmp}
+use Rattle.dns_name.specs.Order.{key}
 use Rattle.dns_message.specs.OwnerKeys.{key_octet, label_key, labels_key, owner_key}
 
 pub low : (x : ℕ) → x < 65 → key_octet x ≡ x + 1
@@ -109,57 +109,6 @@ keys_ordered (x ∷ xs) [] = refl
 keys_ordered (x ∷ xs) (y ∷ ys) =
     label_first x y xs ys
     ∙ ap (ordering_then (slice_cmp nat_cmp (str_to_ascii_lowercase x) (str_to_ascii_lowercase y))) (keys_ordered xs ys)
-
--- the order of keys is the order of owners
-pub owners_ordered : (a b : List (List ℕ)) → slice_cmp nat_cmp (owner_key a) (owner_key b) ≡ key_cmp (key a) (key b)
-owners_ordered a b =
-    keys_ordered ([] ∷ reverse a) ([] ∷ reverse b)
-    ∙ ap₂ (λ (x y : List (List ℕ)). slice_cmp (slice_cmp nat_cmp) x y) (lowered-reverse a) (lowered-reverse b)
-
--- ---- from a name's octets to its key
-
-map_next : (f : ℕ → ℕ) (before : List ℕ) (place : ℕ) → place < length before
-    → slice_set (map f (take place before) ++ drop place before) place (f (slice_index_or (map f (take place before) ++ drop place before) place 0))
-    ≡ map f (take (suc place) before) ++ drop (suc place) before
-map_next f [] place within = absurd (omega (arith, within))
-map_next f (x ∷ before) zero within = refl
-map_next f (x ∷ before) (suc place) within = ap (λ l. f x ∷ l) (map_next f before place (omega (arith, within)))
-
--- the next octet is mapped, and the others stay
-pub next_octet : (f : ℕ → ℕ) (before : List ℕ) (place : ℕ) → place < length before
-    → slice_set (map f (take place before) ++ drop place before) place (f (slice_index_or (map f (take place before) ++ drop place before) place 0))
-    ≡ map f (take (place + 1) before) ++ drop (place + 1) before
-next_octet f before place within =
-    let more : suc place ≡ place + 1 = omega arith in
-    map_next f before place within ∙ ap (λ n. map f (take n before) ++ drop n before) more
-
--- at a place an octet is another
-other_there : (octets : List ℕ) (place x y : ℕ) (l : List ℕ) → drop place octets ≡ x ∷ l → slice_set octets place y ≡ take place octets ++ y ∷ l
-other_there [] zero x y l is = absurd (omega (arith, ap length is))
-other_there [] (suc place) x y l is = absurd (omega (arith, ap length is))
-other_there (o ∷ octets) zero x y l is = ap (λ l. y ∷ drop 1 l) is
-other_there (o ∷ octets) (suc place) x y l is = ap (λ l. o ∷ l) (other_there octets place x y l is)
-
--- at the next label its length becomes its beginning
-pub next_label : (octets : List ℕ) (place : ℕ) (label : List ℕ) (labels : List (List ℕ))
-    → drop place octets ≡ map key_octet (labels_wire (label ∷ labels))
-    → slice_set octets place 0 ≡ (take place octets ++ label_key label) ++ map key_octet (labels_wire labels)
-next_label octets place label labels is =
-    other_there octets place (key_octet (length label)) 0 (map key_octet (label ++ labels_wire labels)) is
-    ∙ ap (λ l. take place octets ++ 0 ∷ l) (map-append key_octet label (labels_wire labels))
-    ∙ sym (append_assoc (take place octets) (label_key label) (map key_octet (labels_wire labels)))
-
-pub next_place : (octets : List ℕ) (place : ℕ) (label : List ℕ) (labels : List (List ℕ))
-    → drop place octets ≡ map key_octet (labels_wire (label ∷ labels))
-    → length (take place octets ++ label_key label) ≡ place + (1 + length label)
-next_place octets place label labels is = omega (
-  arith,
-  length-append (take place octets) (label_key label),
-  length-take place octets,
-  length-map label key_octet,
-  ap length is,
-  length-drop place octets,
-)
 
 -- ---- keys one after another
 

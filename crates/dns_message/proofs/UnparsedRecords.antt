@@ -1,14 +1,12 @@
 -- Records are read in two steps: first with their data as they are, and then the data.
-use Rattle.std.proofs.Common.{◌≡◌, ℕ, ◌+◌, ◌-◌, ◌<◌, ◌≤◌, Bool, true, false, cond, ltb, List, length, take, drop, Option, Some, None, Result, Ok, Err, inr, refl, sym, ap, ◌∙◌, arith, length-drop}
+use Rattle.std.proofs.Common.{◌≡◌, ℕ, ◌+◌, ◌-◌, ◌<◌, ◌≤◌, Bool, true, false, cond, ltb, List, length, take, drop, Option, Some, None, inr, refl, sym, ap, ◌∙◌, arith, length-drop}
 use Rattle.std.specs.Int.{w16, w32, from_be_bytes}
-use Rattle.std.specs.Prelude.{IfOk, OnErr}
 use Rattle.std.proofs.lemmas.Bool.{ltb-false, ltb-true}
 use Rattle.std.proofs.lemmas.List.{length-take}
 use Rattle.std.proofs.lemmas.Option.{some_pair_parts}
 use Rattle.dns_wire.specs.Names.{plain_name}
 use Rattle.dns_wire.specs.Pointers.{name_at}
-use Rattle.dns_wire.specs.Octets.{Labels}
-use Rattle.dns_wire.specs.Reading.{AreOctets, Gives, number, plain_at, with_end}
+use Rattle.dns_wire.specs.Reading.{AreOctets, number, plain_at, with_end}
 use Rattle.dns_wire.specs.ReadingLemmas.{then_some}
 use Rattle.dns_wire.specs.Steps.{◌>>=◌}
 use Rattle.dns_num.proofs.CountedData.{small}
@@ -16,12 +14,10 @@ use Rattle.dns_record.specs.Data.{data_as, data_in}
 use Rattle.dns_record.specs.Fields.{Field}
 use Rattle.dns_record.specs.Records.{SizedDataIn, end_of, record_in}
 use Rattle.dns_record.specs.Unparsed.{few_in}
-use Rattle.dns_record.specs.declared.record.Record.{Record}
-use Rattle.dns_record.specs.declared.unparsed.UnparsedRecordData.{UnparsedRecordData}
 use Rattle.dns_rdata.specs.Plain.{is_uncompressed_type}
 use Rattle.dns_rdata.proofs.UncompressedData.{seen_placed}
 use Rattle.dns_record.specs.FurtherFormats.{DataReading}
-use Rattle.dns_message.specs.UnparsedRecords.{UnparsedValue, unparsed_in, unparsed_value, with_content, with_data, data_start, DataAreAt}
+use Rattle.dns_message.specs.UnparsedRecords.{UnparsedValue, unparsed_in, with_content, with_data, data_start, DataAreAt}
 use Rattle.dns_message.proofs.Octets.{octets_from, octets_up_to}
 
 -- ---- data as they are
@@ -120,18 +116,6 @@ record_in_none reads contents start are e =
     no_more : {A B : Type 0} (read : Option A) (more : A → B) → (read >>= λ x. Some (more x)) ≡ None → read ≡ None
     no_more None more e = refl
     no_more (Some x) more e = absurd cc
-
--- what was read with its data as they are
-pub steps_given : {E : Type 0} (contents : List ℕ) (start : ℕ) (result : Result (Record Labels UnparsedRecordData × ℕ) E) → Gives (λ x. (unparsed_value x.0, x.1)) result (record_in name_at unparsed_in contents start)
-    → IfOk result (λ x. (start ≤ x.1) × (x.1 ≤ length contents))
-    → IfOk result (λ x. record_in name_at (data_in name_at) contents start ≡ with_data (unparsed_value x.0) x.1 (data_in name_at x.0.rtype.code.value (take x.1 contents) (data_start x.1 x.0.rdata.octets.now)))
-steps_given contents start (Ok x) gives within = record_in_steps (data_in name_at) contents start (unparsed_value x.0) x.1 within.1 gives
-steps_given contents start (Err e) gives within = tt
-
-pub steps_refused : {E : Type 0} (contents : List ℕ) (start : ℕ) (result : Result (Record Labels UnparsedRecordData × ℕ) E) → AreOctets contents → Gives (λ x. (unparsed_value x.0, x.1)) result (record_in name_at unparsed_in contents start)
-    → OnErr result (record_in name_at (data_in name_at) contents start ≡ None)
-steps_refused contents start (Ok x) are gives = tt
-steps_refused contents start (Err e) are gives = record_in_none (data_in name_at) contents start are gives
 
 -- ---- data without names that pointers may lead through
 

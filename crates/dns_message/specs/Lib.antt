@@ -7,6 +7,7 @@ pub mod Forms
 pub mod FormsRead
 pub mod Fronts
 pub mod Headers
+pub mod KnownNames
 pub mod MessageOctets
 pub mod LowercaseFields
 pub mod Messages

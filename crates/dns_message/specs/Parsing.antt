@@ -84,6 +84,3 @@ abbrev pub AddsItemBy : DataReading → ℕ → Octets → ℕ → List RecordVa
 AddsItemBy reads section contents start old new None = item_by reads section contents start ≡ None
 AddsItemBy reads section contents start old new (Some end) =
     (item : Item) × (item_by reads section contents start ≡ Some (item, end)) × (new ≡ old ++ filter is_not_opt (records_among (item ∷ [])))
-
-abbrev pub AddsItem : ℕ → Octets → ℕ → List RecordValue → List RecordValue → Option ℕ → Type 0
-AddsItem = AddsItemBy (data_in name_at)

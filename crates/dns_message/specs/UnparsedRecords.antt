@@ -3,10 +3,7 @@ use Rattle.std.specs.Prelude.{◌≡◌, ◌≤◌, ℕ, ◌-◌, List, drop, le
 use Rattle.dns_wire.specs.Octets.{Octets, Labels}
 use Rattle.dns_record.specs.Fields.{Field}
 use Rattle.dns_record.specs.Records.{RecordOf}
-use Rattle.dns_record.specs.Seen.{record_seen}
 use Rattle.dns_record.specs.Unparsed.{few_in}
-use Rattle.dns_record.specs.declared.record.Record.{Record}
-use Rattle.dns_record.specs.declared.unparsed.UnparsedRecordData.{UnparsedRecordData}
 use Rattle.dns_message.specs.Messages.{RecordValue}
 use Rattle.dns_message.specs.declared.unparsed_parts.UnparsedParts.{UnparsedParts}
 
@@ -17,9 +14,6 @@ UnparsedValue = RecordOf Labels Octets
 -- the octets of data of whatever type
 abbrev pub unparsed_in : ℕ → Octets → ℕ → Option Octets
 unparsed_in rtype contents at = few_in contents at
-
-abbrev pub unparsed_value : Record Labels UnparsedRecordData → UnparsedValue
-unparsed_value = record_seen (λ labels. labels) (λ v. v.octets.now)
 
 -- an owner that was read before
 abbrev pub owner_before : Labels → Octets → ℕ → Option (Labels × ℕ)

@@ -2,12 +2,7 @@
 
 ghost use Rattle.std.specs.Prelude.{◌≡◌, ◌≤◌, ◌<◌, ◌^◌, ◌↔◌, [], ◌∷◌, ◌++◌, List, IfOk, IsTrue, OnErr, OnOk, length, map};
 ghost use Rattle.std.specs.Int.{w16, w32, to_be_bytes};
-ghost use Rattle.dns_wire.specs.Names.{wire, lowered};
 ghost use Rattle.dns_name.specs.Order.{key};
-ghost use Rattle.dns_record.specs.Fields.{fields_octets, named_by};
-ghost use Rattle.dns_record.specs.Records.{octets_of_parts};
-ghost use Rattle.dns_record.specs.Seen.{record_seen};
-ghost use Rattle.dns_rdata.specs.Data.{data_fields, IsDataOf};
 ghost use Rattle.dns_message.specs.Canonical.{canonical_wire};
 ghost use Rattle.dns_message.specs.Forms.{AreForms, forms_in};
 ghost use Rattle.dns_message.specs.Messages.{RecordValue};
@@ -15,14 +10,9 @@ ghost use Rattle.dns_message.specs.Order.{sort_key, octets_of_key, collapsed};
 
 use crate::canonical_form::CanonicalForm;
 use crate::canonical_owner::CanonicalOwner;
-use crate::canonical_parts::{build_canonical_record, canonical_size};
-use crate::canonical_record::CanonicalRecord;
 use crate::form_order::sorted;
 use crate::form_span::FormSpan;
-use crate::owner_key::push_owner_key;
-use dns_name::{CanonicalName, RevNameBuf};
-use dns_rdata::RecordData;
-use dns_record::{CanonicalRecordData, RClass, RType, Record, TTL};
+use dns_record::{RClass, RType, TTL};
 use std::alloc::{AllocError, Global};
 use std::marker::Model;
 
@@ -48,23 +38,6 @@ impl Model for CanonicalForms {
     ghost view = { λ f. forms_in f.spans.items f.octets.items };
 
     ghost invariant = { λ f. AreForms (forms_in f.spans.items f.octets.items) f.owner_keys.items f.octets.items f.spans.items };
-}
-
-/// Puts the canonical octets of a record after others, and gives how many they are. `AllocError` is out of memory.
-fn push_canonical<D: CanonicalRecordData>(
-    octets: &mut Vec<u8>,
-    found: &Record<&RevNameBuf, &D>,
-) -> Result<usize, AllocError>
-    requires { length (D.canonical found.now.rdata.now) < 2 ^ 16 }
-    ensures put { IfOk result (λ _. octets.new.items ≡ octets.old.items ++ octets_of_parts (wire (lowered found.now.rname.now)) found.now.rtype.code.value found.now.rclass.code.value found.now.ttl.value.value (D.canonical found.now.rdata.now)) }
-    ensures size { IfOk result (λ size. size ≡ length (octets_of_parts (wire (lowered found.now.rname.now)) found.now.rtype.code.value found.now.rclass.code.value found.now.ttl.value.value (D.canonical found.now.rdata.now))) }
-    ensures short { IfOk result (λ size. size ≤ CanonicalRecord.MAX_SIZE) }
-{
-    let start = octets.len();
-    let size = canonical_size(found);
-    octets.resize(start + size, 0)?;
-    build_canonical_record(found, octets, start).unwrap();
-    Ok(size)
 }
 
 /// The octets between the owner and the data: type, class, TTL, and the number of the data's octets.
@@ -176,54 +149,6 @@ impl CanonicalForms {
             .unwrap();
         self.octets.extend_from_slice(rdata).unwrap();
         Ok(())
-    }
-
-    /// These forms, and after them that of the record that has these parts. `AllocError` is out of memory; the forms are then given up.
-    pub(crate) fn with_parts<N: CanonicalName>(
-        self,
-        found: &Record<&RevNameBuf, &RecordData<'_, N>>,
-    ) -> Result<CanonicalForms, AllocError>
-        requires typed { IsDataOf found.now.rdata.now found.now.rtype.code.value }
-        requires short { length (fields_octets (map (named_by N.name) (data_fields found.now.rdata.now))) < 2 ^ 16 }
-        ensures { IfOk result (λ forms. forms ≡ self ++ sort_key (record_seen (λ o. o.now) (λ d. map (named_by N.name) (data_fields d.now)) found.now) ∷ []) }
-    {
-        let CanonicalForms {
-            mut owner_keys,
-            mut octets,
-            mut spans,
-        } = self;
-        push_owner_key(&mut owner_keys, found.rname.as_revname())?;
-        let size = push_canonical(&mut octets, found)?;
-        spans.push(FormSpan {
-            owner_size: found.rname.composed_size(),
-            size,
-            class: found.rclass.code.get(),
-            rtype: found.rtype.code.get(),
-            ttl: found.ttl.as_secs(),
-        })?;
-        Ok(CanonicalForms {
-            owner_keys,
-            octets,
-            spans,
-        })
-    }
-
-    /// These forms, and after them that of a record. `AllocError` is out of memory; the forms are then given up.
-    pub fn with(self, found: &CanonicalRecord<'_>) -> Result<CanonicalForms, AllocError>
-        ensures { IfOk result (λ forms. forms ≡ self ++ sort_key found.now ∷ []) }
-    {
-        self.with_parts(&found.parts())
-    }
-
-    /// These forms, and after them those of the records. `AllocError` is out of memory; the forms are then given up.
-    pub fn with_all(self, records: &[CanonicalRecord<'_>]) -> Result<CanonicalForms, AllocError>
-        ensures { IfOk result (λ forms. forms ≡ self ++ map sort_key records.now) }
-    {
-        let mut forms = self;
-        for found in records {
-            forms = forms.with(found)?;
-        }
-        Ok(forms)
     }
 
     /// The number of forms.

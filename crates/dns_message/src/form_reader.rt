@@ -14,9 +14,10 @@ ghost use Rattle.dns_message.specs.UnparsedRecords.{DataAreAt, data_start, parts
 
 use crate::canon_error::CanonError;
 use crate::canonical_forms::CanonicalForms;
-use crate::item_reader::ItemReader;
+use crate::known_names::KnownNames;
 use crate::last_owner::LastOwner;
 use crate::lowercase_fields::push_fields;
+use crate::name_reader::NameReader;
 use crate::parser::MessageParser;
 use crate::plain_fields::are_fields;
 use crate::unparsed_parts::{UnparsedParts, split_unparsed_parts};
@@ -25,10 +26,12 @@ use dns_record::{Formats, MAX_DATA_SIZE, RType};
 use std::alloc::{AllocError, Global};
 use std::mem;
 
-/// Room for the record that is read: the owner that was read last, a name, and data in canonical form. It is kept from message to message.
+/// Room for the record that is read: the owner that was read last, a name, and data in canonical form. It is kept from message to message, and so
+/// is the memory of names that pointers led to.
 #[derive(Drop)]
 struct RecordRoom {
     owner: LastOwner,
+    known: KnownNames,
     name: [u8; Name::MAX_SIZE],
     rdata: Vec<u8>,
 }
@@ -38,6 +41,7 @@ impl RecordRoom {
     fn new(alloc: Global) -> RecordRoom {
         RecordRoom {
             owner: LastOwner::none(),
+            known: KnownNames::none(alloc),
             name: [0; Name::MAX_SIZE],
             rdata: Vec::new(alloc),
         }
@@ -49,25 +53,30 @@ impl RecordRoom {
 fn push_data(
     alloc: Global,
     forms: &mut CanonicalForms,
-    items: &mut ItemReader<'_>,
+    names: &mut NameReader<'_>,
     room: &mut RecordRoom,
     formats: Formats,
     parts: &UnparsedParts<'_>,
     end: usize,
 ) -> Result<bool, AllocError>
-    requires within { end ≤ length items.old }
-    requires placed { DataAreAt items.old parts.now.rdata.octets.now end }
-    requires octets { AreOctets items.old }
+    requires within { end ≤ length names.old }
+    requires placed { DataAreAt names.old parts.now.rdata.octets.now end }
+    requires octets { AreOctets names.old }
     requires owner { (labels : Labels) × HasOwner room.old.owner labels }
     ensures adds { IfOk result (λ is_read. (labels : Labels) → HasOwner room.old.owner labels
-        → AddsData forms.old (parts_value labels parts.now) (data_by formats parts.now.rtype.code.value (take end items.old) (data_start end parts.now.rdata.octets.now)) (forms_if forms.new is_read)) }
-    ensures items { items.new ≡ items.old }
+        → AddsData forms.old (parts_value labels parts.now) (data_by formats parts.now.rtype.code.value (take end names.old) (data_start end parts.now.rdata.octets.now)) (forms_if forms.new is_read)) }
+    ensures names { names.new ≡ names.old }
     ensures owner { room.new.owner ≡ room.old.owner }
 {
     let octets = parts.rdata.octets();
     let (rtype, rclass, ttl) = (parts.rtype, parts.rclass, parts.ttl);
     let (kinds, lowercase) = formats.kinds(rtype);
-    let RecordRoom { owner, name, rdata } = room;
+    let RecordRoom {
+        owner,
+        name,
+        rdata,
+        ..
+    } = room;
     if !lowercase {
         if !are_fields(kinds, octets) {
             return Ok(false);
@@ -79,7 +88,7 @@ fn push_data(
         return Ok(true);
     }
     rdata.clear();
-    if !push_fields(alloc, items, name, rdata, kinds, end - octets.len(), end)? {
+    if !push_fields(alloc, names, name, rdata, kinds, end - octets.len(), end)? {
         return Ok(false);
     }
     if rdata.len() > MAX_DATA_SIZE {
@@ -94,23 +103,23 @@ fn push_data(
 fn push_record(
     alloc: Global,
     forms: &mut CanonicalForms,
-    items: &mut ItemReader<'_>,
+    names: &mut NameReader<'_>,
     room: &mut RecordRoom,
     formats: Formats,
     start: usize,
 ) -> Result<Option<usize>, AllocError>
-    requires { WasRead items.old room.old.owner }
-    ensures adds { IfOk result (λ end. AddsRecord forms.old (record_in name_at (data_by formats) items.old start) (forms_up_to forms.new end)) }
-    ensures owner { IfOk result (λ end. IfSome end (λ _. WasRead items.old room.new.owner)) }
-    ensures items { items.new ≡ items.old }
+    requires { WasRead names.old room.old.owner }
+    ensures adds { IfOk result (λ end. AddsRecord forms.old (record_in name_at (data_by formats) names.old start) (forms_up_to forms.new end)) }
+    ensures owner { IfOk result (λ end. IfSome end (λ _. WasRead names.old room.new.owner)) }
+    ensures names { names.new ≡ names.old }
 {
-    let Some(at) = room.owner.read(alloc, items, start)? else {
+    let Some(at) = room.owner.read(alloc, names, start)? else {
         return Ok(None);
     };
-    let Ok((parts, end)) = split_unparsed_parts(items.contents(), at) else {
+    let Ok((parts, end)) = split_unparsed_parts(names.contents(), at) else {
         return Ok(None);
     };
-    let is_read = push_data(alloc, forms, items, room, formats, &parts, end)?;
+    let is_read = push_data(alloc, forms, names, room, formats, &parts, end)?;
     if is_read { Ok(Some(end)) } else { Ok(None) }
 }
 
@@ -119,22 +128,21 @@ fn push_record(
 fn push_item(
     alloc: Global,
     forms: &mut CanonicalForms,
-    items: &mut ItemReader<'_>,
+    names: &mut NameReader<'_>,
     room: &mut RecordRoom,
     formats: Formats,
     section: u8,
     start: usize,
 ) -> Result<Option<usize>, AllocError>
-    requires { WasRead items.old room.old.owner }
-    ensures adds { IfOk result (λ end. AddsForm forms.old (item_by (data_by formats) section items.old start) (forms_up_to forms.new end)) }
-    ensures owner { IfOk result (λ end. IfSome end (λ _. WasRead items.old room.new.owner)) }
-    ensures items { items.new ≡ items.old }
+    requires { WasRead names.old room.old.owner }
+    ensures adds { IfOk result (λ end. AddsForm forms.old (item_by (data_by formats) section names.old start) (forms_up_to forms.new end)) }
+    ensures owner { IfOk result (λ end. IfSome end (λ _. WasRead names.old room.new.owner)) }
+    ensures names { names.new ≡ names.old }
 {
     if section != 0 {
-        return push_record(alloc, forms, items, room, formats, start);
+        return push_record(alloc, forms, names, room, formats, start);
     }
-    items.look(alloc, section, start)?;
-    Ok(items.end_of_question(start))
+    names.end_of_question(alloc, start, &mut room.name)
 }
 
 /// Reads a whole message, and gives the canonical forms of its records except those of type OPT, in the memory of earlier forms.
@@ -153,12 +161,13 @@ fn read_into(
     };
     let contents = parser.message().contents();
     let mut forms = earlier.cleared(parser.message().most_records(), contents.len())?;
-    let mut items = ItemReader::new(contents);
+    let known = mem::replace(&mut room.known, KnownNames::none(alloc));
+    let mut names = NameReader::new(contents, known);
     room.owner.forget();
     while let Some(position) = parser.coming() {
         let start = parser.offset();
         let section = position.section;
-        let pushed = push_item(alloc, &mut forms, &mut items, room, formats, section, start)?;
+        let pushed = push_item(alloc, &mut forms, &mut names, room, formats, section, start)?;
         let Some(end) = pushed else {
             return Err(CanonError::Item {
                 section,
@@ -167,6 +176,7 @@ fn read_into(
         };
         parser.pass(position, end);
     }
+    room.known = names.into_known();
     Ok(forms)
 }
 

@@ -1,11 +1,9 @@
 //! Items of messages.
 
-ghost use Rattle.std.specs.Prelude.{◌≡◌, ◌↔◌, ◌≤◌, length, drop, IfOk, IsTrue, MatchOption, Some, None};
-ghost use Rattle.dns_wire.specs.Octets.{Labels};
+ghost use Rattle.std.specs.Prelude.{◌↔◌, ◌≤◌, length, drop, IfOk, IsTrue};
 ghost use Rattle.dns_wire.specs.Reading.{Gives};
 ghost use Rattle.dns_wire.specs.Pointers.{name_at};
 ghost use Rattle.dns_record.specs.Data.{data_in};
-ghost use Rattle.dns_record.specs.Questions.{QuestionOf, question_in};
 ghost use Rattle.dns_record.specs.Records.{record_in};
 ghost use Rattle.dns_message.specs.Messages.{item_at};
 ghost use Rattle.dns_message.specs.Seen.{AreSound, BeginsEdns, item_seen, record_value, HasSoundData, IsOfSection};
@@ -54,19 +52,6 @@ fn read_record(contents: &[u8], start: usize) -> Result<(ParsedRecord<'_>, usize
     ensures sound { IfOk result (λ x. AreSound x.0) }
 {
     Record::split_message_bytes(contents, start)
-}
-
-/// Where the question at a place ends; `None` exactly if no question is there.
-pub(crate) fn end_of_question(contents: &[u8], start: usize) -> Option<usize>
-    ensures { MatchOption result (question_in name_at contents.now start ≡ None) (λ end. (q : QuestionOf Labels) × (question_in name_at contents.now start ≡ Some (q, end))) }
-{
-    let read: Result<(Question<RevNameBuf>, usize), ParseError> = Question::split_message_bytes(
-        contents, start,
-    );
-    match read {
-        Ok((_question, end)) => Some(end),
-        Err(_) => None,
-    }
 }
 
 /// Reads the additional item at a place, and gives the place where it ends.

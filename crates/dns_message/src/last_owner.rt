@@ -6,8 +6,7 @@ ghost use Rattle.dns_wire.specs.Octets.{Labels};
 ghost use Rattle.dns_message.specs.Owners.{HasOwner, IsRepeated, ReadsOwner, WasRead};
 
 use crate::canonical_owner::CanonicalOwner;
-use crate::item_reader::ItemReader;
-use crate::owner_key::put_owner_key;
+use crate::name_reader::NameReader;
 use dns_name::Name;
 use std::alloc::{AllocError, Global};
 
@@ -68,24 +67,23 @@ impl LastOwner {
     pub(crate) fn read(
         &mut self,
         alloc: Global,
-        items: &mut ItemReader<'_>,
+        names: &mut NameReader<'_>,
         start: usize,
     ) -> Result<Option<usize>, AllocError>
-        requires { WasRead items.old self.old }
-        ensures read { IfOk result (λ found. ReadsOwner items.old start found self.new) }
-        ensures unchanged { items.new ≡ items.old }
+        requires { WasRead names.old self.old }
+        ensures read { IfOk result (λ found. ReadsOwner names.old start found self.new) }
+        ensures unchanged { names.new ≡ names.old }
     {
-        let contents = items.contents();
+        let contents = names.contents();
         if self.is_repeated(contents, start) {
             self.end = start + (self.end - self.start);
             self.start = start;
             return Ok(Some(self.end));
         }
-        let room = &mut self.octets;
-        let Some(span) = items.read_canonical_name(alloc, start, contents.len(), room)? else {
+        let (octets, key) = (&mut self.octets, &mut self.key);
+        let Some(span) = names.read_owner(alloc, start, octets, key)? else {
             return Ok(None);
         };
-        put_owner_key(&self.octets[..span.size], &mut self.key);
         self.start = start;
         self.end = span.end;
         self.size = span.size;

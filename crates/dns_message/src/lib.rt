@@ -11,24 +11,23 @@ mod canonical_list;
 mod canonical_owner;
 mod canonical_parts;
 mod canonical_record;
-mod chained_data;
 mod form_order;
 mod form_reader;
 mod form_span;
 mod header;
 mod item;
-mod item_reader;
-mod keyed_record;
+mod known_names;
 mod last_owner;
 mod laws;
 mod lowercase_fields;
 mod message;
+mod name_reader;
 mod owner_key;
 mod parser;
 mod plain_fields;
 mod push_laws;
+mod question_end;
 mod read_again;
-mod records;
 mod several_laws;
 mod unparsed_parts;
 
@@ -41,7 +40,7 @@ pub use builder::MessageBuilder;
 pub use canon_error::CanonError;
 pub use canonical_form::CanonicalForm;
 pub use canonical_forms::CanonicalForms;
-pub use canonical_list::{collapse, collapsed};
+pub use canonical_list::collapse;
 pub use canonical_record::CanonicalRecord;
 pub use form_reader::{FormsReader, read_forms, read_forms_by};
 pub use header::{Header, HeaderFlags, SectionCounts};
@@ -62,5 +61,4 @@ pub use read_again::{
     edns_records_are_built, edns_records_are_well_formed, layouts_are_read,
     prefixed_layouts_are_read, records_are_built, records_with_layouts_are_built,
 };
-pub use records::{put_canonical, read_records};
 pub use several_laws::first_refusals_in_words;

@@ -9,7 +9,7 @@ ghost use Rattle.dns_record.specs.Kinds.{field_in, fields_in};
 ghost use Rattle.dns_record.specs.FieldKinds.{is_name_kind, kind_of};
 ghost use Rattle.dns_message.specs.LowercaseFields.{KeepsField, PutsField, PutsFields, between};
 
-use crate::item_reader::ItemReader;
+use crate::name_reader::NameReader;
 use crate::plain_fields::after_field;
 use dns_chain::NameSpan;
 use dns_name::{CanonicalName, Name};
@@ -64,7 +64,7 @@ fn read_uncompressed_name(contents: &[u8], start: usize, buffer: &mut [u8]) -> O
 /// place where the name ends; `None` exactly if none is there. The buffer is of 255 octets. `AllocError` is out of memory.
 fn push_name(
     alloc: Global,
-    items: &mut ItemReader<'_>,
+    names: &mut NameReader<'_>,
     buffer: &mut [u8],
     rdata: &mut Vec<u8>,
     kind: FieldKind,
@@ -73,22 +73,22 @@ fn push_name(
 ) -> Result<Option<usize>, AllocError>
     requires named { is_name_kind kind ≡ true }
     requires start { start ≤ end }
-    requires within { end ≤ length items.old }
+    requires within { end ≤ length names.old }
     requires room { length buffer.old ≡ 255 }
-    ensures put { IfOk result (λ next. PutsField (field_in name_at (kind_of kind) (take end items.old) start) rdata.old.items next rdata.new.items) }
-    ensures unchanged { items.new ≡ items.old }
+    ensures put { IfOk result (λ next. PutsField (field_in name_at (kind_of kind) (take end names.old) start) rdata.old.items next rdata.new.items) }
+    ensures unchanged { names.new ≡ names.old }
     ensures room { length buffer.new ≡ 255 }
 {
     match kind {
         FieldKind::CompressibleName => {
-            let Some(span) = items.read_canonical_name(alloc, start, end, buffer)? else {
+            let Some(span) = names.read_canonical_name(alloc, start, end, buffer)? else {
                 return Ok(None);
             };
             rdata.extend_from_slice(&buffer[..span.size])?;
             Ok(Some(span.end))
         }
         _ => {
-            let contents = &items.contents()[..end];
+            let contents = &names.contents()[..end];
             let Some(span) = read_uncompressed_name(contents, start, buffer) else {
                 return Ok(None);
             };
@@ -119,7 +119,7 @@ fn push_between(
 /// once. Whether the fields are there, and the last ends at `end`. The buffer is of 255 octets. `AllocError` is out of memory.
 pub(crate) fn push_fields(
     alloc: Global,
-    items: &mut ItemReader<'_>,
+    names: &mut NameReader<'_>,
     buffer: &mut [u8],
     rdata: &mut Vec<u8>,
     kinds: &[FieldKind],
@@ -127,13 +127,13 @@ pub(crate) fn push_fields(
     end: usize,
 ) -> Result<bool, AllocError>
     requires start { start ≤ end }
-    requires within { end ≤ length items.old }
+    requires within { end ≤ length names.old }
     requires room { length buffer.old ≡ 255 }
-    ensures put { IfOk result (λ read. PutsFields (all_at (take end items.old) (fields_in name_at (map kind_of kinds.now) (take end items.old) start)) rdata.old.items read rdata.new.items) }
-    ensures unchanged { items.new ≡ items.old }
+    ensures put { IfOk result (λ read. PutsFields (all_at (take end names.old) (fields_in name_at (map kind_of kinds.now) (take end names.old) start)) rdata.old.items read rdata.new.items) }
+    ensures unchanged { names.new ≡ names.old }
     ensures room { length buffer.new ≡ 255 }
 {
-    let contents = &items.contents()[..end];
+    let contents = &names.contents()[..end];
     let mut at = start;
     let mut copied = start;
     for kind in kinds {
@@ -145,7 +145,7 @@ pub(crate) fn push_fields(
             continue;
         }
         push_between(rdata, contents, copied, at)?;
-        let Some(next) = push_name(alloc, items, buffer, rdata, *kind, at, end)? else {
+        let Some(next) = push_name(alloc, names, buffer, rdata, *kind, at, end)? else {
             return Ok(false);
         };
         at = next;

@@ -1,7 +1,7 @@
 //! Canonical forms of a message's records, and their order.
 
 use crate::assertions::holds;
-use dns_message::{CanonicalForms, collapse, read_records};
+use dns_message::{CanonicalForms, CanonicalRecord, MessageParser, collapse, read_forms};
 use std::alloc::Global;
 
 /// Four answers: an address of `A.` for 60 seconds, the same of `a.` for 59 and for 61, and another address.
@@ -41,10 +41,7 @@ fn first_left(alloc: Global, forms: &CanonicalForms, wanted: &[u8]) -> Option<(u
 
 /// The same of the forms of a message's records, and how many there are before.
 fn collapses(alloc: Global, message: &[u8], wanted: &[u8]) -> Option<(usize, usize, bool)> {
-    let Ok(records) = read_records(alloc, message) else {
-        return None;
-    };
-    match CanonicalForms::new(alloc).with_all(&records) {
+    match read_forms(alloc, message) {
         Ok(forms) => match first_left(alloc, &forms, wanted) {
             Some((left, is_wanted)) => Some((forms.len(), left, is_wanted)),
             None => None,
@@ -66,9 +63,34 @@ fn alike_forms_collapse_to_the_least_ttl(rt: HostRuntime) {
     );
 }
 
+/// The next item, as a record.
+fn next_record<'a>(parser: &mut MessageParser<'a>) -> Option<CanonicalRecord<'a>> {
+    match parser.next_item() {
+        Some((_, Ok(item))) => CanonicalRecord::of(item),
+        _ => None,
+    }
+}
+
+/// The records of a message up to the first item that is none.
+fn first_records(alloc: Global, message: &[u8]) -> Option<Vec<CanonicalRecord<'_>>> {
+    let Ok(mut parser) = MessageParser::new(message) else {
+        return None;
+    };
+    let mut records = Vec::new(alloc);
+    for _ in 0..6_000 {
+        let Some(found) = next_record(&mut parser) else {
+            break;
+        };
+        if records.push(found).is_err() {
+            return None;
+        }
+    }
+    Some(records)
+}
+
 /// How many records of a message are left, if alike ones count once.
 fn count_left(alloc: Global, message: &[u8]) -> Option<usize> {
-    let Ok(records) = read_records(alloc, message) else {
+    let Some(records) = first_records(alloc, message) else {
         return None;
     };
     match collapse(alloc, records) {

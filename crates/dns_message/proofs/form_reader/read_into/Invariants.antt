@@ -9,7 +9,7 @@ use Rattle.dns_message.proofs.form_reader.read_into.Given as goal
 
 -- the forms so far are those of the records so far
 abbrev pub invariant-loop-position : goal.invariant-loop-position
-invariant-loop-position l = record { read : (rs : List RecordValue) × ReadSoFar (data_by l.formats) l.message l.parser rs × (l.forms ≡ map sort_key rs); items : l.items ≡ drop 12 l.message; owner : WasRead l.items l.room.owner }
+invariant-loop-position l = record { read : (rs : List RecordValue) × ReadSoFar (data_by l.formats) l.message l.parser rs × (l.forms ≡ map sort_key rs); names : l.names ≡ drop 12 l.message; owner : WasRead l.names l.room.owner }
 
 abbrev pub decreases-loop-position : goal.decreases-loop-position
 decreases-loop-position l = length (slots_ahead l.parser)
