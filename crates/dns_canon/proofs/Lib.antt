@@ -9,7 +9,6 @@ pub mod PlainNames
 pub mod PrintedTexts
 pub mod PushedAnswers
 pub mod ReportedSameness
-pub mod SortedForms
 pub mod ExpectedStatuses
 pub mod WordLemmas
 pub mod Written

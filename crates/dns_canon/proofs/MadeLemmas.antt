@@ -1,36 +1,29 @@
 -- The message of `make`, record by record.
-use Rattle.std.proofs.Common.{◌≡◌, ℕ, zero, suc, ◌+◌, ◌*◌, ◌<◌, ◌≤◌, Bool, true, false, cond, List, [], ◌∷◌, ◌++◌, length, map, drop, refl, sym, ap, ◌∙◌, arith, add-zero, zero-add}
-use Rattle.std.specs.Prelude.{codes, decimal, replicate, set, filter, sum_by, nat_lt, slice_index, IsOk, Result, Ok, Err}
-use Rattle.std.specs.Int.{w16, w32, to_be_bytes}
-use Rattle.std.specs.List.{list_any, range_with_len, dedup, dedup_from}
+use Rattle.std.proofs.Common.{◌≡◌, ℕ, zero, suc, ◌+◌, ◌*◌, ◌<◌, ◌≤◌, List, [], ◌∷◌, ◌++◌, length, map, drop, refl, sym, ap, ◌∙◌, arith, add-zero, zero-add}
+use Rattle.std.specs.Prelude.{codes, decimal, replicate, set, sum_by, nat_lt, slice_index, IsOk, Result, Ok, Err}
+use Rattle.std.specs.Int.{w16, to_be_bytes}
+use Rattle.std.specs.List.{concat, list_any, range_with_len}
 use Rattle.std.proofs.lemmas.List.{length-append, map-append}
-use Rattle.std.proofs.lemmas.List.Recursion.{is_sum_by}
-use Rattle.std.proofs.lemmas.List.Sorted.{IsPermutation-map}
+use Rattle.std.proofs.lemmas.List.Concat.{concat_is, length-flat_map}
 use Rattle.dns_wire.specs.Compression.{FitsIn, CompressedWrite}
-use Rattle.dns_wire.specs.Names.{wire}
 use Rattle.dns_wire.specs.Layout.{list_writes}
 use Rattle.dns_wire.specs.LayoutLemmas.{list_writes-one, list_writes-append}
-use Rattle.dns_record.specs.Fields.{fields_octets}
-use Rattle.dns_message.proofs.Lengths.{canonical_wire_long}
 use Rattle.dns_message.specs.Building.{Draft, drafted, count_in, has_later, pushed, HasRoom, PushResults}
 use Rattle.dns_message.specs.Built.{built}
-use Rattle.dns_message.specs.Canonical.{lowercase_names, canonical_wire, is_not_opt, record_octets}
+use Rattle.dns_message.specs.Canonical.{lowercase_names}
 use Rattle.dns_message.specs.Messages.{RecordValue, Valid, counts_of, records_among}
 use Rattle.dns_message.specs.Messages.Item.{RecordItem}
 use Rattle.dns_message.specs.Messages.Reading.{Whole}
-use Rattle.dns_message.specs.Order.{in_order, are_alike, canonical_list}
+use Rattle.dns_message.specs.Order.{canonical_list}
 use Rattle.dns_message.specs.Pushes.Push.{Add}
-use Rattle.dns_message.specs.Sorted.{times}
 use Rattle.dns_message.specs.declared.build_error.MessageBuildError.{MessageBuildError}
 use Rattle.dns_message.specs.declared.build_error.MessageBuildError.TheVariants.{Misplaced, TooMany, Truncated}
 use Rattle.dns_message.proofs.Accepted.{push_fits}
 use Rattle.dns_message.proofs.OneReading.{valid_one}
-use Rattle.dns_message.proofs.Ordering.{in_order_moves}
 use Rattle.dns_message.proofs.Pushed.{counts_with, header_long, new_whole, records_of_record}
 use Rattle.dns_message.proofs.Repushed.{pushed_record}
 use Rattle.dns_message.proofs.CanonicalListSameness.{canonical_list_of_lowercased}
 use Rattle.dns_message.proofs.Shorter.{record_no_longer}
-use Rattle.dns_message.proofs.SortedRecords.{sums_permuted}
 use Rattle.dns_canon.specs.Generated.{generated, generated_record, made, made_line}
 use Rattle.dns_canon.specs.Making.{HasMade}
 use Rattle.dns_canon.proofs.GeneratedRecords.{generated_well_formed, generated_short}
@@ -159,46 +152,8 @@ valid_made n draft is = (records_among is.items, (is.items, length draft.content
 
 -- ---- the octets of the canonical list
 
-record_long : (r : RecordValue) → length (canonical_wire r) ≡ length (record_octets r)
-record_long r =
-    let body = fields_octets r.content in
-    let numbers = to_be_bytes w16 r.rtype ++ (to_be_bytes w16 r.class ++ to_be_bytes w32 r.ttl) in
-    omega (arith, canonical_wire_long r, length-append (wire r.owner) (numbers ++ (to_be_bytes w16 (length body) ++ body)))
-
-canonical_wire_short : (n first : ℕ) → first + n ≤ 1000 → times length (map canonical_wire (filter is_not_opt (map generated_record (range_with_len first n)))) ≤ 65 * n
-canonical_wire_short zero first few = omega arith
-canonical_wire_short (suc n) first few = by (is_not_opt (generated_record first)) (canonical_wire_short n (first + 1) (omega (arith, few))) where
-  later : List RecordValue
-  later = filter is_not_opt (map generated_record (range_with_len (first + 1) n))
-
-  by : (not_opt : Bool) → times length (map canonical_wire later) ≤ 65 * n → times length (map canonical_wire (cond not_opt (generated_record first ∷ later) later)) ≤ 65 * suc n
-  by true short = omega (arith, short, record_long (generated_record first), generated_short first (omega (arith, few)))
-  by false short = omega (arith, short)
-
--- if alike records are dropped there are no more octets
-octets_dropped : (E : RecordValue → RecordValue → Bool) (k : RecordValue) (rs : List RecordValue) → times length (map canonical_wire (dedup_from E k rs)) ≤ length (canonical_wire k) + times length (map canonical_wire rs)
-octets_dropped E k [] = omega arith
-octets_dropped E k (r ∷ rs) = by (E r k) (octets_dropped E k rs) (octets_dropped E r rs) where
-  by : (b : Bool) → times length (map canonical_wire (dedup_from E k rs)) ≤ length (canonical_wire k) + times length (map canonical_wire rs) → times length (map canonical_wire (dedup_from E r rs)) ≤ length (canonical_wire r) + times length (map canonical_wire rs)
-      → times length (map canonical_wire (cond b (dedup_from E k rs) (k ∷ dedup_from E r rs))) ≤ length (canonical_wire k) + (length (canonical_wire r) + times length (map canonical_wire rs))
-  by true one other = omega (arith, one)
-  by false one other = omega (arith, other)
-
-dropped_short : (E : RecordValue → RecordValue → Bool) (rs : List RecordValue) → times length (map canonical_wire (dedup E rs)) ≤ times length (map canonical_wire rs)
-dropped_short E [] = omega arith
-dropped_short E (r ∷ rs) = octets_dropped E r rs
-
-pub canonical_list_short : (n : ℕ) → n ≤ 1000 → sum_by length (canonical_list (generated n)) ≤ 65000
-canonical_list_short n few =
-    let not_opt = filter is_not_opt (generated n) in
-    omega (
-      arith,
-      few,
-      canonical_wire_short n 0 (omega (arith, few)),
-      dropped_short are_alike (in_order not_opt),
-      sums_permuted (map canonical_wire not_opt) (map canonical_wire (in_order not_opt)) (IsPermutation-map canonical_wire not_opt (in_order not_opt) (in_order_moves not_opt)) length,
-      is_sum_by (times length) length refl (λ _ _. refl) (canonical_list (generated n)),
-    )
+pub concat_long : (lists : List (List ℕ)) → length (concat lists) ≡ sum_by length lists
+concat_long lists = ap length (concat_is lists) ∙ length-flat_map (λ x. x) lists
 
 -- ---- the line
 

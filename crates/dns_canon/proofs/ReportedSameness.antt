@@ -1,37 +1,30 @@
 -- What equal canonical lists say of two messages.
-use Rattle.std.proofs.Common.{◌≡◌, ℕ, map, ◌⊎◌, inl, inr, Bool, true, false, List, [], ◌∷◌, ◌++◌, codes, refl, sym, ◌∙◌, subst}
+use Rattle.std.proofs.Common.{◌≡◌, ℕ, ◌⊎◌, inl, inr, Bool, true, false, List, [], ◌∷◌, ◌++◌, codes, refl, sym, ◌∙◌, subst}
 use Rattle.std.specs.Prelude.{◌↔◌}
-use Rattle.std.specs.Cmp.Lexicographic.{pointwise}
 use Rattle.dns_wire.specs.Hexadecimal.{Spells, trim}
 use Rattle.dns_message.specs.Messages.{RecordValue, Valid}
 use Rattle.dns_message.specs.Same.{Same}
 use Rattle.dns_wire.proofs.HexadecimalLemmas.{spelled_octets}
 use Rattle.dns_message.proofs.CanonicalListSameness.{message_outputs}
 use Rattle.dns_message.proofs.OneReading.{valid_one}
-use Rattle.std.specs.Ordering.{eq_by_cmp}
-use Rattle.dns_message.specs.Order.{SortKey, sort_key_cmp, sort_key, collapsed}
-use Rattle.std.specs.Prelude.{filter}
-use Rattle.dns_message.specs.Canonical.{is_not_opt}
+use Rattle.dns_message.specs.Order.{canonical_list}
 use Rattle.dns_canon.specs.Parts.{first_text, second_text}
-use Rattle.dns_canon.proofs.SortedForms.{forms_tie, same_in_order}
 use Rattle.dns_canon.specs.Run.{Prints, ReportsSameness}
 use Rattle.dns_canon.specs.declared.words.Command.TheVariants as command
 
 -- ---- what is reported
 
--- the word for the canonical forms of two messages, in order
-pub reported : (t u m n : List ℕ) (rs ss : List RecordValue) (forms others : List SortKey) (printed : List ℕ) → Spells t m → Spells u n → Valid m rs → Valid n ss → forms ≡ map sort_key (collapsed (filter is_not_opt rs)) → others ≡ map sort_key (collapsed (filter is_not_opt ss))
-    → (forms ≡ others → printed ≡ codes "same" ++ 10 ∷ []) → (¬ (forms ≡ others) → printed ≡ codes "different" ++ 10 ∷ [])
+-- the word for whether the canonical lists of two messages are the same
+pub reported : (t u m n : List ℕ) (rs ss : List RecordValue) (lists others : List (List ℕ)) (same : Bool) (printed : List ℕ) → Spells t m → Spells u n → Valid m rs → Valid n ss
+    → lists ≡ canonical_list rs → others ≡ canonical_list ss → (same ≡ true) ↔ (lists ≡ others) → (same ≡ true → printed ≡ codes "same" ++ 10 ∷ []) → (same ≡ false → printed ≡ codes "different" ++ 10 ∷ [])
     → ReportsSameness rs ss printed
-reported t u m n rs ss forms others printed first second valid also sorted sorted-too same different = by (pointwise (eq_by_cmp sort_key_cmp) forms others) refl where
-  are : (forms ≡ others) ↔ Same rs ss
-  are = same_in_order rs ss forms others sorted sorted-too (message_outputs m n rs ss (spelled_octets (trim t) m first) (spelled_octets (trim u) n second) valid also)
+reported t u m n rs ss lists others same printed first second valid also listed listed-too tested is_same is_different = by same tested is_same is_different where
+  equal : (canonical_list rs ≡ canonical_list ss) ↔ Same rs ss
+  equal = message_outputs m n rs ss (spelled_octets (trim t) m first) (spelled_octets (trim u) n second) valid also
 
-  by : (test : Bool) → pointwise (eq_by_cmp sort_key_cmp) forms others ≡ test → ReportsSameness rs ss printed
-  by true e = let equal = (forms_tie forms others).0 e in inl (are.0 equal, same equal)
-  by false e =
-      let other : ¬ (forms ≡ others) = λ equal. (let clash : false ≡ true = sym e ∙ (forms_tie forms others).1 equal in absurd cc) in
-      inr (λ s. other (are.1 s), different other)
+  by : (same : Bool) → (same ≡ true) ↔ (lists ≡ others) → (same ≡ true → printed ≡ codes "same" ++ 10 ∷ []) → (same ≡ false → printed ≡ codes "different" ++ 10 ∷ []) → ReportsSameness rs ss printed
+  by true tested is_same is_different = inl (equal.0 (sym listed ∙ tested.0 refl ∙ listed-too), is_same refl)
+  by false tested is_same is_different = inr (λ s. (let clash = tested.1 (listed ∙ equal.1 s ∙ sym listed-too) in absurd cc), is_different refl)
 
 -- ---- in words
 

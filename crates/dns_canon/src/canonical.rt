@@ -105,6 +105,6 @@ pub fn canonicalise(alloc: Global, message: &[u8]) -> Result<CanonList, CanonErr
 {
     let forms = read_forms(alloc, message)?;
     let order = forms.collapsed(alloc)?;
-    let lists = all_octets(alloc, &order)?;
+    let lists = all_octets(alloc, order.forms())?;
     Ok(CanonList { lists })
 }

@@ -1,12 +1,13 @@
 //! From words and a text to an answer.
 
-ghost use Rattle.std.specs.Prelude.{◌↔◌, true, false, ◌≡◌, ◌≢◌, ◌⊎◌, ◌+◌, ◌≤◌, [], ◌∷◌, ◌++◌, ℕ, List, codes, length, map, Some, None, IfOk, IfErr, IfSome, OnOk, IsOk, IsErr, MatchResult};
+ghost use Rattle.std.specs.Prelude.{◌↔◌, true, false, ◌≡◌, ◌≢◌, ◌⊎◌, ◌+◌, ◌≤◌, [], ◌∷◌, ◌++◌, ℕ, List, codes, length, map, Some, None, IfOk, IfErr, IfSome, IsTrue, OnOk, IsOk, IsErr, MatchResult};
 ghost use Rattle.dns_wire.specs.Outside.{Rose, HasCause, BecomesFlag, WritesPrefix, Puts};
 ghost use Rattle.std.specs.Io.KnownBytes.{Appends};
 ghost use Rattle.dns_wire.specs.Hexadecimal.{Spells};
 ghost use Rattle.dns_wire.specs.Octets.{Octets};
 ghost use Rattle.dns_message.specs.FormsRead.{forms_of};
 ghost use Rattle.dns_message.specs.Messages.{RecordValue, Valid};
+ghost use Rattle.dns_message.specs.Order.{octets_of_key};
 ghost use Rattle.dns_canon.specs.Run.{AllowedStatus, ended, Prints, WritesText, Empties};
 ghost use Rattle.dns_canon.specs.Statuses.{note_of};
 ghost use Rattle.dns_text.specs.Endings.{IsEmptied};
@@ -21,23 +22,26 @@ use crate::message::forms_in;
 use crate::parts::parted;
 use crate::status::Status;
 use crate::words::{Command, LIMIT_OF_TWO, Words};
-use dns_message::{CanonicalForm, CanonicalForms};
+use dns_message::{CanonicalForms, CanonicalList};
 use dns_text::{
     MESSAGE_TEXT_LIMIT, Notice, READ_CHUNK, octets_of, put_notice, put_text, read_text,
 };
 use dns_wire::{Failed, Sink, Source};
 use std::alloc::Global;
 
-/// The word for the canonical forms of two messages in order, and LF. Both lists are walked side by side.
-fn sameness(forms: &[CanonicalForm<'_>], others: &[CanonicalForm<'_>]) -> &'static [u8]
-    ensures same { (forms.now ≡ others.now) → result.now ≡ codes "same" ++ 10 ∷ [] }
-    ensures different { ¬ (forms.now ≡ others.now) → result.now ≡ codes "different" ++ 10 ∷ [] }
+/// Whether two canonical lists are the same. Each borrows forms of its own.
+fn are_same(list: &CanonicalList<'_>, other: &CanonicalList<'_>) -> bool
+    ensures { IsTrue result ↔ (map octets_of_key list.now ≡ map octets_of_key other.now) }
 {
-    if forms == others {
-        b"same\n"
-    } else {
-        b"different\n"
-    }
+    *list == *other
+}
+
+/// The word for whether two messages carry the same records, and LF.
+fn sameness(same: bool) -> &'static [u8]
+    ensures same { same ≡ true → result.now ≡ codes "same" ++ 10 ∷ [] }
+    ensures different { same ≡ false → result.now ≡ codes "different" ++ 10 ∷ [] }
+{
+    if same { b"same\n" } else { b"different\n" }
 }
 
 /// The line for the text of two messages: `same` if they carry the same records, and else `different`.
@@ -54,7 +58,7 @@ fn same_line(alloc: Global, text: &[u8]) -> Result<&'static [u8], Status>
     let second_forms = forms_in(alloc, &second_message, 1)?;
     let first_order = first_forms.collapsed(alloc)?;
     let second_order = second_forms.collapsed(alloc)?;
-    Ok(sameness(&first_order, &second_order))
+    Ok(sameness(are_same(&first_order, &second_order)))
 }
 
 /// What came of writing.
@@ -94,7 +98,7 @@ fn put_canon<K: Sink>(alloc: Global, text: &[u8], sink: &mut K) -> Result<(), St
     let forms = forms_of_text(alloc, text)?;
     let order = forms.collapsed(alloc)?;
     let mut lines = LineBuffer::new(alloc)?;
-    written(put_forms(sink, &order, &mut lines))
+    written(put_forms(sink, order.forms(), &mut lines))
 }
 
 /// Writes the line for the text of two messages.

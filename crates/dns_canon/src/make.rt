@@ -1,7 +1,6 @@
 //! The message of generated records.
 
-ghost use Rattle.std.specs.Prelude.{◌≡◌, ◌≤◌, ◌<◌, ◌+◌, ◌/◌, ◌%◌, ◌^◌, [], ◌∷◌, length, map, sum_by, IfOk, OnOk, IfErr};
-ghost use Rattle.dns_message.specs.Order.{octets_of_key};
+ghost use Rattle.std.specs.Prelude.{◌≡◌, ◌≤◌, ◌<◌, ◌+◌, ◌/◌, ◌%◌, [], ◌∷◌, IfOk, OnOk, IfErr};
 ghost use Rattle.dns_record.specs.CharStrs.{charstr_wire};
 ghost use Rattle.dns_rdata.specs.Data.{type_number};
 ghost use Rattle.dns_message.specs.Seen.{data_seen};
@@ -12,7 +11,7 @@ ghost use Rattle.dns_canon.specs.declared.words.TheConstants.{MOST_RECORDS};
 use crate::message::forms_in;
 use crate::status::Status;
 use dns_basic::{Mx, Ns};
-use dns_message::{CanonicalForm, HeaderFlags, MAX_MESSAGE_SIZE, MessageBuilder};
+use dns_message::{HeaderFlags, MAX_MESSAGE_SIZE, MessageBuilder};
 use dns_name::NameBuf;
 use dns_num::U16;
 use dns_plain::{A, Txt};
@@ -53,18 +52,10 @@ fn line_on(alloc: Global, builder: &MessageBuilder<'_>, count: u16) -> Result<Ve
     let line = format!(in alloc;
         "records {} octets {} message {}\n",
         order.len(),
-        octets_in(&order),
+        order.octet_count(),
         message.len()
     )?;
     Ok(line.into_bytes())
-}
-
-/// The number of octets of all the forms.
-fn octets_in(forms: &[CanonicalForm<'_>]) -> usize
-    requires { sum_by length (map octets_of_key forms.now) < 2 ^ 64 }
-    ensures { result ≡ sum_by length (map octets_of_key forms.now) }
-{
-    forms.iter().map(|form| form.octets().len()).sum()
 }
 
 /// Adds the records of the numbers below `count` as answers.

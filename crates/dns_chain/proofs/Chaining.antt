@@ -1,13 +1,13 @@
 -- Names that are read through chains of pointers.
-use Rattle.std.proofs.Common.{◌≡◌, ℕ, ◌+◌, ◌<◌, ◌≤◌, List, length, take, Some, sym, ◌∙◌, arith}
+use Rattle.std.proofs.Common.{◌≡◌, ℕ, ◌+◌, ◌<◌, ◌≤◌, List, length, take, Some, inl, inr, subst, sym, arith}
 use Rattle.std.specs.Prelude.{slice_index}
+use Rattle.std.proofs.lemmas.Bool.{cases_lt}
 use Rattle.std.proofs.lemmas.List.{get_or-take, length-take}
-use Rattle.dns_wire.specs.declared.name_cursor.LabelType.TheVariants.{Root, Label, Pointer}
+use Rattle.dns_wire.specs.declared.name_cursor.LabelType.TheVariants.{Pointer}
 use Rattle.dns_wire.specs.Pointers.{label_type_at}
 use Rattle.dns_wire.proofs.Following.{label_type_is, label_type_pointer}
 use Rattle.dns_name.proofs.Followed.{Followed, followed_pointer}
-use Rattle.dns_chain.specs.Chains.{Leads, IsFinal, ChainedFrom}
-use Rattle.dns_chain.specs.Chains.ChainedFrom.{at_label, at_pointer, to_pointer}
+use Rattle.dns_chain.specs.Chains.{AreFinalTargets, Leads, IsFinal}
 use Rattle.dns_chain.specs.Chains.Leads.{stays, leads}
 
 -- a pointer is the same where fewer octets are read
@@ -42,25 +42,15 @@ leads_back contents at final (leads {target = target} is later) =
 pub final_pointer : (contents : List ℕ) (at target final : ℕ) → label_type_at contents at at ≡ Some (Pointer target) → IsFinal contents target final → IsFinal contents at final
 final_pointer contents at target final is f = record { reached = leads is f.reached; last = f.last }
 
--- ---- chains that are met on the way
+-- where no octet from 192 up is, there is no pointer
+pub no_pointer : (contents : List ℕ) (at : ℕ) → (at < length contents → slice_index contents at < 192) → IsFinal contents at at
+no_pointer contents at low =
+    record { reached = stays; last = λ target is. let p = label_type_is contents at at (Pointer target) is in absurd (omega (arith, p.0, low (omega (arith, p.1)))) }
 
-pub chained_label : (contents : List ℕ) (start at size : ℕ) → label_type_at contents start at ≡ Some (Label size) → ChainedFrom contents start at → ChainedFrom contents start (at + 1 + size)
-chained_label contents start at size is (at_label {size = other} also later) =
-    let same : other ≡ size = (let h = sym also ∙ is in cc) in
-    rw same at later
-chained_label contents start at size is (at_pointer also later) = absurd (let h = sym also ∙ is in cc)
-chained_label contents start at size is (to_pointer also high) = absurd (let h = sym also ∙ is in cc)
-
-pub chained_pointer : (contents : List ℕ) (start at target : ℕ) → label_type_at contents start at ≡ Some (Pointer target) → slice_index contents target < 192 → ChainedFrom contents start at → ChainedFrom contents target target
-chained_pointer contents start at target is low (at_label also later) = absurd (let h = sym also ∙ is in cc)
-chained_pointer contents start at target is low (at_pointer {target = other} also later) =
-    let same : other ≡ target = (let h = sym also ∙ is in cc) in
-    rw same at later
-chained_pointer contents start at target is low (to_pointer {target = other} also high) =
-    let same : other ≡ target = (let h = sym also ∙ is in cc) in
-    absurd (omega (arith, low, rw same at high))
-
-pub chained_root : (contents : List ℕ) (start at : ℕ) → label_type_at contents start at ≡ Some Root → ¬ ChainedFrom contents start at
-chained_root contents start at is (at_label also later) = absurd (let h = sym also ∙ is in cc)
-chained_root contents start at is (at_pointer also later) = absurd (let h = sym also ∙ is in cc)
-chained_root contents start at is (to_pointer also high) = absurd (let h = sym also ∙ is in cc)
+-- the target in the table, or the place itself after its end
+pub target_reached : (contents targets : List ℕ) (place target : ℕ) → AreFinalTargets contents targets → (place < length targets → target ≡ slice_index targets place) → (length targets ≤ place → target ≡ place) → Leads contents place target
+target_reached contents targets place target are found past =
+    elim (cases_lt place (length targets)) [
+      | inl before ↦ subst (Leads contents place) (sym (found before)) (are.final place before).reached
+      | inr late ↦ subst (Leads contents place) (sym (past late)) stays
+    ]

@@ -1,8 +1,8 @@
 -- Chains of pointers: compression pointers that lead to pointers (RFC 1035 section 4.1.4). Places are those of the octets after the header.
-use Rattle.std.specs.Prelude.{◌≡◌, ℕ, ◌+◌, ◌<◌, ◌≤◌, length, min, slice_index, Some}
+use Rattle.std.specs.Prelude.{◌≡◌, ℕ, ◌+◌, ◌<◌, length, min, slice_index, Some}
 use Rattle.dns_wire.specs.Octets.{Octets, Places}
-use Rattle.dns_wire.specs.declared.name_cursor.LabelType.TheVariants.{Label, Pointer}
-use Rattle.dns_wire.specs.declared.sizes.TheConstants.{LAST_PLACE, POINTER_TAG}
+use Rattle.dns_wire.specs.declared.name_cursor.LabelType.TheVariants.{Pointer}
+use Rattle.dns_wire.specs.declared.sizes.TheConstants.{LAST_PLACE}
 use Rattle.dns_wire.specs.Pointers.{label_type_at}
 
 -- From the place on there are pointers alone, each at the target of the one before it, and the last leads to `final`. Of no pointer it is the
@@ -24,9 +24,3 @@ AreFinal contents targets = (at : ℕ) → at < length targets → IsFinal conte
 pub record AreFinalTargets (contents : Octets) (targets : Places) : Type 0 where
   pub count : length targets ≡ min (length contents) (LAST_PLACE + 1)
   pub final : AreFinal contents targets
-
--- a pointer that is met on the way from a place of a segment on leads to an octet that begins a pointer
-pub data ChainedFrom (contents : Octets) : ℕ → ℕ → Type 0 where
-  at_label : {start at size : ℕ} → label_type_at contents start at ≡ Some (Label size) → ChainedFrom contents start (at + 1 + size) → ChainedFrom contents start at
-  at_pointer : {start at target : ℕ} → label_type_at contents start at ≡ Some (Pointer target) → ChainedFrom contents target target → ChainedFrom contents start at
-  to_pointer : {start at target : ℕ} → label_type_at contents start at ≡ Some (Pointer target) → POINTER_TAG ≤ slice_index contents target → ChainedFrom contents start at

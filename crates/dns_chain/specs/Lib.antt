@@ -1,4 +1,3 @@
 -- What the contracts on chains of pointers cite.
 pub mod CanonicalNames
 pub mod Chains
-pub mod OwnLabels

@@ -1,26 +1,24 @@
 //! Where the pointers of a message lead in the end.
 
-ghost use Rattle.std.specs.Prelude.{◌≡◌, ◌≤◌, ◌<◌, ℕ, length, slice_index, take, IfOk};
-ghost use Rattle.dns_wire.specs.Octets.{Octets};
-ghost use Rattle.dns_wire.specs.Reading.{Gives};
-ghost use Rattle.dns_wire.specs.Pointers.{name_at};
+ghost use Rattle.std.specs.Prelude.{◌≡◌, ◌≤◌, ◌<◌, length, slice_index, IfOk, IfSome, IsFalse};
 ghost use Rattle.dns_wire.specs.declared.sizes.TheConstants.{LAST_PLACE};
-ghost use Rattle.dns_chain.specs.Chains.{AreFinal, IsFinal, Leads};
+ghost use Rattle.dns_chain.specs.Chains.{AreFinal, AreFinalTargets, IsFinal, Leads};
 
-use dns_name::{Name, NameBuf};
-use dns_wire::{LAST_PLACE, LabelType, NameCursor, ParseError, copy_at, read_label_type};
+use dns_wire::{LAST_PLACE, LabelType, POINTER_TAG, read_label_type};
 use std::alloc::{AllocError, Global};
 use std::marker::Model;
 
 /// The final targets of the places of a message's contents: where a pointer to the place leads, through all pointers that follow
-/// one another. It takes two octets for each octet of the contents, 32,744 at most, and is seen as the contents.
+/// one another. They are found at once for all places when the first pointer to a pointer is met, and then take two octets for each octet
+/// of the contents, 32,744 at most. It is seen as the contents.
 #[derive(Drop)]
 pub struct FinalTargets<'a> {
     contents: &'a [u8],
-    targets: Vec<u16>,
+    targets: Option<Vec<u16>>,
 }
 
 impl<'a> Model for FinalTargets<'a> {
+    ghost use Rattle.std.specs.Prelude.{IfSome};
     ghost use Rattle.dns_wire.specs.Octets.{Octets};
     ghost use Rattle.dns_chain.specs.Chains.{AreFinalTargets};
 
@@ -28,7 +26,7 @@ impl<'a> Model for FinalTargets<'a> {
 
     ghost view = { λ t. t.contents.now };
 
-    ghost invariant = { λ t. AreFinalTargets t.contents.now t.targets.items };
+    ghost invariant = { λ t. IfSome t.targets (λ targets. AreFinalTargets t.contents.now targets.items) };
 }
 
 /// The final target of a place, after the places whose final targets these are.
@@ -46,67 +44,86 @@ fn final_target_after(contents: &[u8], targets: &[u16], place: u16) -> u16
     }
 }
 
+/// The final targets of the places of a message's contents to which a pointer can lead.
+fn find_final_targets(alloc: Global, contents: &[u8]) -> Result<Vec<u16>, AllocError>
+    ensures { IfOk result (λ targets. AreFinalTargets contents.now targets.items) }
+{
+    let count = contents.len().min(LAST_PLACE + 1);
+    let mut targets = Vec::with_capacity(alloc, count)?;
+    for place in 0..count as u16 {
+        let target = final_target_after(contents, &targets, place);
+        targets.push(target)?;
+    }
+    Ok(targets)
+}
+
+/// The final targets that were found before, or else those of the contents.
+fn found_or_new(
+    alloc: Global,
+    contents: &[u8],
+    found: Option<Vec<u16>>,
+) -> Result<Vec<u16>, AllocError>
+    requires { IfSome found (λ targets. AreFinalTargets contents.now targets.items) }
+    ensures { IfOk result (λ targets. AreFinalTargets contents.now targets.items) }
+{
+    match found {
+        Some(targets) => Ok(targets),
+        None => find_final_targets(alloc, contents),
+    }
+}
+
+/// Whether a pointer may be at the place: an octet from 192 up is there.
+fn has_pointer(contents: &[u8], place: usize) -> bool
+    ensures none { IsFalse result → IsFinal contents.now place place }
+{
+    if contents.len() <= place {
+        return false;
+    }
+    contents[place] >= POINTER_TAG
+}
+
+/// The target at the place, or the place itself if it is after all of them.
+fn target_at(targets: &[u16], place: usize) -> usize
+    ensures found { place < length targets.now → result ≡ slice_index targets.now place }
+    ensures after { length targets.now ≤ place → result ≡ place }
+{
+    match targets.get(place) {
+        Some(target) => usize::from(*target),
+        None => place,
+    }
+}
+
 impl<'a> FinalTargets<'a> {
-    /// The final targets of the contents of a message, which are the octets after its header. `AllocError` is out of memory.
-    pub fn new(alloc: Global, contents: &'a [u8]) -> Result<FinalTargets<'a>, AllocError>
-        ensures { IfOk result (λ t. t ≡ contents.entry.now) }
+    /// The contents of a message, which are the octets after its header, before a pointer is met. It takes no memory.
+    pub fn new(contents: &'a [u8]) -> FinalTargets<'a>
+        ensures { result ≡ contents.entry.now }
     {
-        let count = contents.len().min(LAST_PLACE + 1);
-        let mut targets = Vec::with_capacity(alloc, count)?;
-        for place in 0..count as u16 {
-            let target = final_target_after(contents, &targets, place);
-            targets.push(target)?;
-        }
-        Ok(FinalTargets { contents, targets })
-    }
-
-    /// Where a pointer to the place leads in the end. To a place after the contents or after the last one there is no pointer.
-    fn final_target(&self, place: usize) -> usize
-        ensures reached { Leads self.now place result }
-        ensures last { place < length self.now → place ≤ LAST_PLACE → IsFinal self.now place result }
-    {
-        match self.targets.get(place) {
-            Some(target) => usize::from(*target),
-            None => place,
+        FinalTargets {
+            contents,
+            targets: None,
         }
     }
 
-    /// Reads the name at a place of the contents, of which only those up to `end` are read, and gives the place where it ends. Each of its pointers
-    /// is followed to its final target at once. `ParseError` comes exactly if no name is there (RFC 1035 section 4.1.4).
-    pub(crate) fn split_name(
-        &self,
-        start: usize,
-        end: usize,
-    ) -> Result<(NameBuf, usize), ParseError>
-        requires { end ≤ length self.now }
-        ensures exact { Gives (λ x. (x.0, x.1)) result (name_at (take end self.now) start) }
-        ensures within { IfOk result (λ x. (start ≤ x.1) × (x.1 ≤ end)) }
+    /// The contents.
+    pub fn contents(&self) -> &'a [u8]
+        ensures { result.now ≡ self.now }
     {
-        let contents = &self.contents[..end];
-        let mut buffer = [0; Name::MAX_SIZE];
-        let mut size = 0;
-        let mut cursor = NameCursor::new(start);
-        loop {
-            let at = cursor.at;
-            match cursor.next_label_type(contents)? {
-                LabelType::Root => {
-                    copy_at(&[0], &mut buffer, size);
-                    let name = NameBuf::from_buffer(buffer, size + 1);
-                    return Ok((name, cursor.end.unwrap()));
-                }
-                LabelType::Label(label) => {
-                    if size + 1 + label >= Name::MAX_SIZE {
-                        return Err(ParseError);
-                    }
-                    copy_at(&contents[at..at + 1 + label], &mut buffer, size);
-                    size += 1 + label;
-                }
-                LabelType::Pointer(target) => {
-                    let place = self.final_target(target);
-                    cursor.start = place;
-                    cursor.at = place;
-                }
-            }
+        self.contents
+    }
+
+    /// Where a pointer to the place leads in the end. To a place after the contents or after the last one there is no pointer. `AllocError`
+    /// is out of memory for the final targets.
+    pub(crate) fn final_target(&mut self, alloc: Global, place: usize) -> Result<usize, AllocError>
+        ensures reached { IfOk result (Leads self.new place) }
+        ensures last { IfOk result (λ target. place < length self.new → place ≤ LAST_PLACE → IsFinal self.new place target) }
+        ensures unchanged { self.new ≡ self.old }
+    {
+        if !has_pointer(self.contents, place) {
+            return Ok(place);
         }
+        let targets = found_or_new(alloc, self.contents, self.targets.take())?;
+        let target = target_at(&targets, place);
+        self.targets = Some(targets);
+        Ok(target)
     }
 }

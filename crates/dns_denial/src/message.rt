@@ -181,5 +181,5 @@ pub(crate) fn text_in(
 {
     let forms = forms_in(alloc, message)?;
     let order = forms.collapsed(alloc)?;
-    text_of(alloc, command, &order)
+    text_of(alloc, command, order.forms())
 }

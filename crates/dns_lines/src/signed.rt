@@ -134,7 +134,7 @@ pub(crate) fn add_signed(
 {
     let forms = reader.read_forms_by(alloc, line, Formats::Listed)?;
     let order = forms.collapsed(alloc)?;
-    let lines = signature_lines(alloc, &order)?;
+    let lines = signature_lines(alloc, order.forms())?;
     answers.extend_from_slice(&lines)?;
     Ok(())
 }

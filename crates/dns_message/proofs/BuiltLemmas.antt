@@ -1,10 +1,9 @@
 -- Records that were built in a message are read again.
-use Rattle.std.proofs.Common.{◌≡◌, ℕ, ◌+◌, ◌*◌, ◌<◌, ◌≤◌, ◌^◌, Bool, true, false, cond, ltb, List, [], ◌∷◌, ◌++◌, length, take, drop, Option, Some, None, refl, sym, ap, subst, ◌∙◌, append_assoc, arith}
+use Rattle.std.proofs.Common.{◌≡◌, ℕ, ◌+◌, ◌-◌, ◌*◌, ◌<◌, ◌≤◌, ◌^◌, Bool, true, false, cond, List, [], ◌∷◌, ◌++◌, length, take, drop, Option, Some, None, refl, sym, ap, subst, ◌∙◌, append_assoc, arith}
 use Rattle.std.specs.Prelude.{map, unwrap_or, ◌==◌, ◌&&◌, ◌||◌, not}
 use Rattle.std.specs.Cmp.{first_so, second_so}
 use Rattle.std.specs.Int.{Width, w16, w32, byte_len, to_be_bytes}
 use Rattle.std.specs.List.{AllByRecursion}
-use Rattle.std.proofs.lemmas.Bool.{le-ltb}
 use Rattle.std.proofs.lemmas.Bool.Decides.{nat_tests}
 use Rattle.std.proofs.lemmas.List.{drop_at, take_at, drop_all, length-append, length-take, append-nil}
 use Rattle.dns_wire.specs.Compression.{FitsIn, ReadsAlike, longest_recorded, cut_at, compress, recorded}
@@ -31,11 +30,12 @@ use Rattle.dns_record.specs.InMessage.{fixed_header}
 use Rattle.dns_record.specs.InPlace.{OctetsAt}
 use Rattle.dns_record.specs.Kinds.{Kind, field_of, field_in, fields_in}
 use Rattle.dns_record.specs.Questions.{question_in}
-use Rattle.dns_record.specs.Records.{record_in, end_of}
+use Rattle.dns_record.specs.Records.{Parts, parts_at, record_in}
 use Rattle.dns_record.specs.Formats.{rdata_format, rdata_formats, format_under, format_unknown}
 use Rattle.dns_record.specs.Types.{is_lowercased}
 use Rattle.dns_record.proofs.UncompressedNames.{is_uncompressed, all_uncompressed, field_placed}
-use Rattle.dns_record.proofs.Places.{in_prefix, read_placed, read_at}
+use Rattle.dns_record.proofs.PartsLemmas.{parts_found_at}
+use Rattle.dns_record.proofs.Places.{in_prefix, number_at, read_placed, read_at}
 use Rattle.dns_message.specs.Built.{field_part, ReadAgain, QuestionAgain}
 use Rattle.dns_message.specs.Messages.{RecordValue}
 use Rattle.dns_message.specs.WellFormed.{WellFormed}
@@ -336,14 +336,46 @@ module _ (r : RecordValue) (c places more : List ℕ) (is : WellFormed r) (fits 
     whole_at : (l : List ℕ) (fs : List Field) → all_at l (Some (fs, length l)) ≡ Some fs
     whole_at l fs = let same : (length l == length l) ≡ true = grind (arith, nat_tests) in rw same refl
 
-  end_read : end_of d at (length inner) ≡ Some end
-  end_read = let fits_in : ltb (length d) end ≡ false = le-ltb _ _ (omega (arith, end_is, length-append (c ++ o) more)) in rw fits_in refl
+  fifth : d ≡ (((((c ++ p) ++ a) ++ b) ++ t) ++ size) ++ (inner ++ more)
+  fifth = fourth ∙ sym (append_assoc ((((c ++ p) ++ a) ++ b) ++ t) size (inner ++ more))
+
+  at_long : length (((((c ++ p) ++ a) ++ b) ++ t) ++ size) ≡ at
+  at_long = omega (arith, length-append ((((c ++ p) ++ a) ++ b) ++ t) size, length-append (((c ++ p) ++ a) ++ b) t, length-append ((c ++ p) ++ a) b, length-append (c ++ p) a, middle_is)
+
+  inner_at : OctetsAt d at inner end
+  inner_at = record {
+    end_is = refl;
+    within = omega (arith, end_is, length-append (c ++ o) more);
+    occur = sym (ap (take (length inner)) (ap (drop at) fifth ∙ drop_at (((((c ++ p) ++ a) ++ b) ++ t) ++ size) (inner ++ more) at at_long) ∙ take_at inner more (length inner) refl);
+  }
+
+  abbrev parts : Parts
+  parts = record { rtype = r.rtype; class = r.class; ttl = r.ttl; content = inner }
+
+  parts_read : plain_at parts_at d middle ≡ Some (parts, end)
+  parts_read = parts_found_at d middle parts end (record {
+    type_end = middle + 2;
+    class_end = middle + 2 + 2;
+    ttl_end = middle + 2 + 2 + 4;
+    size_end = at;
+    rtype = number_at w16 d middle r.rtype (middle + 2) rtype_read;
+    class = number_at w16 d (middle + 2) r.class (middle + 2 + 2) class_read;
+    ttl = number_at w32 d (middle + 2 + 2) r.ttl (middle + 2 + 2 + 4) ttl_read;
+    size = number_at w16 d (middle + 2 + 2 + 4) (length inner) at size_read;
+    content = inner_at;
+  })
+
+  data_begin : end - length inner ≡ at
+  data_begin = omega arith
+
+  content_read : data_in name_at r.rtype (take end d) (end - length inner) ≡ Some fields_again.fields
+  content_read = ap (data_in name_at r.rtype (take end d)) data_begin ∙ data_read
 
   record_again : ReadAgain d (length c) r end
   unfolding record_in
   record_again = record {
     there = record { owner = owner_read.there; rtype = r.rtype; class = r.class; ttl = r.ttl; content = fields_again.fields };
-    read = rw (name_at_finds d (length c) owner_read.there middle owner_read.name, rtype_read, class_read, ttl_read, size_read, end_read, data_read) refl;
+    read = rw (name_at_finds d (length c) owner_read.there middle owner_read.name, parts_read, content_read) refl;
     alike = λ i. record { owner = owner_read.alike i; rtype = r.rtype; class = r.class; ttl = r.ttl; content = content_lowercases r.rtype fields_again.fields r.content fields_again.alike fields_again.same i };
   }
 

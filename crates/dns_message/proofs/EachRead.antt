@@ -1,17 +1,16 @@
 -- Each record of a message that is read whole: its data were read.
-use Rattle.std.proofs.Common.{◌≡◌, ℕ, Bool, true, false, cond, List, [], ◌∷◌, length, drop, take, Option, Some, None, refl, sym, subst}
+use Rattle.std.proofs.Common.{◌≡◌, ℕ, ◌-◌, Bool, true, false, cond, List, [], ◌∷◌, length, drop, take, Option, Some, None, refl, sym, subst}
 use Rattle.std.specs.Prelude.{◌==◌, nat_lt}
-use Rattle.std.specs.Int.{w16, w32}
 use Rattle.std.specs.List.{All, AllByRecursion}
 use Rattle.std.proofs.lemmas.List.Elements.{All-from_recursion}
 use Rattle.std.proofs.lemmas.Option.{some_pair_parts}
 use Rattle.dns_wire.specs.Pointers.{name_at}
-use Rattle.dns_wire.specs.Reading.{number, plain_at}
+use Rattle.dns_wire.specs.Reading.{plain_at}
 use Rattle.dns_wire.specs.ReadingLemmas.{put_some, then_some}
 use Rattle.dns_wire.specs.Steps.{first_to}
 use Rattle.dns_record.specs.FurtherFormats.{DataReading}
 use Rattle.dns_record.specs.Questions.{question_in}
-use Rattle.dns_record.specs.Records.{end_of, record_in}
+use Rattle.dns_record.specs.Records.{parts_at, record_in, record_of}
 use Rattle.dns_message.specs.Messages.{Item, RecordValue, ValidBy, counted_slots, item_by, message_by, reading_by, records_among, then_read}
 use Rattle.dns_message.specs.Messages.Item.{QuestionItem, RecordItem}
 use Rattle.dns_message.specs.Messages.Reading.{Short, Whole}
@@ -26,14 +25,11 @@ module _ (reads : DataReading) where
   unfolding record_in
   record_read contents at r end e =
       let a = then_some (name_at contents at) _ _ e in
-      let b = then_some (plain_at (number w16) contents a.0.1) _ _ a.2 in
-      let c = then_some (plain_at (number w16) contents b.0.1) _ _ b.2 in
-      let d = then_some (plain_at (number w32) contents c.0.1) _ _ c.2 in
-      let s = then_some (plain_at (number w16) contents d.0.1) _ _ d.2 in
-      let o = then_some (end_of contents s.0.1 s.0.0) _ _ s.2 in
-      let v = then_some (reads b.0.0 (take o.0 contents) s.0.1) _ _ o.2 in
-      let same = some_pair_parts (record { owner = a.0.0; rtype = b.0.0; class = c.0.0; ttl = d.0.0; content = v.0 }) r o.0 end v.2 in
-      (take o.0 contents, s.0.1, subst (λ (x : RecordValue). reads x.rtype (take o.0 contents) s.0.1 ≡ Some x.content) same.0 v.1)
+      let p = then_some (plain_at parts_at contents a.0.1) _ _ a.2 in
+      let start = p.0.1 - length p.0.0.content in
+      let v = then_some (reads p.0.0.rtype (take p.0.1 contents) start) _ _ p.2 in
+      let same = some_pair_parts (record_of a.0.0 p.0.0 v.0) r p.0.1 end v.2 in
+      (take p.0.1 contents, start, subst (λ (x : RecordValue). reads x.rtype (take p.0.1 contents) start ≡ Some x.content) same.0 v.1)
 
   item_read : (section : ℕ) (contents : List ℕ) (at : ℕ) (r : RecordValue) (end : ℕ) → item_by reads section contents at ≡ Some (RecordItem r, end) → IsReadBy reads r
   unfolding item_by

@@ -1,19 +1,18 @@
 -- A message without records of the further types is read alike by both tables of formats.
-use Rattle.std.proofs.Common.{◌≡◌, ℕ, Bool, true, false, cond, List, [], ◌∷◌, length, drop, take, Option, Some, None, refl, sym, ap, subst, ◌∙◌}
+use Rattle.std.proofs.Common.{◌≡◌, ℕ, ◌-◌, Bool, true, false, cond, List, [], ◌∷◌, length, drop, take, Option, Some, None, refl, sym, ap, subst, ◌∙◌}
 use Rattle.std.specs.Prelude.{◌↔◌, ◌==◌, nat_lt}
-use Rattle.std.specs.Int.{w16, w32}
 use Rattle.std.specs.List.{All, AllByRecursion}
 use Rattle.std.proofs.lemmas.List.Elements.{recursion_from_All}
 use Rattle.std.proofs.lemmas.Option.{some_pair_parts}
 use Rattle.dns_wire.specs.Pointers.{name_at}
-use Rattle.dns_wire.specs.Reading.{number, plain_at}
+use Rattle.dns_wire.specs.Reading.{plain_at}
 use Rattle.dns_wire.specs.ReadingLemmas.{put_some, then_some}
 use Rattle.dns_wire.specs.Steps.{first_to}
 use Rattle.dns_record.specs.Data.{data_in}
 use Rattle.dns_record.specs.FurtherFormats.{DataReading, data_by, data_or, further_by}
 use Rattle.dns_record.specs.Kinds.{Kind}
 use Rattle.dns_record.specs.Questions.{question_in}
-use Rattle.dns_record.specs.Records.{end_of, record_in}
+use Rattle.dns_record.specs.Records.{parts_at, record_in, record_of}
 use Rattle.dns_record.specs.declared.formats.Formats.TheVariants.{Listed}
 use Rattle.dns_message.specs.Messages.{Item, Reading, RecordValue, Valid, ValidBy, counted_slots, item_by, message_by, reading_by, records_among, then_read, with_item}
 use Rattle.dns_message.specs.Messages.Item.{QuestionItem, RecordItem}
@@ -28,16 +27,14 @@ record_alike : (reads others : DataReading) (contents : List ℕ) (at : ℕ) (r 
 unfolding record_in
 record_alike reads others contents at r end e agree =
     let a = then_some (name_at contents at) _ _ e in
-    let b = then_some (plain_at (number w16) contents a.0.1) _ _ a.2 in
-    let c = then_some (plain_at (number w16) contents b.0.1) _ _ b.2 in
-    let d = then_some (plain_at (number w32) contents c.0.1) _ _ c.2 in
-    let s = then_some (plain_at (number w16) contents d.0.1) _ _ d.2 in
-    let o = then_some (end_of contents s.0.1 s.0.0) _ _ s.2 in
-    let v = then_some (reads b.0.0 (take o.0 contents) s.0.1) _ _ o.2 in
-    let same = some_pair_parts (record { owner = a.0.0; rtype = b.0.0; class = c.0.0; ttl = d.0.0; content = v.0 }) r o.0 end v.2 in
-    let here : Agree reads others b.0.0 = subst (Agree reads others) (sym (ap (λ (found : RecordValue). found.rtype) same.0)) agree in
-    let other : others b.0.0 (take o.0 contents) s.0.1 ≡ Some v.0 = sym (here (take o.0 contents) s.0.1) ∙ v.1 in
-    rw (a.1, b.1, c.1, d.1, s.1, o.1, other) v.2
+    let p = then_some (plain_at parts_at contents a.0.1) _ _ a.2 in
+    let parts = p.0.0 in
+    let start = p.0.1 - length parts.content in
+    let v = then_some (reads parts.rtype (take p.0.1 contents) start) _ _ p.2 in
+    let same = some_pair_parts (record_of a.0.0 parts v.0) r p.0.1 end v.2 in
+    let here : Agree reads others parts.rtype = subst (Agree reads others) (sym (ap (λ (found : RecordValue). found.rtype) same.0)) agree in
+    let other : others parts.rtype (take p.0.1 contents) start ≡ Some v.0 = sym (here (take p.0.1 contents) start) ∙ v.1 in
+    rw (a.1, p.1, other) v.2
 
 abbrev ItemAgrees : DataReading → DataReading → Item → Type 0
 ItemAgrees reads others (QuestionItem q) = Unit {0}

@@ -2,12 +2,12 @@
 use Rattle.std.proofs.Common.{◌≡◌, ◌≢◌, ℕ, Bool, true, false, List, [], ◌∷◌, ◌++◌, map, filter, Option, Some, None, append-nil, refl, sym, ap, ◌∙◌}
 use Rattle.std.specs.Prelude.{MatchOption}
 use Rattle.std.proofs.lemmas.List.{map-append}
-use Rattle.dns_wire.specs.Octets.{Octets}
+use Rattle.dns_wire.specs.Octets.{Labels, Octets}
 use Rattle.dns_wire.specs.Pointers.{name_at}
 use Rattle.dns_wire.specs.Steps.{first_to}
 use Rattle.dns_record.specs.Fields.{Field}
 use Rattle.dns_record.specs.Questions.{question_in}
-use Rattle.dns_record.specs.Records.{record_in}
+use Rattle.dns_record.specs.Records.{Parts, record_in, record_of}
 use Rattle.dns_message.specs.Canonical.{is_not_opt}
 use Rattle.dns_message.specs.FormsRead.{AddsData, AddsForm, AddsRecord, forms_if, forms_of, forms_up_to}
 use Rattle.dns_record.specs.FurtherFormats.{DataReading}
@@ -15,21 +15,21 @@ use Rattle.dns_message.specs.Messages.{Item, Question, RecordValue, records_amon
 use Rattle.dns_message.specs.Messages.Item.{QuestionItem, RecordItem}
 use Rattle.dns_message.specs.Order.{SortKey, sort_key}
 use Rattle.dns_message.specs.Parsing.{AddsItemBy}
-use Rattle.dns_message.specs.UnparsedRecords.{UnparsedValue, with_content, with_data}
+use Rattle.dns_message.specs.UnparsedRecords.{with_data}
 use Rattle.dns_message.proofs.Adding.{question_there, record_there}
 
 -- ---- for the data of a record, and so for the record
 
-pub data_adds : (reads : DataReading) (contents : Octets) (start : ℕ) (r : UnparsedValue) (end : ℕ) (old : List SortKey) (read : Option (List Field)) (is_read : Bool) (new : List SortKey)
-    → record_in name_at reads contents start ≡ with_data r end read → AddsData old r read (forms_if new is_read) → is_read ≡ true
+pub data_adds : (reads : DataReading) (contents : Octets) (start : ℕ) (owner : Labels) (p : Parts) (end : ℕ) (old : List SortKey) (read : Option (List Field)) (is_read : Bool) (new : List SortKey)
+    → record_in name_at reads contents start ≡ with_data owner p end read → AddsData old owner p read (forms_if new is_read) → is_read ≡ true
     → (x : RecordValue) × (record_in name_at reads contents start ≡ Some (x, end)) × (new ≡ old ++ forms_of (x ∷ []))
-data_adds reads contents start r end old read true new there adds is = (with_content r adds.0, there ∙ ap (with_data r end) adds.1, adds.2)
-data_adds reads contents start r end old read false new there adds is = absurd cc
+data_adds reads contents start owner p end old read true new there adds is = (record_of owner p adds.0, there ∙ ap (with_data owner p end) adds.1, adds.2)
+data_adds reads contents start owner p end old read false new there adds is = absurd cc
 
-pub data_adds_none : (reads : DataReading) (contents : Octets) (start : ℕ) (r : UnparsedValue) (end : ℕ) (old : List SortKey) (read : Option (List Field)) (is_read : Bool) (new : List SortKey)
-    → record_in name_at reads contents start ≡ with_data r end read → AddsData old r read (forms_if new is_read) → is_read ≡ false → record_in name_at reads contents start ≡ None
-data_adds_none reads contents start r end old read true new there adds is = absurd cc
-data_adds_none reads contents start r end old read false new there adds is = there ∙ ap (with_data r end) adds
+pub data_adds_none : (reads : DataReading) (contents : Octets) (start : ℕ) (owner : Labels) (p : Parts) (end : ℕ) (old : List SortKey) (read : Option (List Field)) (is_read : Bool) (new : List SortKey)
+    → record_in name_at reads contents start ≡ with_data owner p end read → AddsData old owner p read (forms_if new is_read) → is_read ≡ false → record_in name_at reads contents start ≡ None
+data_adds_none reads contents start owner p end old read true new there adds is = absurd cc
+data_adds_none reads contents start owner p end old read false new there adds is = there ∙ ap (with_data owner p end) adds
 
 -- ---- for an item
 

@@ -6,7 +6,7 @@ use Rattle.std.specs.Prelude.{is_some, reverse}
 use Rattle.std.specs.Str.{str_to_ascii_lowercase}
 use Rattle.std.proofs.lemmas.Bool.{cases_lt}
 use Rattle.std.proofs.lemmas.Grind.{flat_map-append}
-use Rattle.std.proofs.lemmas.List.{drop-drop, get_or_append_left, length-append, map-append, reverse-append, take-append-drop, take-take}
+use Rattle.std.proofs.lemmas.List.{drop-drop, get_or_append_left, length-append, length-take, map-append, reverse-append, take-append-drop, take-take}
 use Rattle.std.proofs.Math.Seq.{get_or-append_seam, take-append_seam, take-append-add}
 use Rattle.dns_wire.specs.Octets.{Labels}
 use Rattle.dns_wire.specs.Names.{IsName, labels_wire, lowered, name_labels, wire}
@@ -15,15 +15,14 @@ use Rattle.dns_wire.proofs.Following.{name_at_is, name_at_more, name_at_name}
 use Rattle.dns_wire.proofs.Lowered.{lowered_long, name_lowered}
 use Rattle.dns_wire.proofs.Spelled.{labels_of_wire}
 use Rattle.dns_wire.proofs.Walk.{labels_wire-append, wire_long}
-use Rattle.dns_chain.specs.CanonicalNames.{IsReadAs, IsReadOrNone}
-use Rattle.dns_chain.specs.OwnLabels.{GoesOn, HasOwnLabels}
+use Rattle.dns_chain.specs.CanonicalNames.{GoesOn, HasOwnLabels, IsReadAs, IsReadOrNone}
 use Rattle.dns_chain.specs.declared.canonical_name.NameSpan.{NameSpan}
-use Rattle.dns_chain.specs.declared.own_labels.OwnLabels.{OwnLabels}
+use Rattle.dns_name.specs.declared.own_labels.OwnLabels.{OwnLabels}
 use Rattle.dns_message.specs.KnownNames.{Holds, IsKnown}
 use Rattle.dns_message.specs.OwnerKeys.{label_key, labels_key, owner_key}
 use Rattle.dns_message.specs.declared.known_names.KnownName.{KnownName}
 use Rattle.dns_message.proofs.FormLemmas.{key_of_lowered}
-use Rattle.dns_message.proofs.OwnerKeyLemmas.{drop_taken, owner_size}
+use Rattle.dns_message.proofs.OwnerKeyLemmas.{drop_taken}
 
 abbrev AreKnown : List ℕ → List KnownName → Type 0
 AreKnown contents names = All (λ (name : KnownName). IsKnown contents name.target name) names
@@ -59,8 +58,8 @@ read_in_more contents bound end target later labels within is =
 
 module _ (contents : List ℕ) (start target : ℕ) (o : OwnLabels) (old new : List ℕ) (name : KnownName) (span : NameSpan) (is : HasOwnLabels contents start old o) (to : o.target ≡ Some target)
     (known : (labels : Labels) × (later : ℕ) × (name_at contents target ≡ Some (labels, later)) × Holds name labels)
-    (size : (span.size + 1 ≡ o.span.size + name.size) × (span.size ≤ 255) × (span.end ≡ o.span.end))
-    (octets : take span.size new ≡ take (o.span.size - 1) old ++ take name.size name.octets) where
+    (size : (span.size ≡ o.size + name.size) × (span.size ≤ 255) × (span.end ≡ o.end))
+    (octets : take span.size new ≡ take o.size old ++ take name.size name.octets) where
   abbrev pub own : Labels
   own = is.0
 
@@ -76,24 +75,24 @@ module _ (contents : List ℕ) (start target : ℕ) (o : OwnLabels) (old new : L
   both_long : length (wire (own ++ base)) ≡ span.size
   both_long = ap length both_wire ∙ length-append (labels_wire own) (wire base) ∙ omega (arith, own_long, is.2, known.3.1, size.0)
 
-  goes_on : GoesOn contents start own o.span.end (Some target)
-  goes_on = subst (GoesOn contents start own o.span.end) to is.6
+  goes_on : GoesOn contents start own o.end (Some target)
+  goes_on = subst (GoesOn contents start own o.end) to is.6
 
-  both_read : name_at contents start ≡ Some (own ++ base, o.span.end)
+  both_read : name_at contents start ≡ Some (own ++ base, o.end)
   both_read = goes_on.1 base known.1 known.2 (omega (arith, both_long, size.1))
 
   pub joined_name : IsName (own ++ base)
-  joined_name = name_at_name contents start (own ++ base) o.span.end (name_at_is contents start (own ++ base) o.span.end both_read)
+  joined_name = name_at_name contents start (own ++ base) o.end (name_at_is contents start (own ++ base) o.end both_read)
 
   lowered_both : lowered (own ++ base) ≡ lowered own ++ lowered base
   lowered_both = map-append str_to_ascii_lowercase own base
 
-  labels_long : length (labels_wire (lowered own)) ≡ o.span.size - 1
+  labels_long : length (labels_wire (lowered own)) ≡ o.size
   labels_long = omega (arith, own_long, is.2, wire_long own, wire_long (lowered own), lowered_long own)
 
-  first_octets : take (o.span.size - 1) old ≡ labels_wire (lowered own)
+  first_octets : take o.size old ≡ labels_wire (lowered own)
   first_octets =
-      sym (take-take (o.span.size - 1) o.span.size old (omega arith)) ∙ ap (take (o.span.size - 1)) is.3 ∙ ap (λ n. take n (wire (lowered own))) (sym labels_long)
+      sym (take-take o.size (o.size + 1) old (omega arith)) ∙ ap (take o.size) is.3 ∙ ap (λ n. take n (wire (lowered own))) (sym labels_long)
       ∙ take-append_seam (labels_wire (lowered own)) (0 ∷ [])
 
   pub joined_octets : take span.size new ≡ wire (lowered (own ++ base))
@@ -107,13 +106,13 @@ module _ (contents : List ℕ) (start target : ℕ) (o : OwnLabels) (old new : L
   joined_read = (own ++ base, both_read ∙ ap (λ n. Some (own ++ base, n)) (sym size.2), joined_name, sym both_long, joined_octets)
 
   -- the key of both is that of the name, and then those of the own labels from the last to the first
-  pub joined_key : (key : List ℕ) → take span.size key ≡ take name.size name.key ++ drop 1 (owner_key (name_labels (take o.span.size old)))
+  pub joined_key : (name_key key : List ℕ) → take name.size name_key ≡ owner_key base → take span.size key ≡ take name.size name_key ++ drop 1 (owner_key (name_labels (take (o.size + 1) old)))
       → take span.size key ≡ owner_key (name_labels (take span.size new))
-  joined_key key put =
-      let first : owner_key (name_labels (take o.span.size old)) ≡ owner_key own = ap owner_key (ap name_labels is.3 ∙ (labels_of_wire (lowered own) (name_lowered own is.1)).1) ∙ key_of_lowered own in
+  joined_key name_key key is_key put =
+      let first : owner_key (name_labels (take (o.size + 1) old)) ≡ owner_key own = ap owner_key (ap name_labels is.3 ∙ (labels_of_wire (lowered own) (name_lowered own is.1)).1) ∙ key_of_lowered own in
       let last : owner_key (name_labels (take span.size new)) ≡ owner_key (own ++ base) =
       ap owner_key (ap name_labels joined_octets ∙ (labels_of_wire (lowered (own ++ base)) (name_lowered (own ++ base) joined_name)).1) ∙ key_of_lowered (own ++ base) in
-      put ∙ ap₂ (λ (x y : List ℕ). x ++ drop 1 y) known.3.3 first
+      put ∙ ap₂ (λ (x y : List ℕ). x ++ drop 1 y) is_key first
       ∙ sym (flat_map-append label_key ([] ∷ reverse base) (reverse own))
       ∙ ap (λ (l : Labels). labels_key ([] ∷ l)) (sym (reverse-append own base))
       ∙ sym last
@@ -128,11 +127,11 @@ key_after front owner key size more some long whole there =
     ∙ ap (λ (l : List ℕ). front ++ l) (ap (λ n. take more (drop n key)) (sym step) ∙ ap (take more) (sym (drop-drop 1 (size - 1) key)) ∙ sym (drop_taken 1 (1 + more) more (drop (size - 1) key) refl) ∙ ap (drop 1) (ap (λ n. take n (drop (size - 1) key)) (sym one) ∙ there))
 
 -- what holds of as many octets as both have together
-pub with_size : (found : Option NameSpan) (own size : ℕ) (key wanted : List ℕ) (end : ℕ) → 0 < own → IfSome found (λ span. (span.size + 1 ≡ own + size) × (span.size ≤ 255) × (span.end ≡ end))
-    → take (size + (own - 1)) key ≡ wanted → IfSome found (λ span. take span.size key ≡ wanted)
-with_size None own size key wanted end some is put = tt
-with_size (Some span) own size key wanted end some is put =
-    let long : span.size ≡ size + (own - 1) = omega (arith, is.0, some) in
+pub with_size : (found : Option NameSpan) (own size : ℕ) (key wanted : List ℕ) (end : ℕ) → IfSome found (λ span. (span.size ≡ own + size) × (span.size ≤ 255) × (span.end ≡ end))
+    → take (size + own) key ≡ wanted → IfSome found (λ span. take span.size key ≡ wanted)
+with_size None own size key wanted end is put = tt
+with_size (Some span) own size key wanted end is put =
+    let long : span.size ≡ size + own = omega (arith, is.0) in
     ap (λ n. take n key) long ∙ put
 
 -- what holds of a name that is known, in octets up to a place and in all of them
@@ -143,46 +142,57 @@ pub known_whole : (contents : List ℕ) (target : ℕ) (name : KnownName) → Is
 known_whole contents target name is =
     (is.1, is.2, ap (λ (l : List ℕ). name_at l target) (sym (take-append-drop name.bound contents)) ∙ name_at_more (take name.bound contents) (drop name.bound contents) target is.1 is.2 is.3, is.4)
 
--- a name that was read and whose key was written is known
+-- the key of canonical octets is that of the name
+key_of_octets : (octets key : List ℕ) (labels : Labels) (size : ℕ) → IsName labels → octets ≡ wire (lowered labels) → size ≡ length octets → take (length octets) key ≡ owner_key (name_labels octets) → take size key ≡ owner_key labels
+key_of_octets octets key labels size name is long put =
+    ap (λ n. take n key) long ∙ put ∙ ap owner_key (ap name_labels is ∙ (labels_of_wire (lowered labels) (name_lowered labels name)).1) ∙ key_of_lowered labels
+
+-- a name that was read, and whose key was written if it is there, is known
 pub known_name : (contents : List ℕ) (target : ℕ) (name : KnownName) (span : NameSpan) → name.bound ≤ length contents → IsReadAs (take name.bound contents) target name.octets span → name.size ≡ span.size
-    → take (length (take name.size name.octets)) name.key ≡ owner_key (name_labels (take name.size name.octets)) → IsKnown contents target name
-known_name contents target name span within is size key =
+    → IfSome name.key (λ key. take (length (take name.size name.octets)) key ≡ owner_key (name_labels (take name.size name.octets))) → IsKnown contents target name
+known_name contents target name span within is size put =
     let labels = is.0 in
     let octets : take name.size name.octets ≡ wire (lowered labels) = ap (λ n. take n name.octets) size ∙ is.4 in
-    let long : length (take name.size name.octets) ≡ name.size = ap length octets ∙ lowered_long labels ∙ sym (size ∙ is.3) in (
-      within,
-      labels,
-      span.end,
-      is.1,
-      (is.2, size ∙ is.3, octets, ap (λ n. take n name.key) (sym long) ∙ key ∙ ap owner_key (ap name_labels octets ∙ (labels_of_wire (lowered labels) (name_lowered labels is.2)).1) ∙ key_of_lowered labels),
-    )
+    let long : name.size ≡ length (take name.size name.octets) = size ∙ is.3 ∙ sym (lowered_long labels) ∙ sym (ap length octets) in
+    (within, labels, span.end, is.1, (is.2, size ∙ is.3, octets, keyed name.key octets long put)) where
+      keyed : (key : Option (List ℕ)) → take name.size name.octets ≡ wire (lowered is.0) → name.size ≡ length (take name.size name.octets)
+          → IfSome key (λ k. take (length (take name.size name.octets)) k ≡ owner_key (name_labels (take name.size name.octets))) → IfSome key (λ k. take name.size k ≡ owner_key is.0)
+      keyed None octets long put = tt
+      keyed (Some k) octets long put = key_of_octets (take name.size name.octets) k is.0 name.size is.2 octets long put
 
--- sizes of a name that is known
-pub held_sizes : (name : KnownName) (labels : Labels) → Holds name labels → (0 < name.size) × (name.size ≤ 255) × (length (take name.size name.key) ≡ name.size)
-held_sizes name labels is = (omega (arith, is.1, wire_long labels), omega (arith, is.1, is.0.size), ap length is.3 ∙ owner_size labels ∙ sym is.1)
+-- the key of a name that is known, if it has one
+pub held_key : (name : KnownName) (labels : Labels) (key : List ℕ) → Holds name labels → name.key ≡ Some key → take name.size key ≡ owner_key labels
+held_key name labels key is has = subst (λ (k : Option (List ℕ)). IfSome k (λ key. take name.size key ≡ owner_key labels)) has is.3
+
+-- the key that was written for as many octets as a name has
+pub key_put : (octets key : List ℕ) (size : ℕ) → size ≤ length octets → take (length (take size octets)) key ≡ owner_key (name_labels (take size octets)) → take size key ≡ owner_key (name_labels (take size octets))
+key_put octets key size within put =
+    let long : size ≡ length (take size octets) = omega (arith, length-take size octets, within) in
+    ap (λ n. take n key) long ∙ put
 
 -- a joined name, if there is one
 pub joined_found : (contents : List ℕ) (start target : ℕ) (o : OwnLabels) (old new : List ℕ) (name : KnownName) (found : Option NameSpan) → HasOwnLabels contents start old o → o.target ≡ Some target
     → (labels : Labels) × (later : ℕ) × (name_at contents target ≡ Some (labels, later)) × Holds name labels
-    → IfSome found (λ span. (span.size + 1 ≡ o.span.size + name.size) × (span.size ≤ 255) × (span.end ≡ o.span.end))
-    → IfSome found (λ span. take span.size new ≡ take (o.span.size - 1) old ++ take name.size name.octets)
+    → IfSome found (λ span. (span.size ≡ o.size + name.size) × (span.size ≤ 255) × (span.end ≡ o.end))
+    → IfSome found (λ span. take span.size new ≡ take o.size old ++ take name.size name.octets)
     → IfSome found (IsReadAs contents start new)
 joined_found contents start target o old new name None is to known size octets = tt
 joined_found contents start target o old new name (Some span) is to known size octets = joined_read contents start target o old new name span is to known size octets
 
 -- own labels alone
-pub own_read : (contents : List ℕ) (start : ℕ) (o : OwnLabels) (buffer : List ℕ) → HasOwnLabels contents start buffer o → o.target ≡ None → IsReadAs contents start buffer o.span
-own_read contents start o buffer is none = (is.0, subst (GoesOn contents start is.0 o.span.end) none is.6, is.1, is.2, is.3)
+pub own_read : (contents : List ℕ) (start : ℕ) (o : OwnLabels) (buffer : List ℕ) → HasOwnLabels contents start buffer o → o.target ≡ None → IsReadAs contents start buffer (record { size = o.size + 1; end = o.end })
+own_read contents start o buffer is none = (is.0, subst (GoesOn contents start is.0 o.end) none is.6, is.1, is.2, is.3)
 
 pub found_or_none : (contents : List ℕ) (start : ℕ) (buffer : List ℕ) (found : Option NameSpan) → is_some found ≡ true → IfSome found (IsReadAs contents start buffer) → IsReadOrNone contents start buffer found
 found_or_none contents start buffer None e is = absurd (let h = e in cc)
 found_or_none contents start buffer (Some span) e is = is
 
-pub joined_found_key : (contents : List ℕ) (start target : ℕ) (o : OwnLabels) (old new key : List ℕ) (name : KnownName) (found : Option NameSpan) → HasOwnLabels contents start old o → o.target ≡ Some target
-    → (labels : Labels) × (later : ℕ) × (name_at contents target ≡ Some (labels, later)) × Holds name labels
-    → IfSome found (λ span. (span.size + 1 ≡ o.span.size + name.size) × (span.size ≤ 255) × (span.end ≡ o.span.end))
-    → IfSome found (λ span. take span.size new ≡ take (o.span.size - 1) old ++ take name.size name.octets)
-    → IfSome found (λ span. take span.size key ≡ take name.size name.key ++ drop 1 (owner_key (name_labels (take o.span.size old))))
+pub joined_found_key : (contents : List ℕ) (start target : ℕ) (o : OwnLabels) (old new name_key key : List ℕ) (name : KnownName) (found : Option NameSpan) → HasOwnLabels contents start old o → o.target ≡ Some target
+    → (known : (labels : Labels) × (later : ℕ) × (name_at contents target ≡ Some (labels, later)) × Holds name labels)
+    → take name.size name_key ≡ owner_key known.0
+    → IfSome found (λ span. (span.size ≡ o.size + name.size) × (span.size ≤ 255) × (span.end ≡ o.end))
+    → IfSome found (λ span. take span.size new ≡ take o.size old ++ take name.size name.octets)
+    → IfSome found (λ span. take span.size key ≡ take name.size name_key ++ drop 1 (owner_key (name_labels (take (o.size + 1) old))))
     → IfSome found (λ span. take span.size key ≡ owner_key (name_labels (take span.size new)))
-joined_found_key contents start target o old new key name None is to known size octets put = tt
-joined_found_key contents start target o old new key name (Some span) is to known size octets put = joined_key contents start target o old new name span is to known size octets key put
+joined_found_key contents start target o old new name_key key name None is to known is_key size octets put = tt
+joined_found_key contents start target o old new name_key key name (Some span) is to known is_key size octets put = joined_key contents start target o old new name span is to known size octets name_key key is_key put

@@ -13,7 +13,6 @@ pub mod Exclusive
 pub mod Extended
 pub mod EdnsLemmas
 pub mod Laid
-pub mod Lengths
 pub mod Octets
 pub mod OneReading
 pub mod Ordering
@@ -44,10 +43,12 @@ pub mod KindLemmas
 pub mod KnownNameLemmas
 pub mod Streamed
 pub mod Surviving
+pub mod ListOctets
 pub mod ListTexts
 pub mod TextLemmas
 pub mod UnparsedRecords
 pub mod WellFormedLemmas
+pub mod WrittenNames
 pub mod Whole
 pub mod JoinedFields
 pub mod KeptOctets

@@ -1,62 +1,32 @@
 -- Records whose owner was read before.
-use Rattle.std.proofs.Common.{◌≡◌, ℕ, ◌+◌, ◌-◌, ◌<◌, ◌≤◌, List, [], ◌∷◌, length, take, drop, Option, Some, None, refl, sym, ap, subst, ◌∙◌, arith}
-use Rattle.std.specs.Int.{w16, w32}
+use Rattle.std.proofs.Common.{◌≡◌, ℕ, ◌+◌, ◌-◌, ◌<◌, ◌≤◌, List, ◌∷◌, length, take, drop, Some, None, refl, sym, ap, subst, ◌∙◌, arith}
 use Rattle.std.specs.Prelude.{slice_index}
 use Rattle.std.proofs.lemmas.List.{get_or-drop, get_or-take, take-take, drop-drop}
 use Rattle.dns_wire.specs.Octets.{Labels}
 use Rattle.dns_wire.specs.Pointers.{Segment, name_at}
 use Rattle.dns_wire.specs.Pointers.Segment.{at_root, at_label, at_pointer}
-use Rattle.dns_wire.specs.Reading.{AreOctets, number, plain_at}
-use Rattle.dns_wire.specs.Steps.{◌>>=◌, first_to}
+use Rattle.dns_wire.specs.Reading.{plain_at}
 use Rattle.dns_wire.proofs.Following.{name_at_is, name_at_finds, segment_ends}
-use Rattle.dns_record.specs.Records.{SizedDataIn, end_of, record_in}
+use Rattle.dns_record.specs.Records.{Parts, parts_at, record_in}
 use Rattle.dns_record.specs.FurtherFormats.{DataReading}
-use Rattle.dns_message.specs.UnparsedRecords.{UnparsedValue, data_start, owner_before, parts_value, unparsed_in, with_data}
-use Rattle.dns_message.specs.declared.unparsed_parts.UnparsedParts.{UnparsedParts}
-use Rattle.dns_message.proofs.Octets.{octets_from, octets_up_to}
+use Rattle.dns_message.specs.UnparsedRecords.{data_start, with_data}
 use Rattle.dns_message.proofs.OwnerKeyLemmas.{drop_taken}
-use Rattle.dns_message.proofs.UnparsedRecords.{data_are_at, record_in_none, record_in_steps}
 
 -- ---- the rest of a record
-
--- the owner in the place of none
-abbrev pub owned : Labels → UnparsedValue → UnparsedValue
-owned labels r = record { owner = labels; rtype = r.rtype; class = r.class; ttl = r.ttl; content = r.content }
-
-pub step : {A B C : Type 0} (h : B → C) (read : Option A) (f : A → Option (C × ℕ)) (g : A → Option (B × ℕ)) → ((a : A) → f a ≡ first_to h (g a)) → (read >>= f) ≡ first_to h (read >>= g)
-step h None f g each = refl
-step h (Some a) f g each = each a
-
-pub record_after_owner : (contents : List ℕ) (start at : ℕ) (labels : Labels) → name_at contents start ≡ Some (labels, at)
-    → record_in name_at unparsed_in contents start ≡ first_to (owned labels) (record_in (owner_before []) unparsed_in contents at)
-unfolding record_in
-record_after_owner contents start at labels is =
-    rw is (
-    step (owned labels) (plain_at (number w16) contents at) _ _ (λ b.
-    step (owned labels) (plain_at (number w16) contents b.1) _ _ (λ c.
-    step (owned labels) (plain_at (number w32) contents c.1) _ _ (λ d.
-    step (owned labels) (plain_at (number w16) contents d.1) _ _ (λ s.
-    step (owned labels) (end_of contents s.1 s.0) _ _ (λ o.
-    step (owned labels) (unparsed_in b.0 (take o contents) s.1) _ _ (λ v. refl)))))))
 
 pub no_owner_no_record : (reads : DataReading) (contents : List ℕ) (start : ℕ) → name_at contents start ≡ None → record_in name_at reads contents start ≡ None
 unfolding record_in
 no_owner_no_record reads contents start none = rw none refl
 
 module _ (reads : DataReading) (contents : List ℕ) (start at : ℕ) (labels : Labels) (owner : name_at contents start ≡ Some (labels, at)) where
-  pub parts_there : (parts : UnparsedParts) (end : ℕ) → record_in (owner_before []) unparsed_in contents at ≡ Some (parts_value [] parts, end) → end ≤ length contents
-      → record_in name_at reads contents start ≡ with_data (parts_value labels parts) end (reads parts.rtype.code.value (take end contents) (data_start end parts.rdata.octets.now))
-  parts_there parts end is within =
-      record_in_steps reads contents start (parts_value labels parts) end within (record_after_owner contents start at labels owner ∙ ap (first_to (owned labels)) is)
+  pub parts_there : (p : Parts) (end : ℕ) → plain_at parts_at contents at ≡ Some (p, end)
+      → record_in name_at reads contents start ≡ with_data labels p end (reads p.rtype (take end contents) (data_start end p.content))
+  unfolding record_in
+  parts_there p end is = rw (owner, is) refl
 
-  pub no_parts_no_record : AreOctets contents → record_in (owner_before []) unparsed_in contents at ≡ None → record_in name_at reads contents start ≡ None
-  no_parts_no_record are none = record_in_none reads contents start are (record_after_owner contents start at labels owner ∙ ap (first_to (owned labels)) none)
-
--- the octets of data are octets
-pub data_octets : (contents octets : List ℕ) (rtype end : ℕ) → AreOctets contents → end ≤ length contents → SizedDataIn unparsed_in contents octets rtype end → AreOctets octets
-data_octets contents octets rtype end are within sized =
-    let there = data_are_at contents octets rtype end within sized in
-    subst AreOctets (sym there.1) (octets_from (data_start end octets) (take end contents) (octets_up_to end contents are))
+  pub no_parts_no_record : plain_at parts_at contents at ≡ None → record_in name_at reads contents start ≡ None
+  unfolding record_in
+  no_parts_no_record none = rw (owner, none) refl
 
 -- ---- an owner that is at a later place too
 

@@ -5,14 +5,17 @@ use Rattle.std.specs.Option.{MatchOption}
 use Rattle.dns_wire.specs.Octets.{Labels}
 use Rattle.dns_wire.specs.Pointers.{name_at}
 use Rattle.dns_wire.specs.Reading.{number, plain_at}
-use Rattle.dns_wire.specs.Steps.{first_to}
+use Rattle.dns_wire.specs.Steps.{◌>>=◌, first_to}
 use Rattle.dns_record.specs.Questions.{QuestionOf, question_in}
 use Rattle.dns_message.specs.UnparsedRecords.{owner_before}
-use Rattle.dns_message.proofs.OwnerFirst.{step}
 
 -- the name in the place of none
 abbrev named : Labels → QuestionOf Labels → QuestionOf Labels
 named labels q = record { name = labels; qtype = q.qtype; class = q.class }
+
+step : {A B C : Type 0} (h : B → C) (read : Option A) (f : A → Option (C × ℕ)) (g : A → Option (B × ℕ)) → ((a : A) → f a ≡ first_to h (g a)) → (read >>= f) ≡ first_to h (read >>= g)
+step h None f g each = refl
+step h (Some a) f g each = each a
 
 question_after_name : (contents : List ℕ) (start at : ℕ) (labels : Labels) → name_at contents start ≡ Some (labels, at) → question_in name_at contents start ≡ first_to (named labels) (question_in (owner_before []) contents at)
 unfolding question_in

@@ -8,9 +8,8 @@ use Rattle.std.proofs.lemmas.List.Elements.{recursion_from_All}
 use Rattle.std.proofs.lemmas.Option.{some_pair_parts}
 use Rattle.dns_wire.specs.Names.{wire}
 use Rattle.dns_wire.specs.Reading.{AreOctets}
-use Rattle.dns_wire.proofs.Spelled.{plain_name_again}
 use Rattle.dns_record.specs.Fields.{fields_octets}
-use Rattle.dns_record.specs.Records.{record_at, octets_of_parts}
+use Rattle.dns_record.specs.Records.{octets_of_parts}
 use Rattle.dns_message.specs.Canonical.{canonical_wire, is_not_opt, lowercase_names, plain_record, record_octets}
 use Rattle.dns_message.specs.Messages.{RecordValue, Valid}
 use Rattle.dns_message.specs.Order.{collapsed, canonical_list}
@@ -18,10 +17,8 @@ use Rattle.dns_message.specs.Same.{Same}
 use Rattle.dns_message.specs.WellFormed.{WellFormed}
 use Rattle.dns_message.proofs.CanonicalListSameness.{outputs}
 use Rattle.dns_message.proofs.Collapsing.{all_left}
-use Rattle.dns_record.proofs.Places.{octets_read}
-use Rattle.dns_message.proofs.KindLemmas.{number_back}
 use Rattle.dns_message.proofs.WellFormedLemmas.{all_well}
-use Rattle.dns_message.proofs.Whole.{well_formed_lowercased}
+use Rattle.dns_message.proofs.Whole.{inner_back, well_formed_lowercased}
 
 -- the same octets, with what follows them inside
 inner : (owner body rest : List ℕ) (rtype class ttl : ℕ)
@@ -36,26 +33,6 @@ inner owner body rest rtype class ttl =
     ∙ ap (λ (l : List ℕ). to_be_bytes w16 rtype ++ l) (append_assoc (to_be_bytes w16 class) four rest
     ∙ ap (λ (l : List ℕ). to_be_bytes w16 class ++ l) (append_assoc (to_be_bytes w32 ttl) five rest
     ∙ ap (λ (l : List ℕ). to_be_bytes w32 ttl ++ l) (append_assoc (to_be_bytes w16 (length body)) body rest))))
-
--- a well formed record is read from its octets, whatever follows them
-inner_back : (r : RecordValue) (rest : List ℕ) → WellFormed r
-    → plain_record (wire r.owner ++ (to_be_bytes w16 r.rtype ++ (to_be_bytes w16 r.class ++ (to_be_bytes w32 r.ttl ++ (to_be_bytes w16 (length (fields_octets r.content)) ++ (fields_octets r.content ++ rest)))))) ≡ Some (r, rest)
-unfolding record_at
-inner_back r rest is =
-    let body = fields_octets r.content in
-    let five = to_be_bytes w16 (length body) ++ (body ++ rest) in
-    let four = to_be_bytes w32 r.ttl ++ five in
-    let three = to_be_bytes w16 r.class ++ four in
-    let two = to_be_bytes w16 r.rtype ++ three in
-    rw (
-      plain_name_again (wire r.owner ++ two) r.owner two is.owner refl,
-      number_back w16 r.rtype three is.rtype,
-      number_back w16 r.class four is.class,
-      number_back w32 r.ttl five is.ttl,
-      number_back w16 (length body) (body ++ rest) is.size,
-      octets_read (length body) body rest refl,
-      is.content,
-    ) refl
 
 before : (r : RecordValue) (rest : List ℕ) → WellFormed r → plain_record (record_octets r ++ rest) ≡ Some (r, rest)
 before r rest is = ap plain_record (inner (wire r.owner) (fields_octets r.content) rest r.rtype r.class r.ttl) ∙ inner_back r rest is

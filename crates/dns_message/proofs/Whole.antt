@@ -1,23 +1,23 @@
 -- Well formed records are read back from their octets, and so are they in canonical form.
-use Rattle.std.proofs.Common.{◌≡◌, ℕ, Bool, true, false, cond, ltb, List, [], ◌∷◌, ◌++◌, length, take_all, Option, Some, None, refl, sym, ap, subst, ◌∙◌, arith}
+use Rattle.std.proofs.Common.{◌≡◌, ℕ, ◌<◌, ◌^◌, Bool, true, false, cond, List, [], ◌∷◌, ◌++◌, length, Option, Some, None, refl, sym, ap, subst, ◌∙◌, arith}
 use Rattle.std.specs.Prelude.{map, ◌↔◌}
 use Rattle.std.specs.Int.{w16, w32, to_be_bytes}
 use Rattle.std.specs.Str.{str_to_ascii_lowercase}
-use Rattle.std.proofs.lemmas.Bool.{le-ltb}
-use Rattle.std.proofs.lemmas.List.{drop_all}
+use Rattle.std.proofs.lemmas.List.{append-nil}
 use Rattle.std.proofs.lemmas.Str.Ascii.{lowercase-lowercase}
 use Rattle.std.proofs.lemmas.Option.{some_pair_parts}
 use Rattle.dns_wire.specs.Names.{wire, lowered, IsName, plain_name}
-use Rattle.dns_wire.specs.Reading.{AreOctets, octets, all_of}
+use Rattle.dns_wire.specs.Reading.{AreOctets, all_of}
 use Rattle.dns_wire.proofs.Lowered.{lower_wire, name_lowered}
 use Rattle.dns_wire.proofs.Spelled.{plain_name_again}
 use Rattle.dns_record.specs.Data.{data_as}
 use Rattle.dns_record.specs.Fields.{Field, field_octets, fields_octets, lowercased_field, canonical_fields}
 use Rattle.dns_record.specs.Fields.FieldOf.{CompressibleName, UncompressedName, CharacterString, CountedOctets, CharacterStrings, OtherOctets, Byte, Number}
 use Rattle.dns_record.specs.Kinds.{Kind, fields_of}
-use Rattle.dns_record.specs.Records.{record_at, octets_of_parts}
+use Rattle.dns_record.specs.Records.{Parts, parts_at, record_at, octets_of_parts}
 use Rattle.dns_record.specs.Formats.{rdata_format}
 use Rattle.dns_record.specs.Types.{is_lowercased}
+use Rattle.dns_record.proofs.Places.{octets_read}
 use Rattle.dns_record.proofs.Sizes.{canonical_long}
 use Rattle.dns_message.specs.Canonical.{lowercase_names, record_octets, canonical_wire, plain_record}
 use Rattle.dns_message.specs.Messages.{RecordValue}
@@ -147,28 +147,36 @@ well_formed_lowercased r is = record {
 
 -- ---- read back
 
-all_taken : (o : List ℕ) → octets (length o) o ≡ Some (o, [])
-all_taken o =
-    let fits : ltb (length o) (length o) ≡ false = le-ltb _ _ (omega arith) in
-    rw (fits, take_all (length o) o (omega arith), drop_all (length o) o (omega arith)) refl
+-- the parts of a record are read from their octets, whatever follows them
+pub parts_back : (p : Parts) (rest : List ℕ) → p.rtype < 2 ^ 16 → p.class < 2 ^ 16 → p.ttl < 2 ^ 32 → length p.content < 2 ^ 16
+    → parts_at (to_be_bytes w16 p.rtype ++ (to_be_bytes w16 p.class ++ (to_be_bytes w32 p.ttl ++ (to_be_bytes w16 (length p.content) ++ (p.content ++ rest))))) ≡ Some (p, rest)
+unfolding parts_at
+parts_back p rest rtype class ttl size =
+    let five = to_be_bytes w16 (length p.content) ++ (p.content ++ rest) in
+    let four = to_be_bytes w32 p.ttl ++ five in
+    let three = to_be_bytes w16 p.class ++ four in
+    rw (
+      number_back w16 p.rtype three rtype,
+      number_back w16 p.class four class,
+      number_back w32 p.ttl five ttl,
+      number_back w16 (length p.content) (p.content ++ rest) size,
+      octets_read (length p.content) p.content rest refl,
+    ) refl
+
+-- a well formed record is read from its octets, whatever follows them
+pub inner_back : (r : RecordValue) (rest : List ℕ) → WellFormed r
+    → plain_record (wire r.owner ++ (to_be_bytes w16 r.rtype ++ (to_be_bytes w16 r.class ++ (to_be_bytes w32 r.ttl ++ (to_be_bytes w16 (length (fields_octets r.content)) ++ (fields_octets r.content ++ rest)))))) ≡ Some (r, rest)
+unfolding record_at
+inner_back r rest is =
+    let parts : Parts = record { rtype = r.rtype; class = r.class; ttl = r.ttl; content = fields_octets r.content } in
+    let two = to_be_bytes w16 r.rtype ++ (to_be_bytes w16 r.class ++ (to_be_bytes w32 r.ttl ++ (to_be_bytes w16 (length (fields_octets r.content)) ++ (fields_octets r.content ++ rest)))) in
+    rw (plain_name_again (wire r.owner ++ two) r.owner two is.owner refl, parts_back parts rest is.rtype is.class is.ttl is.size, is.content) refl
 
 pub record_back : (r : RecordValue) → WellFormed r → plain_record (record_octets r) ≡ Some (r, [])
-unfolding record_at
 record_back r is =
-    let body = fields_octets r.content in
-    let five = to_be_bytes w16 (length body) ++ body in
-    let four = to_be_bytes w32 r.ttl ++ five in
-    let three = to_be_bytes w16 r.class ++ four in
-    let two = to_be_bytes w16 r.rtype ++ three in
-    rw (
-      plain_name_again (wire r.owner ++ two) r.owner two is.owner refl,
-      number_back w16 r.rtype three is.rtype,
-      number_back w16 r.class four is.class,
-      number_back w32 r.ttl five is.ttl,
-      number_back w16 (length body) body is.size,
-      all_taken body,
-      is.content,
-    ) refl
+    ap (λ (l : List ℕ). plain_record (wire r.owner ++ (to_be_bytes w16 r.rtype ++ (to_be_bytes w16 r.class ++ (to_be_bytes w32 r.ttl ++ (to_be_bytes w16 (length (fields_octets r.content)) ++ l))))))
+    (sym (append-nil (fields_octets r.content)))
+    ∙ inner_back r [] is
 
 pub canonical_wire_back : (r : RecordValue) → WellFormed r → plain_record (canonical_wire r) ≡ Some (lowercase_names r, [])
 canonical_wire_back r is = record_back (lowercase_names r) (well_formed_lowercased r is)

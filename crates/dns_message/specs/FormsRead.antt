@@ -1,10 +1,11 @@
 -- What is put after canonical forms for what is read of a message: the form of a record of another type than OPT, and nothing of others.
 use Rattle.std.specs.Prelude.{◌≡◌, ℕ, Bool, true, false, List, [], ◌∷◌, ◌++◌, filter, map, Option, Some, None}
+use Rattle.dns_wire.specs.Octets.{Labels}
 use Rattle.dns_record.specs.Fields.{Field}
+use Rattle.dns_record.specs.Records.{Parts, record_of}
 use Rattle.dns_message.specs.Canonical.{is_not_opt}
 use Rattle.dns_message.specs.Messages.{Item, RecordValue, records_among}
 use Rattle.dns_message.specs.Order.{SortKey, sort_key}
-use Rattle.dns_message.specs.UnparsedRecords.{UnparsedValue, with_content}
 
 -- the forms of some records, if they are of other types than OPT
 abbrev pub forms_of : List RecordValue → List SortKey
@@ -20,10 +21,10 @@ abbrev pub forms_up_to : List SortKey → Option ℕ → Option (List SortKey ×
 forms_up_to forms None = None
 forms_up_to forms (Some end) = Some (forms, end)
 
--- for the data of a record
-abbrev pub AddsData : List SortKey → UnparsedValue → Option (List Field) → Option (List SortKey) → Type 0
-AddsData old r read None = read ≡ None
-AddsData old r read (Some new) = (content : List Field) × (read ≡ Some content) × (new ≡ old ++ forms_of (with_content r content ∷ []))
+-- for the data of a record with this owner and these parts
+abbrev pub AddsData : List SortKey → Labels → Parts → Option (List Field) → Option (List SortKey) → Type 0
+AddsData old owner parts read None = read ≡ None
+AddsData old owner parts read (Some new) = (content : List Field) × (read ≡ Some content) × (new ≡ old ++ forms_of (record_of owner parts content ∷ []))
 
 -- for a record, up to its end
 abbrev pub AddsRecord : List SortKey → Option (RecordValue × ℕ) → Option (List SortKey × ℕ) → Type 0

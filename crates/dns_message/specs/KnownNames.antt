@@ -1,5 +1,5 @@
 -- Names to which pointers of a message lead, each read once.
-use Rattle.std.specs.Prelude.{◌≡◌, ◌≤◌, ℕ, length, take, Some}
+use Rattle.std.specs.Prelude.{◌≡◌, ◌≤◌, ℕ, length, take, IfSome, Some}
 use Rattle.std.specs.List.{All}
 use Rattle.dns_wire.specs.Octets.{Octets, Labels}
 use Rattle.dns_wire.specs.Names.{IsName, lowered, wire}
@@ -8,9 +8,9 @@ use Rattle.dns_message.specs.OwnerKeys.{owner_key}
 use Rattle.dns_message.specs.declared.known_names.KnownName.{KnownName}
 use Rattle.dns_message.specs.declared.known_names.KnownNames.{KnownNames}
 
--- these are the octets and the key of the labels in lowercase
+-- these are the octets of the labels in lowercase, and the key of them if there is one
 abbrev pub Holds : KnownName → Labels → Type 0
-Holds name labels = IsName labels × (name.size ≡ length (wire labels)) × (take name.size name.octets ≡ wire (lowered labels)) × (take name.size name.key ≡ owner_key labels)
+Holds name labels = IsName labels × (name.size ≡ length (wire labels)) × (take name.size name.octets ≡ wire (lowered labels)) × IfSome name.key (λ key. take name.size key ≡ owner_key labels)
 
 -- the name is read at the target, in no more octets of the contents than those before its bound
 abbrev pub IsKnown : Octets → ℕ → KnownName → Type 0

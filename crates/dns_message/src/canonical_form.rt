@@ -1,11 +1,15 @@
 //! A record as its canonical octets.
 
-ghost use Rattle.std.specs.Prelude.{◌≡◌, ◌≤◌, ◌<◌, ◌^◌, length, reverse};
+ghost use Rattle.std.specs.Prelude.{◌≡◌, ◌≤◌, ◌<◌, ◌^◌, IfOk, length, map, reverse};
 ghost use Rattle.std.proofs.Common.{rules};
 ghost use Rattle.std.specs.Cmp.{partial_order_from_own_ties};
 ghost use Rattle.std.specs.Cmp.Rules.{comparing};
 ghost use Rattle.std.specs.Ordering.{as_partial_cmp, eq_by_cmp};
-ghost use Rattle.dns_wire.specs.Names.{lowered, name_labels};
+ghost use Rattle.dns_wire.specs.Names.{lowered, name_labels, plain_name};
+ghost use Rattle.dns_wire.specs.Reading.{Gives};
+ghost use Rattle.dns_record.specs.Data.{data_as};
+ghost use Rattle.dns_record.specs.Fields.{named_by};
+ghost use Rattle.dns_rdata.specs.Data.{IsDataOf, data_fields};
 ghost use Rattle.dns_name.specs.Order.{key_cmp, key_of};
 ghost use Rattle.dns_message.specs.Forms.{form_owner_key, span_of};
 ghost use Rattle.dns_message.specs.Order.{octets_of_key, sort_key_cmp, alike_cmp};
@@ -13,7 +17,9 @@ ghost use Rattle.dns_message.specs.Order.{octets_of_key, sort_key_cmp, alike_cmp
 use crate::canonical_record::CanonicalRecord;
 use crate::form_span::FormSpan;
 use dns_name::Name;
-use dns_record::{RClass, RType, TTL};
+use dns_rdata::RecordData;
+use dns_record::{ParseRecordDataBytes, RClass, RType, TTL};
+use dns_wire::ParseError;
 use std::cmp::Ordering;
 use std::marker::Model;
 
@@ -109,6 +115,15 @@ impl<'f> CanonicalForm<'f> {
         ensures short { length result.now < 2 ^ 16 }
     {
         &self.octets[self.owner_key.len() + 10..]
+    }
+
+    /// The data, read for their type (RFC 1035 section 3.2.1); those of a type without a format are octets. `ParseError` comes exactly if the
+    /// octets are no data of the type.
+    pub fn rdata(&self) -> Result<RecordData<'f, Name<'f>>, ParseError>
+        ensures exact { Gives (λ v. map (named_by (λ name. name_labels name.slice.now)) (data_fields v)) result (data_as plain_name self.now.rtype self.now.octets) }
+        ensures typed { IfOk result (λ v. IsDataOf v self.now.rtype) }
+    {
+        RecordData::parse_record_data_bytes(self.data(), self.rtype())
     }
 
     /// How long the parts are, and the numbers.

@@ -1,14 +1,16 @@
 //! Records as their canonical octets, one after another.
 
-ghost use Rattle.std.specs.Prelude.{◌≡◌, ◌≤◌, ◌<◌, ◌^◌, ◌↔◌, [], ◌∷◌, ◌++◌, List, IfOk, IsTrue, OnErr, OnOk, length, map};
+ghost use Rattle.std.specs.Prelude.{◌≡◌, ◌≤◌, ◌<◌, ◌+◌, ◌^◌, ◌↔◌, [], ◌∷◌, ◌++◌, List, IfOk, IsTrue, OnErr, OnOk, drop, length, map};
 ghost use Rattle.std.specs.Int.{w16, w32, to_be_bytes};
 ghost use Rattle.dns_name.specs.Order.{key};
+ghost use Rattle.dns_record.specs.Records.{octets_of_parts};
 ghost use Rattle.dns_message.specs.Canonical.{canonical_wire};
 ghost use Rattle.dns_message.specs.Forms.{AreForms, forms_in};
 ghost use Rattle.dns_message.specs.Messages.{RecordValue};
 ghost use Rattle.dns_message.specs.Order.{sort_key, octets_of_key, collapsed};
 
 use crate::canonical_form::CanonicalForm;
+use crate::canonical_list::CanonicalList;
 use crate::canonical_owner::CanonicalOwner;
 use crate::form_order::sorted;
 use crate::form_span::FormSpan;
@@ -41,12 +43,12 @@ impl Model for CanonicalForms {
 }
 
 /// The octets between the owner and the data: type, class, TTL, and the number of the data's octets.
-fn numbers(span: &FormSpan, size: u16) -> [u8; 10]
-    ensures { result ≡ to_be_bytes w16 span.now.rtype ++ (to_be_bytes w16 span.now.class ++ (to_be_bytes w32 span.now.ttl ++ to_be_bytes w16 size)) }
+pub(crate) fn numbers(rtype: RType, rclass: RClass, ttl: TTL, size: u16) -> [u8; 10]
+    ensures { result ≡ to_be_bytes w16 rtype.code.value ++ (to_be_bytes w16 rclass.code.value ++ (to_be_bytes w32 ttl.value.value ++ to_be_bytes w16 size)) }
 {
-    let [type_high, type_low] = span.rtype.to_be_bytes();
-    let [class_high, class_low] = span.class.to_be_bytes();
-    let [first, second, third, fourth] = span.ttl.to_be_bytes();
+    let [type_high, type_low] = rtype.code.get().to_be_bytes();
+    let [class_high, class_low] = rclass.code.get().to_be_bytes();
+    let [first, second, third, fourth] = ttl.as_secs().to_be_bytes();
     let [size_high, size_low] = size.to_be_bytes();
     [
         type_high, type_low, class_high, class_low, first, second, third, fourth, size_high,
@@ -119,22 +121,24 @@ impl CanonicalForms {
         })
     }
 
-    /// Puts the form of a record with this owner, type, class, TTL and canonical data after these. `AllocError` is out of memory, and puts
-    /// nothing.
+    /// Puts the form of a record with this owner, type, class and TTL after these. What follows the owner in canonical form, ten octets and the
+    /// data, is the first octets and then the last. `AllocError` is out of memory, and puts nothing.
     pub(crate) fn push_canonical(
         &mut self,
         owner: CanonicalOwner<'_>,
         rtype: RType,
         rclass: RClass,
         ttl: TTL,
-        rdata: &[u8],
+        first: &[u8],
+        last: &[u8],
     ) -> Result<(), AllocError>
-        requires { length rdata.now < 2 ^ 16 }
-        ensures { OnOk result (self.new ≡ self.old ++ record { owner = key owner.entry; class = rclass.code.value; rtype = rtype.code.value; octets = rdata.now; ttl = ttl.value.value } ∷ []) }
+        requires rdata { first.now ++ last.now ≡ octets_of_parts [] rtype.code.value rclass.code.value ttl.value.value (drop 10 (first.now ++ last.now)) }
+        requires short { length (first.now ++ last.now) < 10 + 2 ^ 16 }
+        ensures { OnOk result (self.new ≡ self.old ++ record { owner = key owner.entry; class = rclass.code.value; rtype = rtype.code.value; octets = drop 10 (first.now ++ last.now); ttl = ttl.value.value } ∷ []) }
     {
         let span = FormSpan {
             owner_size: owner.octets().len(),
-            size: owner.octets().len() + 10 + rdata.len(),
+            size: owner.octets().len() + first.len() + last.len(),
             class: rclass.code.get(),
             rtype: rtype.code.get(),
             ttl: ttl.as_secs(),
@@ -144,10 +148,8 @@ impl CanonicalForms {
         self.spans.push(span)?;
         self.owner_keys.extend_from_slice(owner.key()).unwrap();
         self.octets.extend_from_slice(owner.octets()).unwrap();
-        self.octets
-            .extend_from_slice(&numbers(&span, rdata.len() as u16))
-            .unwrap();
-        self.octets.extend_from_slice(rdata).unwrap();
+        self.octets.extend_from_slice(first).unwrap();
+        self.octets.extend_from_slice(last).unwrap();
         Ok(())
     }
 
@@ -186,15 +188,15 @@ impl CanonicalForms {
         split_forms(alloc, &self.spans, &self.owner_keys, &self.octets)
     }
 
-    /// The forms in canonical order (RFC 4034 section 6), those of alike records once and with the least TTL (RFC 2181 section 5.2).
-    /// `AllocError` is out of memory.
-    pub fn collapsed(&self, alloc: Global) -> Result<Vec<CanonicalForm<'_>>, AllocError>
-        ensures keys { IfOk result (λ order. (rs : List RecordValue) → self.now ≡ map sort_key rs → order.items ≡ map sort_key (collapsed rs)) }
-        ensures octets { IfOk result (λ order. (rs : List RecordValue) → self.now ≡ map sort_key rs → map octets_of_key order.items ≡ map canonical_wire (collapsed rs)) }
+    /// The list of these forms in canonical order (RFC 4034 section 6), those of alike records once and with the least TTL (RFC 2181
+    /// section 5.2). `AllocError` is out of memory.
+    pub fn collapsed(&self, alloc: Global) -> Result<CanonicalList<'_>, AllocError>
+        ensures keys { IfOk result (λ order. (rs : List RecordValue) → self.now ≡ map sort_key rs → order ≡ map sort_key (collapsed rs)) }
+        ensures octets { IfOk result (λ order. (rs : List RecordValue) → self.now ≡ map sort_key rs → map octets_of_key order ≡ map canonical_wire (collapsed rs)) }
     {
-        let forms = self.views(alloc)?;
+        let forms = split_forms(alloc, &self.spans, &self.owner_keys, &self.octets)?;
         let mut forms = sorted(alloc, forms)?;
         forms.dedup_by(|later, first| later.alike(first));
-        Ok(forms)
+        Ok(CanonicalList { forms })
     }
 }

@@ -5,24 +5,25 @@ ghost use Rattle.dns_wire.specs.Octets.{Labels};
 ghost use Rattle.dns_wire.specs.Pointers.{name_at};
 ghost use Rattle.dns_wire.specs.Reading.{AreOctets};
 ghost use Rattle.dns_record.specs.Records.{record_in};
+ghost use Rattle.dns_record.specs.Seen.{parts_seen};
 ghost use Rattle.dns_message.specs.FormsRead.{AddsData, AddsForm, AddsRecord, forms_if, forms_of, forms_up_to};
 ghost use Rattle.dns_record.specs.FurtherFormats.{data_by};
 ghost use Rattle.dns_message.specs.Messages.{RecordValue, Valid, ValidBy, item_by};
 ghost use Rattle.dns_message.specs.Owners.{HasOwner, WasRead};
 ghost use Rattle.dns_message.specs.Refusals.{RefusedByOrMemory, RefusedOrMemory};
-ghost use Rattle.dns_message.specs.UnparsedRecords.{DataAreAt, data_start, parts_value};
+ghost use Rattle.dns_message.specs.UnparsedRecords.{DataAreAt, data_start};
 
 use crate::canon_error::CanonError;
-use crate::canonical_forms::CanonicalForms;
+use crate::canonical_forms::{CanonicalForms, numbers};
 use crate::known_names::KnownNames;
 use crate::last_owner::LastOwner;
 use crate::lowercase_fields::push_fields;
 use crate::name_reader::NameReader;
 use crate::parser::MessageParser;
 use crate::plain_fields::are_fields;
-use crate::unparsed_parts::{UnparsedParts, split_unparsed_parts};
 use dns_name::Name;
-use dns_record::{Formats, MAX_DATA_SIZE, RType};
+use dns_record::{Formats, MAX_DATA_SIZE, RType, UnparsedParts};
+use dns_wire::SplitMessageBytes;
 use std::alloc::{AllocError, Global};
 use std::mem;
 
@@ -60,15 +61,15 @@ fn push_data(
     end: usize,
 ) -> Result<bool, AllocError>
     requires within { end ≤ length names.old }
-    requires placed { DataAreAt names.old parts.now.rdata.octets.now end }
+    requires placed { DataAreAt names.old parts.now.rdata.now end }
     requires octets { AreOctets names.old }
     requires owner { (labels : Labels) × HasOwner room.old.owner labels }
     ensures adds { IfOk result (λ is_read. (labels : Labels) → HasOwner room.old.owner labels
-        → AddsData forms.old (parts_value labels parts.now) (data_by formats parts.now.rtype.code.value (take end names.old) (data_start end parts.now.rdata.octets.now)) (forms_if forms.new is_read)) }
+        → AddsData forms.old labels (parts_seen parts.now) (data_by formats parts.now.rtype.code.value (take end names.old) (data_start end parts.now.rdata.now)) (forms_if forms.new is_read)) }
     ensures names { names.new ≡ names.old }
     ensures owner { room.new.owner ≡ room.old.owner }
 {
-    let octets = parts.rdata.octets();
+    let octets = parts.rdata;
     let (rtype, rclass, ttl) = (parts.rtype, parts.rclass, parts.ttl);
     let (kinds, lowercase) = formats.kinds(rtype);
     let RecordRoom {
@@ -84,7 +85,7 @@ fn push_data(
         if rtype == RType::OPT {
             return Ok(true);
         }
-        forms.push_canonical(owner.owner(), rtype, rclass, ttl, octets)?;
+        forms.push_canonical(owner.owner(), rtype, rclass, ttl, parts.octets(), &[])?;
         return Ok(true);
     }
     rdata.clear();
@@ -94,7 +95,8 @@ fn push_data(
     if rdata.len() > MAX_DATA_SIZE {
         return Ok(false);
     }
-    forms.push_canonical(owner.owner(), rtype, rclass, ttl, rdata)?;
+    let first = numbers(rtype, rclass, ttl, rdata.len() as u16);
+    forms.push_canonical(owner.owner(), rtype, rclass, ttl, &first, rdata)?;
     Ok(true)
 }
 
@@ -116,7 +118,7 @@ fn push_record(
     let Some(at) = room.owner.read(alloc, names, start)? else {
         return Ok(None);
     };
-    let Ok((parts, end)) = split_unparsed_parts(names.contents(), at) else {
+    let Ok((parts, end)) = UnparsedParts::split_message_bytes(names.contents(), at) else {
         return Ok(None);
     };
     let is_read = push_data(alloc, forms, names, room, formats, &parts, end)?;
@@ -182,7 +184,8 @@ fn read_into(
 
 /// Reads a whole message, and gives the canonical forms of its records except those of type OPT, in the message's order. Memory for them
 /// is taken once for as many as the header counts and the contents can hold, and again as names in full need it; at the first
-/// chain of pointers it is taken for the final targets too.
+/// chain of pointers it is taken for the final targets too, and from the ninth name on 544 octets are taken for each place to which a name
+/// leads.
 pub fn read_forms(alloc: Global, message: &[u8]) -> Result<CanonicalForms, CanonError>
     ensures read { IfOk result (λ forms. (rs : List RecordValue) × Valid message.now rs × (forms ≡ forms_of rs)) }
     ensures refused { IfErr result (RefusedOrMemory message.now) }

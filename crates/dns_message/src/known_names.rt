@@ -1,6 +1,6 @@
 //! Names to which pointers of a message lead, each read once.
 
-ghost use Rattle.std.specs.Prelude.{◌≡◌, ◌≤◌, ◌<◌, ◌+◌, ◌-◌, ◌++◌, ◌∷◌, [], IfNone, IfSome, OnOk, Some, drop, length, take};
+ghost use Rattle.std.specs.Prelude.{◌≡◌, ◌≤◌, ◌<◌, ◌+◌, ◌++◌, ◌∷◌, [], IfNone, IfSome, OnOk, Some, drop, length, take};
 ghost use Rattle.std.specs.Str.{str_to_ascii_lowercase};
 ghost use Rattle.dns_wire.specs.Octets.{Octets};
 ghost use Rattle.dns_wire.specs.Names.{name_labels, plain_name};
@@ -10,14 +10,14 @@ ghost use Rattle.dns_message.specs.OwnerKeys.{owner_key};
 
 use crate::owner_key::put_owner_key;
 use dns_chain::NameSpan;
-use dns_name::Name;
+use dns_name::{Name, OwnLabels};
 use dns_wire::copy_at;
 use std::alloc::{AllocError, Global};
 
 /// How many names are looked through one by one. Of more, each has a number at its place.
 const FEW: usize = 4;
 
-/// A name to which a pointer leads: its canonical octets and its key.
+/// A name to which a pointer leads: its canonical octets, and its key where an owner went on there first.
 #[derive(Drop)]
 pub(crate) struct KnownName {
     /// Where the name is.
@@ -27,56 +27,55 @@ pub(crate) struct KnownName {
     /// How many octets the name has, and its key.
     pub(crate) size: usize,
     pub(crate) octets: [u8; Name::MAX_SIZE],
-    pub(crate) key: [u8; Name::MAX_SIZE],
+    pub(crate) key: Option<[u8; Name::MAX_SIZE]>,
 }
 
 impl KnownName {
-    /// Puts the name after own labels, which are at the beginning of the buffer with a root after them. `None` comes exactly if both together have
-    /// more than 255 octets.
-    pub(crate) fn join(&self, own: NameSpan, octets: &mut [u8]) -> Option<NameSpan>
-        requires size { (0 < own.size) × (own.size ≤ 255) × (self.now.size ≤ 255) }
+    /// Puts the name after own labels, which are at the beginning of the buffer. `None` comes exactly if both together have more than 255 octets.
+    pub(crate) fn join(&self, own: OwnLabels, octets: &mut [u8]) -> Option<NameSpan>
+        requires size { (own.size < 255) × (self.now.size ≤ 255) }
         requires room { length octets.old ≡ 255 }
-        ensures span { IfSome result (λ span. (span.size + 1 ≡ own.size + self.now.size) × (span.size ≤ 255) × (span.end ≡ own.end)) }
-        ensures long { IfNone result (255 + 1 < own.size + self.now.size) }
+        ensures span { IfSome result (λ span. (span.size ≡ own.size + self.now.size) × (span.size ≤ 255) × (span.end ≡ own.end)) }
+        ensures long { IfNone result (255 < own.size + self.now.size) }
         ensures unchanged { IfNone result (octets.new ≡ octets.old) }
-        ensures octets { IfSome result (λ span. take span.size octets.new ≡ take (own.size - 1) octets.old ++ take self.now.size self.now.octets) }
+        ensures octets { IfSome result (λ span. take span.size octets.new ≡ take own.size octets.old ++ take self.now.size self.now.octets) }
         ensures room { length octets.new ≡ 255 }
     {
-        let labels = own.size - 1;
-        if labels + self.size > Name::MAX_SIZE {
+        let size = own.size + self.size;
+        if size > Name::MAX_SIZE {
             return None;
         }
-        copy_at(&self.octets[..self.size], octets, labels);
-        Some(NameSpan {
-            size: labels + self.size,
-            end: own.end,
-        })
+        copy_at(&self.octets[..self.size], octets, own.size);
+        let end = own.end;
+        Some(NameSpan { size, end })
     }
 
-    /// Puts the name after own labels as `join`, and writes the key of both together to the beginning of a buffer.
+    /// Puts the name after own labels as `join`, after which a root is in the buffer, and writes the key of both together, which begins with
+    /// the name's key, to the beginning of a buffer.
     pub(crate) fn join_owner(
         &self,
-        own: NameSpan,
+        name_key: &[u8],
+        own: OwnLabels,
         octets: &mut [u8],
         key: &mut [u8],
     ) -> Option<NameSpan>
-        requires own { all_of (plain_name (take own.size octets.old)) ≡ Some (name_labels (take own.size octets.old)) }
-        requires lowercase { str_to_ascii_lowercase (take own.size octets.old) ≡ take own.size octets.old }
-        requires size { (0 < own.size) × (own.size ≤ 255) × (0 < self.now.size) × (self.now.size ≤ 255) }
-        requires key { length (take self.now.size self.now.key) ≡ self.now.size }
+        requires own { all_of (plain_name (take (own.size + 1) octets.old)) ≡ Some (name_labels (take (own.size + 1) octets.old)) }
+        requires lowercase { str_to_ascii_lowercase (take (own.size + 1) octets.old) ≡ take (own.size + 1) octets.old }
+        requires size { (own.size < 255) × (0 < self.now.size) × (self.now.size ≤ 255) }
+        requires name_key { length (take self.now.size name_key.now) ≡ self.now.size }
         requires room { (length octets.old ≡ 255) × (length key.old ≡ 255) }
-        ensures span { IfSome result (λ span. (span.size + 1 ≡ own.size + self.now.size) × (span.size ≤ 255) × (span.end ≡ own.end)) }
-        ensures long { IfNone result (255 + 1 < own.size + self.now.size) }
+        ensures span { IfSome result (λ span. (span.size ≡ own.size + self.now.size) × (span.size ≤ 255) × (span.end ≡ own.end)) }
+        ensures long { IfNone result (255 < own.size + self.now.size) }
         ensures unchanged { IfNone result (octets.new ≡ octets.old) }
-        ensures octets { IfSome result (λ span. take span.size octets.new ≡ take (own.size - 1) octets.old ++ take self.now.size self.now.octets) }
-        ensures key { IfSome result (λ span. take span.size key.new ≡ take self.now.size self.now.key ++ drop 1 (owner_key (name_labels (take own.size octets.old)))) }
+        ensures octets { IfSome result (λ span. take span.size octets.new ≡ take own.size octets.old ++ take self.now.size self.now.octets) }
+        ensures key { IfSome result (λ span. take span.size key.new ≡ take self.now.size name_key.now ++ drop 1 (owner_key (name_labels (take (own.size + 1) octets.old)))) }
         ensures room { (length octets.new ≡ 255) × (length key.new ≡ 255) }
     {
-        if own.size - 1 + self.size > Name::MAX_SIZE {
+        if own.size + self.size > Name::MAX_SIZE {
             return None;
         }
-        put_owner_key(&octets[..own.size], &mut key[self.size - 1..]);
-        copy_at(&self.key[..self.size], key, 0);
+        put_owner_key(&octets[..own.size + 1], &mut key[self.size - 1..]);
+        copy_at(&name_key[..self.size], key, 0);
         self.join(own, octets)
     }
 }

@@ -11,6 +11,7 @@ mod canonical_list;
 mod canonical_owner;
 mod canonical_parts;
 mod canonical_record;
+mod collapsed_records;
 mod form_order;
 mod form_reader;
 mod form_span;
@@ -29,7 +30,6 @@ mod push_laws;
 mod question_end;
 mod read_again;
 mod several_laws;
-mod unparsed_parts;
 
 pub use build_error::MessageBuildError;
 pub use build_laws::{
@@ -40,8 +40,9 @@ pub use builder::MessageBuilder;
 pub use canon_error::CanonError;
 pub use canonical_form::CanonicalForm;
 pub use canonical_forms::CanonicalForms;
-pub use canonical_list::collapse;
+pub use canonical_list::CanonicalList;
 pub use canonical_record::CanonicalRecord;
+pub use collapsed_records::collapse;
 pub use form_reader::{FormsReader, read_forms, read_forms_by};
 pub use header::{Header, HeaderFlags, SectionCounts};
 pub use item::{MessageItem, ParsedMessageItem};

@@ -22,6 +22,9 @@ pub struct ItemPosition {
 /// The counted items of a message one after another, in the order of their sections (RFC 1035 section 4.1). An item that is
 /// not read is refused once, and ends them for good.
 ///
+/// It takes no memory, so a name that goes through a chain of pointers is followed each time: in at most 129 steps and one for each octet
+/// before it (`NameBuf::split_counted`). `read_forms` follows such chains once for a message.
+///
 /// ```
 /// for item in MessageParser::new(octets)? {
 ///     if let MessageItem::Answer(record) = item? {

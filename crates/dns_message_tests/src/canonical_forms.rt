@@ -31,7 +31,7 @@ fn most_records() -> [u8; 65_528] {
 /// How many of the forms are left, if those of alike records count once, and whether the first has these octets.
 fn first_left(alloc: Global, forms: &CanonicalForms, wanted: &[u8]) -> Option<(usize, bool)> {
     match forms.collapsed(alloc) {
-        Ok(order) => match order.first() {
+        Ok(order) => match order.forms().first() {
             Some(found) => Some((order.len(), found.octets() == wanted)),
             None => None,
         },

@@ -139,11 +139,11 @@ const COMPRESSED_KX: &[u8] = b"\0\x0a\xc0\x0c";
 /// SIG data up to the signature, with a pointer to the owner for a signer.
 const SIGNED: &[u8] = b"\0\x01\x08\x02\0\0\x0e\x10v\x80\xc4\x80c\xb0\xcd\009\xc0\x0c";
 
-/// Whether there is one form, with these data after the owner and ten octets.
+/// Whether the first form has these data.
 fn has_data(alloc: Global, forms: &CanonicalForms, wanted: &[u8]) -> bool {
     match forms.collapsed(alloc) {
-        Ok(order) => match order.first() {
-            Some(form) => form.octets().get(OWNER.len() + 10..) == Some(wanted),
+        Ok(order) => match order.forms().first() {
+            Some(form) => form.data() == wanted,
             None => false,
         },
         Err(_) => false,

@@ -9,6 +9,8 @@ mod built_records;
 #[cfg(test)]
 mod canonical_forms;
 #[cfg(test)]
+mod canonical_list;
+#[cfg(test)]
 mod canonical_record;
 #[cfg(test)]
 mod edns_record;

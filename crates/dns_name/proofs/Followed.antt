@@ -1,6 +1,6 @@
 -- Following a name in a message label by label.
-use Rattle.std.proofs.Common.{◌≡◌, ℕ, zero, suc, pred, ◌+◌, ◌-◌, ◌<◌, ◌≤◌, true, false, ltb, List, [], ◌∷◌, ◌++◌, length, take, drop, Option, Some, None, IsSome, refl, sym, ap, ◌∙◌, append_assoc, arith, add-one}
-use Rattle.std.specs.Prelude.{is_some, unwrap_or, slice_index, slice_range, Result, Ok, Err, IfOk, OnErr}
+use Rattle.std.proofs.Common.{◌≡◌, ℕ, zero, suc, pred, ◌+◌, ◌-◌, ◌<◌, ◌≤◌, true, false, ltb, List, [], ◌∷◌, ◌++◌, length, take, drop, Option, Some, None, refl, sym, ap, ◌∙◌, append_assoc, arith, add-one}
+use Rattle.std.specs.Prelude.{unwrap_or, slice_index, slice_range, Result, Ok, Err, IfOk, OnErr}
 use Rattle.std.specs.List.{AllByRecursion}
 use Rattle.std.proofs.lemmas.Bool.{lt-ltb, le-ltb}
 use Rattle.std.proofs.lemmas.List.{length-append, length-take, length-drop, append-nil}
@@ -9,8 +9,7 @@ use Rattle.dns_wire.specs.Reading.{Gives, all_of}
 use Rattle.dns_wire.specs.declared.name_cursor.LabelType.{LabelType}
 use Rattle.dns_wire.specs.declared.name_cursor.LabelType.TheVariants.{Root, Label, Pointer}
 use Rattle.dns_wire.specs.Names.{labels_wire, wire, IsLabel, plain_name, name_labels}
-use Rattle.dns_wire.specs.declared.name_cursor.NameCursor.{NameCursor}
-use Rattle.dns_wire.specs.Pointers.{NameAt, after, label_type_at, joined, after_label_type, segment_within, short_name, name_at}
+use Rattle.dns_wire.specs.Pointers.{NameAt, label_type_at, joined, after_label_type, segment_within, short_name, name_at}
 use Rattle.dns_wire.proofs.Following.{name_at_is, name_at_finds}
 use Rattle.dns_wire.proofs.Walk.{AllByRecursion-append, labels_wire-append, wire_long, plain_wire}
 
@@ -164,12 +163,3 @@ answer_follows contents start (Err e) is = tt
 pub nothing_answered : {E : Type 0} (contents : List ℕ) (start : ℕ) (result : Result (List (List ℕ) × ℕ) E) → Gives (λ x. (x.0, x.1)) result (name_at contents start) → OnErr result ((labels : List (List ℕ)) (end : ℕ) → ¬ NameAt contents start labels end)
 nothing_answered contents start (Ok x) is = tt
 nothing_answered contents start (Err e) is = nothing_follows contents start is
-
--- at the root a reading ends: after the first pointer, or else after the root
-pub root_ends : (cursor moved : NameCursor) → moved ≡ after cursor Root → IsSome moved.end
-root_ends cursor moved is = ap (λ (c : NameCursor). is_some c.end) is
-
-pub root_end : (cursor moved : NameCursor) (end : ℕ) → moved ≡ after cursor Root → moved.end ≡ Some end → end ≡ unwrap_or cursor.end (cursor.at + 1)
-root_end cursor moved end is some =
-    let both : Some end ≡ Some (unwrap_or cursor.end (cursor.at + 1)) = sym some ∙ ap (λ (c : NameCursor). c.end) is in
-    cc

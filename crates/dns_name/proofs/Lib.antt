@@ -4,10 +4,11 @@ pub mod Buffered
 pub mod Continued
 pub mod CountedSteps
 pub mod Followed
-pub mod Gathered
+pub mod HeldReversed
 pub mod Labelled
 pub mod NamePrefixes
 pub mod NameSameness
+pub mod OwnLabelLemmas
 pub mod UnparsedNames
 pub mod UnparsedNamesAt
 pub mod NameSuffixes

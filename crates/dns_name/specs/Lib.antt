@@ -4,5 +4,6 @@ pub mod Hashing
 pub mod Json
 pub mod UnparsedLemmas
 pub mod Order
+pub mod OwnLabels
 pub mod Text
 pub mod Unparsed

@@ -13,6 +13,7 @@ mod lowercased;
 mod name;
 mod name_buf;
 mod order;
+mod own_labels;
 mod read_name;
 mod relative_name;
 mod rev_canonical;
@@ -35,6 +36,7 @@ pub use laws::{
 pub use lowercased::Lowercased;
 pub use name::Name;
 pub use name_buf::NameBuf;
+pub use own_labels::{OwnLabels, copy_own_labels};
 pub use read_name::{ReadMessageName, ReadName};
 pub use rev_name::RevName;
 pub use rev_name_buf::RevNameBuf;

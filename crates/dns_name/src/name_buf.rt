@@ -8,10 +8,11 @@ ghost use Rattle.dns_wire.specs.Names.{plain_name, name_labels};
 ghost use Rattle.dns_wire.specs.Pointers.{NameAt, name_at, label_type_count};
 
 use crate::name::Name;
+use crate::own_labels::copy_counted;
 use crate::steps::Steps;
 use dns_wire::{
-    BuildBytes, LabelType, NameCursor, ParseBytes, ParseError, ParseMessageBytes, SplitBytes,
-    SplitMessageBytes, TruncationError, copy_at, whole_message,
+    BuildBytes, ParseBytes, ParseError, ParseMessageBytes, SplitBytes, SplitMessageBytes,
+    TruncationError, copy_at, whole_message,
 };
 use std::alloc::AllocError;
 use std::marker::{Brand, Model};
@@ -93,25 +94,19 @@ fn read_name<L: Ledger>(
 {
     let mut buffer = [0; Name::MAX_SIZE];
     let mut size = 0;
-    let mut cursor = NameCursor::new(start);
+    let mut place = start;
+    let mut end = None;
     loop {
-        let at = cursor.at;
-        steps.add(1);
-        match cursor.next_label_type(contents)? {
-            LabelType::Root => {
-                copy_at(&[0], &mut buffer, size);
-                let name = NameBuf::from_buffer(buffer, size + 1);
-                return Ok((name, cursor.end.unwrap()));
-            }
-            LabelType::Label(label) => {
-                if size + 1 + label >= Name::MAX_SIZE {
-                    return Err(ParseError);
-                }
-                copy_at(&contents[at..at + 1 + label], &mut buffer, size);
-                size += 1 + label;
-            }
-            LabelType::Pointer(_) => {}
-        }
+        let own = copy_counted(contents, place, &mut buffer, size, steps)?;
+        let name_end = end.unwrap_or(own.end);
+        let Some(target) = own.target else {
+            copy_at(&[0], &mut buffer, own.size);
+            let name = NameBuf::from_buffer(buffer, own.size + 1);
+            return Ok((name, name_end));
+        };
+        size = own.size;
+        place = target;
+        end = Some(name_end);
     }
 }
 

@@ -9,11 +9,12 @@ ghost use Rattle.dns_wire.specs.Pointers.{NameAt, name_at};
 ghost use Rattle.dns_wire.specs.Reversed.{reversed_name, reversed_name_labels};
 
 use crate::name::Name;
+use crate::name_buf::NameBuf;
 use crate::relative_name::copy_before;
 use crate::rev_name::RevName;
 use dns_wire::{
-    BuildBytes, LabelType, NameCursor, ParseBytes, ParseError, ParseMessageBytes, SplitBytes,
-    SplitMessageBytes, TruncationError, whole_message,
+    BuildBytes, ParseBytes, ParseError, ParseMessageBytes, SplitBytes, SplitMessageBytes,
+    TruncationError, whole_message,
 };
 use std::alloc::AllocError;
 use std::marker::Model;
@@ -86,34 +87,13 @@ impl Clone for RevNameBuf {
     }
 }
 
-/// Reads the name at the place, its pointers followed, and gives the place where it ends. Each label is
-/// copied once, before those that are read already, and the first that leaves no room for the root ends the
-/// reading.
+/// Reads the name at the place, its pointers followed, and gives the place where it ends.
 fn read_reversed(contents: &[u8], start: usize) -> Result<(RevNameBuf, usize), ParseError>
     ensures exact { Gives (λ x. (x.0, x.1)) result (name_at contents.now start) }
     ensures within { IfOk result (λ x. (start ≤ x.1) × (x.1 ≤ length contents.now)) }
 {
-    let mut buffer = [0; RevName::MAX_SIZE];
-    let mut offset = RevName::MAX_SIZE;
-    let mut cursor = NameCursor::new(start);
-    loop {
-        let at = cursor.at;
-        match cursor.next_label_type(contents)? {
-            LabelType::Root => {
-                copy_before(&[0], &mut buffer, offset);
-                let name = RevNameBuf::from_buffer(buffer, offset - 1);
-                return Ok((name, cursor.end.unwrap()));
-            }
-            LabelType::Label(label) => {
-                if offset <= 1 + label {
-                    return Err(ParseError);
-                }
-                copy_before(&contents[at..at + 1 + label], &mut buffer, offset);
-                offset -= 1 + label;
-            }
-            LabelType::Pointer(_) => {}
-        }
-    }
+    let (name, end) = NameBuf::split_message_bytes(contents, start)?;
+    Ok((name.as_name().to_revname(), end))
 }
 
 /// The octets of a name without pointers, its first label first.

@@ -2,6 +2,7 @@
 use Rattle.std.proofs.Common.{min, ◌≡◌, ℕ, ◌+◌, ◌*◌, ◌/◌, ◌%◌, ◌<◌, ◌≤◌, inl, inr, true, false, List, [], ◌∷◌, ◌++◌, length, map, refl, sym, ap, subst, ◌∙◌, arith}
 use Rattle.std.specs.Prelude.{replicate, Result, Ok, Err, OnOk, is_err}
 use Rattle.std.specs.Int.{w16, to_be_bytes}
+use Rattle.std.specs.List.{concat}
 use Rattle.std.proofs.lemmas.Bool.{cases_lt}
 use Rattle.std.proofs.lemmas.List.{length-append, map-append}
 use Rattle.dns_wire.specs.Compression.{CompressedWrite, FitsIn, compressed_name_writes}
@@ -23,7 +24,7 @@ use Rattle.dns_message.proofs.Accepted.{push_fits}
 use Rattle.dns_message.proofs.Pushed.{new_whole, records_of_record}
 use Rattle.dns_message.proofs.Repushed.{pushed_record}
 use Rattle.dns_message.proofs.Shorter.{record_no_longer}
-use Rattle.dns_normal.specs.Answers.{HasAnswers, HasAnswersIfFew, octets_among}
+use Rattle.dns_normal.specs.Answers.{HasAnswers, HasAnswersIfFew}
 use Rattle.dns_normal.specs.Normal.{answers_header, answers_message}
 
 -- ---- octets
@@ -171,23 +172,19 @@ if_accepted most rs draft (Err error) e over = absurd cc
 
 -- ---- the room that is enough
 
-writes_within : (rs : List RecordValue) (contents places : List ℕ) → length (list_writes built (map lowercase_names rs) contents places).0 ≤ octets_among (map canonical_wire rs)
+writes_within : (rs : List RecordValue) (contents places : List ℕ) → length (list_writes built (map lowercase_names rs) contents places).0 ≤ length (concat (map canonical_wire rs))
 unfolding list_writes
 writes_within [] contents places = omega arith
 writes_within (r ∷ rs) contents places =
     let first = built (lowercase_names r) contents places in
     let others = list_writes built (map lowercase_names rs) (contents ++ first.0) first.1 in
-    omega (arith, record_no_longer (lowercase_names r) contents places, writes_within rs (contents ++ first.0) first.1, length-append first.0 others.0)
+    omega (arith, record_no_longer (lowercase_names r) contents places, writes_within rs (contents ++ first.0) first.1, length-append first.0 others.0, length-append (canonical_wire r) (concat (map canonical_wire rs)))
 
 -- the message is no longer than a header and all canonical octets
-pub message_within : (rs : List RecordValue) → length (answers_message (map lowercase_names rs)) ≤ 12 + octets_among (map canonical_wire rs)
+pub message_within : (rs : List RecordValue) → length (answers_message (map lowercase_names rs)) ≤ 12 + length (concat (map canonical_wire rs))
 message_within rs = omega (arith, message_long (map lowercase_names rs), writes_within rs [] [])
 
-pub octets_more : (lists : List (List ℕ)) (octets : List ℕ) → octets_among (lists ++ octets ∷ []) ≡ octets_among lists + length octets
-octets_more [] octets = omega arith
-octets_more (first ∷ lists) octets = omega (arith, octets_more lists octets)
-
-module _ (most : ℕ) (lists : List (List ℕ)) (room : most ≡ min 65535 (12 + octets_among lists)) where
+module _ (most : ℕ) (lists : List (List ℕ)) (room : most ≡ min 65535 (12 + length (concat lists))) where
   pub room_least : 12 ≤ most
   room_least = omega (arith, room)
 
@@ -196,4 +193,4 @@ module _ (most : ℕ) (lists : List (List ℕ)) (room : most ≡ min 65535 (12 +
 
   -- a message that is too long for the room is too long for any message
   pub room_enough : (rs : List RecordValue) → map canonical_wire rs ≡ lists → most < length (answers_message (map lowercase_names rs)) → 65535 < length (answers_message (map lowercase_names rs))
-  room_enough rs are over = omega (arith, room, over, message_within rs, ap octets_among are)
+  room_enough rs are over = omega (arith, room, over, message_within rs, ap (λ (l : List (List ℕ)). length (concat l)) are)

@@ -1,5 +1,5 @@
 -- A message in which records are built as answers.
-use Rattle.std.specs.Prelude.{◌≡◌, ℕ, ◌∷◌, ◌+◌, ◌*◌, ◌<◌, ◌≤◌, List, [], length, map, Result, Ok, Err}
+use Rattle.std.specs.Prelude.{◌≡◌, ℕ, ◌+◌, ◌*◌, ◌<◌, ◌≤◌, List, [], length, map, Result, Ok, Err}
 use Rattle.std.specs.List.{AllByRecursion}
 use Rattle.dns_wire.specs.Octets.{Octets}
 use Rattle.dns_wire.specs.Compression.{FitsIn}
@@ -29,11 +29,6 @@ abbrev pub IsRecordOf : Octets → Type 0
 IsRecordOf octets = (r : RecordValue) × WellFormed r × (canonical_wire r ≡ octets)
 
 -- ---- records as answers
-
--- how many octets the lists have
-abbrev pub octets_among : List Octets → ℕ
-octets_among [] = 0
-octets_among (octets ∷ lists) = length octets + octets_among lists
 
 -- The records are the answers in a buffer of `most` octets, and nothing else is in it: their octets are those that are built one after
 -- another, and the message is read whole as them, except for ASCII case where it does not count.

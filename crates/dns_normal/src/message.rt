@@ -1,6 +1,7 @@
 //! The normal form of a message.
 
 ghost use Rattle.std.specs.Prelude.{◌≡◌, ◌≤◌, ◌+◌, ℕ, min, List, ◌++◌, ◌∷◌, [], Option, Some, None, IfOk, IfErr, length, map};
+ghost use Rattle.std.specs.List.{concat};
 ghost use Rattle.dns_text.specs.Outcomes.{RefusesFor};
 ghost use Rattle.dns_message.specs.Canonical.{canonical_wire, lowercase_names};
 ghost use Rattle.dns_message.specs.FormsRead.{forms_of};
@@ -8,14 +9,14 @@ ghost use Rattle.dns_record.specs.FurtherFormats.{data_by};
 ghost use Rattle.dns_message.specs.Messages.{RecordValue, Valid, ValidBy, message_by, message_reading};
 ghost use Rattle.dns_message.specs.Order.{octets_of_key};
 ghost use Rattle.dns_message.specs.WellFormed.{WellFormed};
-ghost use Rattle.dns_normal.specs.Answers.{AreRecordsOf, HasAnswers, HasAnswersIfFew, HaveRecords, IsRecordOf, octets_among};
+ghost use Rattle.dns_normal.specs.Answers.{AreRecordsOf, HasAnswers, HasAnswersIfFew, HaveRecords, IsRecordOf};
 ghost use Rattle.dns_normal.specs.Normal.{answers_message, normal_form};
 ghost use Rattle.dns_normal.specs.Texts.{form_refusal, reading_refusal, size_refusal};
 
 use crate::refusal::Refusal;
 use dns_message::{
-    CanonError, CanonicalForm, CanonicalForms, FormsReader, HeaderFlags, MAX_MESSAGE_SIZE,
-    MessageBuildError, MessageBuilder,
+    CanonError, CanonicalForm, CanonicalForms, CanonicalList, FormsReader, HeaderFlags,
+    MAX_MESSAGE_SIZE, MessageBuildError, MessageBuilder,
 };
 use dns_name::Name;
 use dns_num::U16;
@@ -56,34 +57,29 @@ fn push_records(
 }
 
 /// The octets of a header and the canonical octets of the records, which are enough for the message; but no more than a message may have.
-fn room_for(forms: &[CanonicalForm<'_>]) -> usize
-    ensures { result ≡ min MAX_MESSAGE_SIZE (HEADER_SIZE + octets_among (map octets_of_key forms.now)) }
+fn room_for(list: &CanonicalList<'_>) -> usize
+    ensures { result ≡ min MAX_MESSAGE_SIZE (HEADER_SIZE + length (concat (map octets_of_key list.now))) }
 {
-    let mut room = HEADER_SIZE;
-    for form in forms {
-        room = (room + form.octets().len()).min(MAX_MESSAGE_SIZE);
-    }
-    room
+    list.octet_count()
+        .saturating_add(HEADER_SIZE)
+        .min(MAX_MESSAGE_SIZE)
 }
 
 /// The message that has these records as answers, lowercased, with names that are written once.
-fn answers_message(
-    alloc: Global,
-    forms: &[CanonicalForm<'_>],
-) -> Result<Vec<u8>, PrintError<Refusal>>
-    requires { HaveRecords (map octets_of_key forms.now) }
-    ensures built { (rs : List RecordValue) → AreRecordsOf (map octets_of_key forms.now) rs
+fn answers_message(alloc: Global, list: &CanonicalList<'_>) -> Result<Vec<u8>, PrintError<Refusal>>
+    requires { HaveRecords (map octets_of_key list.now) }
+    ensures built { (rs : List RecordValue) → AreRecordsOf (map octets_of_key list.now) rs
         → IfOk result (λ octets. octets.items ≡ answers_message (map lowercase_names rs)) }
-    ensures accepted { (rs : List RecordValue) → AreRecordsOf (map octets_of_key forms.now) rs
+    ensures accepted { (rs : List RecordValue) → AreRecordsOf (map octets_of_key list.now) rs
         → IfOk result (λ _. length (answers_message (map lowercase_names rs)) ≤ MAX_MESSAGE_SIZE) }
-    ensures refused { (rs : List RecordValue) → AreRecordsOf (map octets_of_key forms.now) rs
+    ensures refused { (rs : List RecordValue) → AreRecordsOf (map octets_of_key list.now) rs
         → IfErr result (RefusesFor (size_refusal (answers_message (map lowercase_names rs)))) }
 {
-    let mut buffer = zeros(alloc, room_for(forms))?;
+    let mut buffer = zeros(alloc, room_for(list))?;
     let mut compressor = NameCompressor::new();
     let (id, flags) = (U16::new(0), HeaderFlags::from_bits(0));
     let mut builder = MessageBuilder::new(&mut buffer, &mut compressor, id, flags);
-    if push_records(&mut builder, forms).is_err() {
+    if push_records(&mut builder, list.forms()).is_err() {
         return Err(PrintError::Refused(Refusal::TooLarge));
     }
     let built = Vec::from_slice(alloc, builder.message().as_bytes())?;

@@ -5,6 +5,8 @@ pub mod ComparedOctets
 pub mod EachFormat
 pub mod CompressibleNames
 pub mod Opted
+pub mod PartsLemmas
+pub mod PartsOfOctets
 pub mod Places
 pub mod Sizes
 pub mod Stepped

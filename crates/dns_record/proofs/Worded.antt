@@ -1,24 +1,25 @@
 -- Questions, records and their fields as functions and as relations are the same.
-use Rattle.std.proofs.Common.{◌≡◌, ℕ, ◌+◌, ◌-◌, ◌≤◌, Bool, true, false, cond, ltb, take_all, List, [], ◌∷◌, ◌++◌, length, take, drop, Option, Some, None, refl, sym, ap, subst, ◌∙◌, arith}
+use Rattle.std.proofs.Common.{◌≡◌, ℕ, ◌-◌, ◌≤◌, Bool, true, false, cond, ltb, take_all, List, [], ◌∷◌, ◌++◌, length, take, drop, Option, Some, None, refl, sym, ap, subst, ◌∙◌, arith}
 use Rattle.std.specs.Prelude.{◌==◌}
-use Rattle.std.specs.Int.{Width, w16, w32}
-use Rattle.std.proofs.lemmas.Bool.{le-ltb, ltb-false}
+use Rattle.std.specs.Int.{Width, w16}
+use Rattle.std.proofs.lemmas.Bool.{le-ltb}
 use Rattle.std.proofs.lemmas.Bool.Decides.{nat_tests}
-use Rattle.std.proofs.lemmas.List.{length-drop, append-nil}
+use Rattle.std.proofs.lemmas.List.{length-drop, length-take, append-nil}
 use Rattle.std.proofs.lemmas.Option.{some_pair_parts}
 use Rattle.dns_wire.specs.Names.{wire, plain_name}
 use Rattle.dns_wire.specs.Pointers.{name_at}
 use Rattle.dns_wire.specs.Reading.{octet, octets, number, plain_at, all_at}
+use Rattle.dns_wire.specs.ReadingLemmas.{then_some}
 use Rattle.dns_wire.specs.Steps.{◌>>=◌, first_to}
 use Rattle.dns_wire.proofs.Following.{name_at_is, name_at_finds}
 use Rattle.dns_wire.proofs.Spelled.{plain_name_takes, plain_name_again}
 use Rattle.dns_record.specs.Data.{data_in}
 use Rattle.dns_record.specs.Fields.{Field}
 use Rattle.dns_record.specs.Fields.FieldOf.{CompressibleName, UncompressedName, CharacterString, CountedOctets, CharacterStrings, OtherOctets, Byte, Number}
-use Rattle.dns_record.specs.InPlace.{OctetsAt, AreCharacterStrings, AreOptions, AreWindows, FieldAt, FieldsAt, DataAt, QuestionAt, RecordAt}
+use Rattle.dns_record.specs.InPlace.{OctetsAt, NumberAt, AreCharacterStrings, AreOptions, AreWindows, FieldAt, FieldsAt, DataAt, QuestionAt, RecordAt}
 use Rattle.dns_record.specs.Kinds.{Kind, field_in, fields_in}
 use Rattle.dns_record.specs.Questions.{QuestionOf, question_in}
-use Rattle.dns_record.specs.Records.{RecordOf, record_in, end_of}
+use Rattle.dns_record.specs.Records.{RecordOf, Parts, record_of, parts_at, record_in}
 use Rattle.dns_record.specs.Formats.{rdata_format}
 use Rattle.dns_record.specs.Options.{options, is_option_data}
 use Rattle.dns_record.specs.CharacterStrings.{character_string, character_strings, is_txt_data}
@@ -26,6 +27,7 @@ use Rattle.dns_record.specs.TypeBitMaps.{bitmap, some_bitmap, is_bitmap}
 use Rattle.dns_record.proofs.Bitmaps.{bitmap_is, is_this_bitmap}
 use Rattle.dns_record.proofs.Opted.{options_are, are_these_options}
 use Rattle.dns_record.proofs.CharacterStringLemmas.{are_character_strings, character_strings_are}
+use Rattle.dns_record.proofs.PartsLemmas.{parts_are_at, parts_found_at}
 use Rattle.dns_record.proofs.Places.{placed, occurs_at, read_at, read_placed, octet_spelled, octets_spelled, octets_read, text_spelled, text_read, number_at, read_number}
 
 -- ---- steps
@@ -264,78 +266,54 @@ question_found contents at question end q =
 abbrev RecordValue : Type 0
 RecordValue = RecordOf (List (List ℕ)) (List Field)
 
--- what is read after the owner, the type, the class, the time to live, the size, and up to the end
-abbrev to_content : List ℕ → List (List ℕ) → ℕ → ℕ → ℕ → ℕ → ℕ → Option (RecordValue × ℕ)
-to_content contents owner rtype class ttl body end =
-    ◌>>=◌ {A = List Field} {B = RecordValue × ℕ} (data_in name_at rtype (take end contents) body) (λ content. Some (record { owner = owner; rtype = rtype; class = class; ttl = ttl; content = content }, end))
-
-abbrev to_end : List ℕ → List (List ℕ) → ℕ → ℕ → ℕ → ℕ × ℕ → Option (RecordValue × ℕ)
-to_end contents owner rtype class ttl size = ◌>>=◌ {A = ℕ} {B = RecordValue × ℕ} (end_of contents size.1 size.0) (λ end. to_content contents owner rtype class ttl size.1 end)
-
-abbrev to_size : List ℕ → List (List ℕ) → ℕ → ℕ → ℕ × ℕ → Option (RecordValue × ℕ)
-to_size contents owner rtype class ttl = ◌>>=◌ {A = ℕ × ℕ} {B = RecordValue × ℕ} (plain_at (number w16) contents ttl.1) (λ size. to_end contents owner rtype class ttl.0 size)
-
-abbrev to_ttl : List ℕ → List (List ℕ) → ℕ → ℕ × ℕ → Option (RecordValue × ℕ)
-to_ttl contents owner rtype class = ◌>>=◌ {A = ℕ × ℕ} {B = RecordValue × ℕ} (plain_at (number w32) contents class.1) (λ ttl. to_size contents owner rtype class.0 ttl)
-
-abbrev to_class : List ℕ → List (List ℕ) → ℕ × ℕ → Option (RecordValue × ℕ)
-to_class contents owner rtype = ◌>>=◌ {A = ℕ × ℕ} {B = RecordValue × ℕ} (plain_at (number w16) contents rtype.1) (λ class. to_ttl contents owner rtype.0 class)
-
-abbrev to_type : List ℕ → List (List ℕ) × ℕ → Option (RecordValue × ℕ)
-to_type contents owner = ◌>>=◌ {A = ℕ × ℕ} {B = RecordValue × ℕ} (plain_at (number w16) contents owner.1) (λ rtype. to_class contents owner.0 rtype)
-
-record Ends (contents : List ℕ) (at size end : ℕ) : Type 0 where
-  is : end ≡ at + size
-  within : end ≤ length contents
-
-ends : (contents : List ℕ) (at size end : ℕ) → end_of contents at size ≡ Some end → Ends contents at size end
-ends contents at size end e = by (ltb (length contents) (at + size)) refl e where
-  by : (b : Bool) → ltb (length contents) (at + size) ≡ b → cond b None (Some (at + size)) ≡ Some end → Ends contents at size end
-  by true le h = absurd cc
-  by false le h =
-      let same : at + size ≡ end = cc in
-      record { is = sym same; within = subst (λ (n : ℕ). n ≤ length contents) same (ltb-false (length contents) (at + size) le) }
-
 pub record_is : (contents : List ℕ) (at : ℕ) (r : RecordValue) (end : ℕ) → record_in name_at (data_in name_at) contents at ≡ Some (r, end) → RecordAt contents at r end
 unfolding record_in
 record_is contents at r end e =
-    let a = stepped {B = RecordValue × ℕ} (name_at contents at) (to_type contents) (r, end) e in
-    let b = stepped {B = RecordValue × ℕ} (plain_at (number w16) contents a.value.1) (to_class contents a.value.0) (r, end) a.later in
-    let c = stepped {B = RecordValue × ℕ} (plain_at (number w16) contents b.value.1) (to_ttl contents a.value.0 b.value.0) (r, end) b.later in
-    let d = stepped {B = RecordValue × ℕ} (plain_at (number w32) contents c.value.1) (to_size contents a.value.0 b.value.0 c.value.0) (r, end) c.later in
-    let f = stepped {B = RecordValue × ℕ} (plain_at (number w16) contents d.value.1) (to_end contents a.value.0 b.value.0 c.value.0 d.value.0) (r, end) d.later in
-    let g = stepped {B = RecordValue × ℕ} (end_of contents f.value.1 f.value.0) (to_content contents a.value.0 b.value.0 c.value.0 d.value.0 f.value.1) (r, end) f.later in
-    let h = stepped {A = List Field} {B = RecordValue × ℕ} (data_in name_at b.value.0 (take g.value contents) f.value.1) (λ content. Some (record { owner = a.value.0; rtype = b.value.0; class = c.value.0; ttl = d.value.0; content = content }, g.value)) (r, end) g.later in
-    let same = some_pair_parts (record { owner = a.value.0; rtype = b.value.0; class = c.value.0; ttl = d.value.0; content = h.value }) r g.value end h.later in
-    let last = ends contents f.value.1 f.value.0 g.value g.first in
+    let a = then_some (name_at contents at) _ _ e in
+    let p = then_some (plain_at parts_at contents a.0.1) _ _ a.2 in
+    let parts = p.0.0 in
+    let v = then_some (data_in name_at parts.rtype (take p.0.1 contents) (p.0.1 - length parts.content)) _ _ p.2 in
+    let same = some_pair_parts (record_of a.0.0 parts v.0) r p.0.1 end v.2 in
+    let q = parts_are_at contents a.0.1 parts p.0.1 p.1 in
+    let place : p.0.1 - length parts.content ≡ q.size_end = omega (arith, q.content.end_is) in
     subst (λ (found : RecordValue). RecordAt contents at found end) same.0
-    (subst (λ (n : ℕ). RecordAt contents at (record { owner = a.value.0; rtype = b.value.0; class = c.value.0; ttl = d.value.0; content = h.value }) n) same.1
+    (subst (λ (n : ℕ). RecordAt contents at (record_of a.0.0 parts v.0) n) same.1
     (record {
-      owner_end = a.value.1;
-      type_end = b.value.1;
-      class_end = c.value.1;
-      ttl_end = d.value.1;
-      size = f.value.0;
-      size_end = f.value.1;
-      owner = name_at_is contents at a.value.0 a.value.1 a.first;
-      rtype = number_at w16 contents a.value.1 b.value.0 b.value.1 b.first;
-      class = number_at w16 contents b.value.1 c.value.0 c.value.1 c.first;
-      ttl = number_at w32 contents c.value.1 d.value.0 d.value.1 d.first;
-      size_is = number_at w16 contents d.value.1 f.value.0 f.value.1 f.first;
-      end_is = last.is;
-      within = last.within;
-      content = data_is b.value.0 (take g.value contents) f.value.1 h.value h.first;
+      owner_end = a.0.1;
+      type_end = q.type_end;
+      class_end = q.class_end;
+      ttl_end = q.ttl_end;
+      size = length parts.content;
+      size_end = q.size_end;
+      owner = name_at_is contents at a.0.0 a.0.1 a.1;
+      rtype = q.rtype;
+      class = q.class;
+      ttl = q.ttl;
+      size_is = q.size;
+      end_is = q.content.end_is;
+      within = q.content.within;
+      content = subst (λ (n : ℕ). DataAt parts.rtype (take p.0.1 contents) n v.0) place (data_is parts.rtype (take p.0.1 contents) (p.0.1 - length parts.content) v.0 v.1);
     }))
 
 pub record_found : (contents : List ℕ) (at : ℕ) (r : RecordValue) (end : ℕ) → RecordAt contents at r end → record_in name_at (data_in name_at) contents at ≡ Some (r, end)
 unfolding record_in
 record_found contents at r end q =
     let owner = name_at_finds contents at r.owner q.owner_end q.owner in
-    let rtype = read_number w16 contents q.owner_end r.rtype q.type_end q.rtype in
-    let class = read_number w16 contents q.type_end r.class q.class_end q.class in
-    let ttl = read_number w32 contents q.class_end r.ttl q.ttl_end q.ttl in
-    let size = read_number w16 contents q.ttl_end q.size q.size_end q.size_is in
-    let fits : ltb (length contents) (q.size_end + q.size) ≡ false = le-ltb _ _ (omega (arith, q.within, q.end_is)) in
-    let last : end_of contents q.size_end q.size ≡ Some end = rw fits (ap (λ (n : ℕ). Some n) (sym q.end_is)) in
-    let content = data_found r.rtype (take end contents) q.size_end r.content q.content in
-    rw (owner, rtype, class, ttl, size, last, content) refl
+    let body : List ℕ = take q.size (drop q.size_end contents) in
+    let long : length body ≡ q.size = omega (arith, length-take q.size (drop q.size_end contents), length-drop q.size_end contents, q.end_is, q.within) in
+    let parts : Parts = record { rtype = r.rtype; class = r.class; ttl = r.ttl; content = body } in
+    let occurs : OctetsAt contents q.size_end body end = record { end_is = omega (arith, q.end_is, long); within = q.within; occur = ap (λ (n : ℕ). take n (drop q.size_end contents)) (sym long) } in
+    let there : plain_at parts_at contents q.owner_end ≡ Some (parts, end) = parts_found_at contents q.owner_end parts end (record {
+      type_end = q.type_end;
+      class_end = q.class_end;
+      ttl_end = q.ttl_end;
+      size_end = q.size_end;
+      rtype = q.rtype;
+      class = q.class;
+      ttl = q.ttl;
+      size = subst (λ (n : ℕ). NumberAt contents q.ttl_end w16 n q.size_end) (sym long) q.size_is;
+      content = occurs;
+    }) in
+    let place : end - length body ≡ q.size_end = omega (arith, q.end_is, long) in
+    let content : data_in name_at r.rtype (take end contents) (end - length body) ≡ Some r.content = ap (data_in name_at r.rtype (take end contents)) place ∙ data_found r.rtype (take end contents) q.size_end r.content q.content in
+    rw (owner, there, content) refl

@@ -1,7 +1,6 @@
 -- What the readings of data leave over, and where what they read ends.
-use Rattle.std.proofs.Common.{◌≡◌, ℕ, ◌+◌, ◌≤◌, Bool, true, false, cond, ltb, List, [], ◌∷◌, length, take, Option, Some, None, refl, sym, subst, arith}
+use Rattle.std.proofs.Common.{◌≡◌, ℕ, ◌-◌, ◌≤◌, ltb, List, [], ◌∷◌, length, take, Option, Some, refl, sym, subst, arith}
 use Rattle.std.specs.Int.{w16, w32}
-use Rattle.std.proofs.lemmas.Bool.{ltb-false}
 use Rattle.std.proofs.lemmas.Option.{some_pair_parts}
 use Rattle.dns_wire.specs.ReadingLemmas.{then_some, put_leaves, put_ends, follows_both, counted_leaves, tested_leaves, octet_leaves, octets_leave, number_leaves, whole_leaves, plain_ends}
 use Rattle.dns_wire.specs.Names.{plain_name}
@@ -12,7 +11,7 @@ use Rattle.dns_record.specs.Fields.FieldOf.{CompressibleName, UncompressedName, 
 use Rattle.dns_record.specs.Kinds.{Kind, field_of, fields_of, field_in, fields_in, no_name}
 use Rattle.dns_record.specs.Options.{options, is_option_data}
 use Rattle.dns_record.specs.Questions.{question_at, question_in}
-use Rattle.dns_record.specs.Records.{record_at, record_in, end_of}
+use Rattle.dns_record.specs.Records.{record_of, parts_at, record_at, record_in}
 use Rattle.dns_record.specs.CharacterStrings.{character_string, character_strings, is_txt_data}
 use Rattle.dns_record.specs.TypeBitMaps.{bitmap, some_bitmap, is_bitmap}
 
@@ -132,43 +131,38 @@ question_ends name ends contents at question end e =
 
 -- ---- records
 
-pub record_leaves : {N D : Type 0} (name : List ℕ → Option (N × List ℕ)) (content : ℕ → List ℕ → Option D) → LeavesRest name → LeavesRest (record_at name content)
-unfolding record_at
-record_leaves name content leaves bytes found rest e =
-    let a = then_some (name bytes) _ _ e in
-    let b = then_some (number w16 a.0.1) _ _ a.2 in
+pub parts_leave : LeavesRest parts_at
+unfolding parts_at
+parts_leave bytes parts rest e =
+    let b = then_some (number w16 bytes) _ _ e in
     let c = then_some (number w16 b.0.1) _ _ b.2 in
     let d = then_some (number w32 c.0.1) _ _ c.2 in
     let s = then_some (number w16 d.0.1) _ _ d.2 in
     let o = then_some (octets s.0.0 s.0.1) _ _ s.2 in
-    let v = then_some (content b.0.0 o.0.0) _ _ o.2 in
-    let same = some_pair_parts (record { owner = a.0.0; rtype = b.0.0; class = c.0.0; ttl = d.0.0; content = v.0 }) found o.0.1 rest v.2 in
-    let fixed = follows_both a.0.1 c.0.1 d.0.1 (follows_both a.0.1 b.0.1 c.0.1 (number_leaves w16 a.0.1 b.0.0 b.0.1 b.1) (number_leaves w16 b.0.1 c.0.0 c.0.1 c.1)) (number_leaves w32 c.0.1 d.0.0 d.0.1 d.1) in
+    let same = some_pair_parts (record { rtype = b.0.0; class = c.0.0; ttl = d.0.0; content = o.0.0 }) parts o.0.1 rest o.2 in
+    let fixed = follows_both bytes c.0.1 d.0.1 (follows_both bytes b.0.1 c.0.1 (number_leaves w16 bytes b.0.0 b.0.1 b.1) (number_leaves w16 b.0.1 c.0.0 c.0.1 c.1)) (number_leaves w32 c.0.1 d.0.0 d.0.1 d.1) in
     let body = follows_both d.0.1 s.0.1 o.0.1 (number_leaves w16 d.0.1 s.0.0 s.0.1 s.1) (octets_leave s.0.0 s.0.1 o.0.0 o.0.1 o.1) in
-    subst (λ (l : List ℕ). Follows l bytes) same.1 (follows_both bytes a.0.1 o.0.1 (leaves bytes a.0.0 a.0.1 a.1) (follows_both a.0.1 d.0.1 o.0.1 fixed body))
+    subst (λ (l : List ℕ). Follows l bytes) same.1 (follows_both bytes d.0.1 o.0.1 fixed body)
 
--- where that many octets end
-end_within : (contents : List ℕ) (at size end : ℕ) (b : Bool) → ltb (length contents) (at + size) ≡ b → cond b None (Some (at + size)) ≡ Some end → (at ≤ end) × (end ≤ length contents)
-end_within contents at size end true is e = absurd cc
-end_within contents at size end false is e =
-    let same : at + size ≡ end = cc in
-    (omega (arith, same), omega (arith, same, ltb-false _ _ is))
+pub parts_end : EndsWithin (plain_at parts_at)
+parts_end = plain_ends parts_at parts_leave
+
+pub record_leaves : {N D : Type 0} (name : List ℕ → Option (N × List ℕ)) (content : ℕ → List ℕ → Option D) → LeavesRest name → LeavesRest (record_at name content)
+unfolding record_at
+record_leaves name content leaves bytes found rest e =
+    let a = then_some (name bytes) _ _ e in
+    let p = then_some (parts_at a.0.1) _ _ a.2 in
+    let v = then_some (content p.0.0.rtype p.0.0.content) _ _ p.2 in
+    let same = some_pair_parts (record_of a.0.0 p.0.0 v.0) found p.0.1 rest v.2 in
+    subst (λ (l : List ℕ). Follows l bytes) same.1 (follows_both bytes a.0.1 p.0.1 (leaves bytes a.0.0 a.0.1 a.1) (parts_leave a.0.1 p.0.0 p.0.1 p.1))
 
 pub record_ends : {N D : Type 0} (name : List ℕ → ℕ → Option (N × ℕ)) (content : ℕ → List ℕ → ℕ → Option D) → EndsWithin name → EndsWithin (record_in name content)
 unfolding record_in
 record_ends name content ends contents at found end e =
     let a = then_some (name contents at) _ _ e in
-    let b = then_some (plain_at (number w16) contents a.0.1) _ _ a.2 in
-    let c = then_some (plain_at (number w16) contents b.0.1) _ _ b.2 in
-    let d = then_some (plain_at (number w32) contents c.0.1) _ _ c.2 in
-    let s = then_some (plain_at (number w16) contents d.0.1) _ _ d.2 in
-    let o = then_some (end_of contents s.0.1 s.0.0) _ _ s.2 in
-    let v = then_some (content b.0.0 (take o.0 contents) s.0.1) _ _ o.2 in
-    let same = some_pair_parts (record { owner = a.0.0; rtype = b.0.0; class = c.0.0; ttl = d.0.0; content = v.0 }) found o.0 end v.2 in
-    let p = ends contents at a.0.0 a.0.1 a.1 in
-    let q = plain_ends (number w16) (number_leaves w16) contents a.0.1 b.0.0 b.0.1 b.1 in
-    let r = plain_ends (number w16) (number_leaves w16) contents b.0.1 c.0.0 c.0.1 c.1 in
-    let t = plain_ends (number w32) (number_leaves w32) contents c.0.1 d.0.0 d.0.1 d.1 in
-    let u = plain_ends (number w16) (number_leaves w16) contents d.0.1 s.0.0 s.0.1 s.1 in
-    let w = end_within contents s.0.1 s.0.0 o.0 (ltb (length contents) (s.0.1 + s.0.0)) refl o.1 in
-    (omega (arith, p.0, q.0, r.0, t.0, u.0, w.0, same.1), omega (arith, w.1, same.1))
+    let p = then_some (plain_at parts_at contents a.0.1) _ _ a.2 in
+    let v = then_some (content p.0.0.rtype (take p.0.1 contents) (p.0.1 - length p.0.0.content)) _ _ p.2 in
+    let same = some_pair_parts (record_of a.0.0 p.0.0 v.0) found p.0.1 end v.2 in
+    let n = ends contents at a.0.0 a.0.1 a.1 in
+    let q = parts_end contents a.0.1 p.0.0 p.0.1 p.1 in
+    (omega (arith, n.0, q.0, same.1), omega (arith, q.1, same.1))

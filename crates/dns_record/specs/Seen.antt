@@ -1,8 +1,9 @@
--- What is seen of questions and of records.
+-- What is seen of questions, of records and of their parts.
 use Rattle.dns_record.specs.Questions.{QuestionOf}
-use Rattle.dns_record.specs.Records.{RecordOf}
+use Rattle.dns_record.specs.Records.{Parts, RecordOf}
 use Rattle.dns_record.specs.declared.question.Question.{Question}
 use Rattle.dns_record.specs.declared.record.Record.{Record}
+use Rattle.dns_record.specs.declared.unparsed_parts.UnparsedParts.{UnparsedParts}
 
 -- the name as it is seen, and the numbers
 abbrev pub question_seen : {N S : Type 0} → (N → S) → Question N → QuestionOf S
@@ -17,3 +18,7 @@ record_seen name content r = record {
   ttl = r.ttl.value.value;
   content = content r.rdata;
 }
+
+-- the numbers, and the octets of the data
+abbrev pub parts_seen : UnparsedParts → Parts
+parts_seen p = record { rtype = p.rtype.code.value; class = p.rclass.code.value; ttl = p.ttl.value.value; content = p.rdata.now }

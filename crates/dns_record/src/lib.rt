@@ -1,7 +1,6 @@
 //! Questions and records, whatever their names and their data are, and the codes, numbers and strings in them.
 #![tactic(auto)]
 
-mod after_owner;
 mod canonical;
 mod charstr;
 mod charstr_buf;
@@ -23,8 +22,8 @@ mod rtype;
 mod serial;
 mod ttl;
 mod unparsed;
+mod unparsed_parts;
 
-pub use after_owner::split_after_owner_at;
 pub use canonical::CanonicalRecordData;
 pub use charstr::CharStr;
 pub use charstr_buf::CharStrBuf;
@@ -49,3 +48,4 @@ pub use rtype::RType;
 pub use serial::Serial;
 pub use ttl::TTL;
 pub use unparsed::{MAX_DATA_SIZE, UnparsedRecordData};
+pub use unparsed_parts::UnparsedParts;

@@ -8,11 +8,11 @@ ghost use Rattle.dns_record.specs.InMessage.{fixed_header, record_writes, record
 ghost use Rattle.dns_record.specs.Records.{RecordOf, record_at, record_in, octets_of_parts, SizedData, SizedDataIn};
 ghost use Rattle.dns_record.specs.Seen.{record_seen};
 
-use crate::after_owner::{split_after_owner, split_after_owner_at};
 use crate::rclass::RClass;
 use crate::record_data::{ParseRecordData, ParseRecordDataBytes};
 use crate::rtype::RType;
 use crate::ttl::TTL;
+use crate::unparsed_parts::UnparsedParts;
 use dns_num::{SizePrefixed, U16};
 use dns_wire::{
     BuildBytes, BuildInMessage, NameCompressor, ParseBytes, ParseError, ParseMessageBytes,
@@ -126,7 +126,10 @@ impl<'a, N: SplitBytes<'a>, D: ParseRecordDataBytes<'a>> SplitBytes<'a> for Reco
         ensures typed { IfOk result (λ x. D.is_of x.0.rdata x.0.rtype.code.value) }
     {
         let (rname, rest) = N::split_bytes(bytes)?;
-        split_after_owner(rname, rest)
+        let (parts, rest) = UnparsedParts::split_bytes(rest)?;
+        let rdata = D::parse_record_data_bytes(parts.rdata, parts.rtype)?;
+        let record = Record::new(rname, parts.rtype, parts.rclass, parts.ttl, rdata);
+        Ok((record, rest))
     }
 }
 
@@ -140,7 +143,7 @@ impl<'a, N: SplitMessageBytes<'a>, D: ParseRecordData<'a>> SplitMessageBytes<'a>
     /// Reads the record at the place, and gives the place where it ends. `ParseError` comes exactly if
     /// none is there. The data are those that `D` reads from at most 65,535 octets, of which the last is
     /// the record's last.
-    #[tactic(auto, unfolding(crate::specs::Records::record_in))]
+    #[tactic(auto, using(crate::proofs::PartsLemmas::parts_end_at), unfolding(crate::specs::Records::record_in))]
     fn split_message_bytes(
         contents: &'a [u8],
         start: usize,
@@ -151,7 +154,11 @@ impl<'a, N: SplitMessageBytes<'a>, D: ParseRecordData<'a>> SplitMessageBytes<'a>
         ensures typed { IfOk result (λ x. D.is_of x.0.rdata x.0.rtype.code.value) }
     {
         let (rname, at) = N::split_message_bytes(contents, start)?;
-        split_after_owner_at(rname, contents, at)
+        let (parts, end) = UnparsedParts::split_message_bytes(contents, at)?;
+        let rdata_start = end - parts.rdata.len();
+        let rdata = D::parse_record_data(&contents[..end], rdata_start, parts.rtype)?;
+        let record = Record::new(rname, parts.rtype, parts.rclass, parts.ttl, rdata);
+        Ok((record, end))
     }
 }
 

@@ -14,12 +14,10 @@ fn listed_digest(
     apex: &RevNameBuf,
     text: &str,
 ) -> Result<ZoneDigest, PrintError<Refusal>> {
-    let mut messages = Vec::new(alloc);
-    match octets_of(alloc, text.as_bytes()) {
-        Ok(message) => messages.push(message)?,
-        Err(_) => return Err(PrintError::Refused(Refusal::BadHex)),
-    }
-    zone_digest_by(alloc, &messages, apex, Formats::Listed)
+    let Ok(message) = octets_of(alloc, text.as_bytes()) else {
+        return Err(PrintError::Refused(Refusal::BadHex));
+    };
+    zone_digest_by(alloc, &[&message], apex, Formats::Listed)
 }
 
 /// Prints the digest of the zone of an apex, or why there is none.

@@ -6,7 +6,7 @@ ghost use Rattle.dns_text.specs.Outcomes.{RefusesFor, note_of};
 ghost use Rattle.dns_zone.specs.Texts.{PrintsZone, apex_of, outcome_of, zone_limit, zone_note, zone_refusal, zone_rules};
 
 use crate::digest::{digest_text, zone_digest};
-use crate::messages::messages_in;
+use crate::messages::{messages_in, slices_of};
 use crate::refusal::{Refusal, ZONE_TEXT_LIMIT};
 use crate::status::ZoneStatus;
 use dns_name::RevNameBuf;
@@ -52,7 +52,8 @@ impl TextCommand for Zone {
 
     fn print(&self, alloc: Global, text: &[u8]) -> Result<Vec<u8>, PrintError<Refusal>> {
         let messages = messages_in(alloc, text)?;
-        let digest = zone_digest(alloc, &messages, &self.apex)?;
+        let slices = slices_of(alloc, &messages)?;
+        let digest = zone_digest(alloc, &slices, &self.apex)?;
         let printed = digest_text(alloc, &digest)?;
         Ok(printed)
     }

@@ -16,7 +16,7 @@ ghost use Rattle.dns_zone.specs.Zone.{has_soa, members, zone_output};
 
 use crate::messages::zone_records;
 use crate::refusal::Refusal;
-use dns_message::CanonicalForm;
+use dns_message::CanonicalList;
 use dns_name::RevNameBuf;
 use dns_record::Formats;
 use dns_text::PrintError;
@@ -35,51 +35,41 @@ pub struct ZoneDigest {
 }
 
 /// The SHA-384 digest of the canonical octets of the records, one after another (FIPS 180-4).
-pub fn digest_of(records: &[CanonicalForm<'_>]) -> [u8; 48]
-    ensures { result ≡ sha384 (concat (map octets_of_key records.now)) }
+pub fn digest_of(list: &CanonicalList<'_>) -> [u8; 48]
+    ensures { result ≡ sha384 (concat (map octets_of_key list.now)) }
 {
     let mut hasher = Sha384::new();
-    for found in records {
+    for found in list.forms() {
         hasher.update(found.octets());
     }
     hasher.finalize()
 }
 
-/// How many canonical octets the records have in all.
-fn octets_in(records: &[CanonicalForm<'_>]) -> u128
-    ensures { result ≡ length (concat (map octets_of_key records.now)) }
-{
-    let mut total = 0;
-    for found in records {
-        total += found.octets().len() as u128;
-    }
-    total
-}
-
 /// The digest of members in order.
-fn digest_for(records: &[CanonicalForm<'_>]) -> ZoneDigest
-    ensures { IsDigestOf (map octets_of_key records.now) result }
+fn digest_for(list: &CanonicalList<'_>) -> ZoneDigest
+    ensures { IsDigestOf (map octets_of_key list.now) result }
 {
     ZoneDigest {
-        records: records.len(),
-        octets: octets_in(records),
-        digest: digest_of(records),
+        records: list.len(),
+        octets: list.octet_count() as u128,
+        digest: digest_of(list),
     }
 }
 
-/// The digest of the zone of an apex, for the records that the messages have (RFC 8976, the SIMPLE scheme with SHA-384). The refusals are those
-/// of the first message that is not valid, and `Refusal::NoSoa`; `Refusal::BadHex` does not come. The condition is that the messages are fewer
-/// than 4,294,967,296, since a refusal has the number of its message in 32 bits.
+/// The digest of the zone of an apex, for the records that the messages have (RFC 8976, the SIMPLE scheme with SHA-384). The messages'
+/// octets are borrowed and not copied. The refusals are those of the first message that is not valid, and `Refusal::NoSoa`;
+/// `Refusal::BadHex` does not come. The condition is that the messages are fewer than 4,294,967,296, since a refusal has the number of its
+/// message in 32 bits.
 pub fn zone_digest(
     alloc: Global,
-    messages: &[Vec<u8>],
+    messages: &[&[u8]],
     apex: &RevNameBuf,
 ) -> Result<ZoneDigest, PrintError<Refusal>>
     requires { length messages.now < 2 ^ 32 }
-    ensures digest { IfOk result (IsDigestOf (members apex.now (all_records (map (λ m. m.items) messages.now)))) }
-    ensures valid { OnOk result (first_refused 0 (map message_reading (map (λ m. m.items) messages.now)) ≡ None) }
-    ensures soa { OnOk result (has_soa apex.now (all_records (map (λ m. m.items) messages.now)) ≡ true) }
-    ensures refused { IfErr result (RefusesFor (on_messages apex.now (Some (map (λ m. m.items) messages.now)))) }
+    ensures digest { IfOk result (IsDigestOf (members apex.now (all_records (map (λ m. m.now) messages.now)))) }
+    ensures valid { OnOk result (first_refused 0 (map message_reading (map (λ m. m.now) messages.now)) ≡ None) }
+    ensures soa { OnOk result (has_soa apex.now (all_records (map (λ m. m.now) messages.now)) ≡ true) }
+    ensures refused { IfErr result (RefusesFor (on_messages apex.now (Some (map (λ m. m.now) messages.now)))) }
 {
     zone_digest_by(alloc, messages, apex, Formats::Usual)
 }
@@ -88,15 +78,15 @@ pub fn zone_digest(
 /// RFC 4034 section 6.2, as signers have them.
 pub fn zone_digest_by(
     alloc: Global,
-    messages: &[Vec<u8>],
+    messages: &[&[u8]],
     apex: &RevNameBuf,
     formats: Formats,
 ) -> Result<ZoneDigest, PrintError<Refusal>>
     requires { length messages.now < 2 ^ 32 }
-    ensures digest { IfOk result (IsDigestOf (members apex.now (all_records_by (data_by formats) (map (λ m. m.items) messages.now)))) }
-    ensures valid { OnOk result (first_refused 0 (map (message_by (data_by formats)) (map (λ m. m.items) messages.now)) ≡ None) }
-    ensures soa { OnOk result (has_soa apex.now (all_records_by (data_by formats) (map (λ m. m.items) messages.now)) ≡ true) }
-    ensures refused { IfErr result (RefusesFor (on_messages_by (data_by formats) apex.now (Some (map (λ m. m.items) messages.now)))) }
+    ensures digest { IfOk result (IsDigestOf (members apex.now (all_records_by (data_by formats) (map (λ m. m.now) messages.now)))) }
+    ensures valid { OnOk result (first_refused 0 (map (message_by (data_by formats)) (map (λ m. m.now) messages.now)) ≡ None) }
+    ensures soa { OnOk result (has_soa apex.now (all_records_by (data_by formats) (map (λ m. m.now) messages.now)) ≡ true) }
+    ensures refused { IfErr result (RefusesFor (on_messages_by (data_by formats) apex.now (Some (map (λ m. m.now) messages.now)))) }
 {
     let found = zone_records(alloc, messages, apex, formats)?;
     if !found.has_soa {

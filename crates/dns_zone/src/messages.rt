@@ -50,6 +50,17 @@ pub(crate) fn messages_in(alloc: Global, text: &[u8]) -> Result<Vec<Vec<u8>>, Pr
     Ok(messages)
 }
 
+/// The octets of the messages, borrowed.
+pub(crate) fn slices_of(alloc: Global, messages: &[Vec<u8>]) -> Result<Vec<&[u8]>, AllocError>
+    ensures { IfOk result (λ slices. map (λ m. m.now) slices.items ≡ map (λ m. m.items) messages.now) }
+{
+    let mut slices = Vec::with_capacity(alloc, messages.len())?;
+    for message in messages {
+        slices.push(message.as_slice())?;
+    }
+    Ok(slices)
+}
+
 /// Why the message of a number is refused.
 fn refused(message: u32, error: CanonError) -> PrintError<Refusal>
     ensures { result ≡ message_error message error }
@@ -111,15 +122,15 @@ impl ZoneRecords {
 /// What the messages hold of the zone of the apex, by these formats of RDATA.
 pub(crate) fn zone_records(
     alloc: Global,
-    messages: &[Vec<u8>],
+    messages: &[&[u8]],
     apex: &RevNameBuf,
     formats: Formats,
 ) -> Result<ZoneRecords, PrintError<Refusal>>
     requires { length messages.now < 2 ^ 32 }
-    ensures valid { IfOk result (λ _. first_refused 0 (map (message_by (data_by formats)) (map (λ m. m.items) messages.now)) ≡ None) }
-    ensures members { IfOk result (λ found. found.forms ≡ map sort_key (filter (belongs apex.now) (filter is_not_opt (all_records_by (data_by formats) (map (λ m. m.items) messages.now))))) }
-    ensures soa { IfOk result (λ found. found.has_soa ≡ has_soa apex.now (filter is_not_opt (all_records_by (data_by formats) (map (λ m. m.items) messages.now)))) }
-    ensures refused { IfErr result (RefusesFor (first_refusal_by (data_by formats) (map (λ m. m.items) messages.now))) }
+    ensures valid { IfOk result (λ _. first_refused 0 (map (message_by (data_by formats)) (map (λ m. m.now) messages.now)) ≡ None) }
+    ensures members { IfOk result (λ found. found.forms ≡ map sort_key (filter (belongs apex.now) (filter is_not_opt (all_records_by (data_by formats) (map (λ m. m.now) messages.now))))) }
+    ensures soa { IfOk result (λ found. found.has_soa ≡ has_soa apex.now (filter is_not_opt (all_records_by (data_by formats) (map (λ m. m.now) messages.now)))) }
+    ensures refused { IfErr result (RefusesFor (first_refusal_by (data_by formats) (map (λ m. m.now) messages.now))) }
 {
     let mut found = ZoneRecords {
         forms: CanonicalForms::new(alloc),

@@ -1,11 +1,8 @@
 -- Octets that are written one after another to the start of a buffer.
-use Rattle.std.proofs.Common.{◌≡◌, ◌+◌, ◌<◌, ◌≤◌, ℕ, List, ◌++◌, length, get_or, map, take, drop, Result, Ok, Err, refl, sym, ap, ◌∙◌, append_assoc, arith}
+use Rattle.std.proofs.Common.{◌≡◌, ◌+◌, ◌≤◌, ℕ, List, ◌++◌, length, take, drop, Result, Ok, Err, refl, sym, ap, ◌∙◌, append_assoc, arith}
 use Rattle.std.specs.Prelude.{⊤, IsOk}
-use Rattle.std.specs.List.{concat}
-use Rattle.std.proofs.lemmas.List.{take_at, drop_at, drop-drop, length-append, map-append, take-append-drop}
-use Rattle.std.proofs.lemmas.List.Folds.{concat-append}
+use Rattle.std.proofs.lemmas.List.{take_at, drop_at, drop-drop, length-append}
 use Rattle.dns_wire.specs.Building.{Builds, Occurs}
-use Rattle.dns_zone.proofs.Streams.{octets_more}
 use Rattle.nelgvasti.specs.Buffers.{Fills}
 
 -- after the octets so far some more
@@ -19,19 +16,6 @@ written_more so_far octets old initial new start end start-is old-is put =
     ap (λ (n : ℕ). drop n old) ends ∙ sym (drop-drop (length octets) start old) ∙ ap (drop (length octets)) rest ∙ drop-drop (length octets) start initial ∙ ap (λ (n : ℕ). drop n initial) (sym ends) in (
       omega (arith, put.end_is, start-is, length-append so_far octets),
       put.new_is ∙ ap (λ (l : List ℕ). l ++ (octets ++ drop end old)) front ∙ ap (λ (l : List ℕ). so_far ++ (octets ++ l)) back ∙ sym (append_assoc so_far octets (drop end initial)),
-    )
-
--- if all octets have room, so have those so far and the next ones
-pub next_fits : {X : Type 0} (vs : List X) (f : X → List ℕ) (i : ℕ) (v : X) → i < length vs → v ≡ get_or vs i v → length (concat (map f (take i vs))) + length (f v) ≤ length (concat (map f vs))
-next_fits {X = X} vs f i v within is =
-    let parts : map f (take (i + 1) vs) ++ map f (drop (i + 1) vs) ≡ map f vs = sym (map-append f (take (i + 1) vs) (drop (i + 1) vs)) ∙ ap (map f) (take-append-drop (i + 1) vs) in
-    let whole : concat (map f (take (i + 1) vs)) ++ concat (map f (drop (i + 1) vs)) ≡ concat (map f vs) = sym (concat-append (map f (take (i + 1) vs)) (map f (drop (i + 1) vs))) ∙ ap concat parts in
-    omega (
-      arith,
-      ap length whole,
-      length-append (concat (map f (take (i + 1) vs))) (concat (map f (drop (i + 1) vs))),
-      ap length (octets_more vs f i v within is),
-      length-append (concat (map f (take i vs))) (f v),
     )
 
 -- octets that have room are written to the start

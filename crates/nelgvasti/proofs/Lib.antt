@@ -1,6 +1,5 @@
 -- The crate's own lemmas.
 pub mod Cutting
-pub mod Fewest
 pub mod Filled
 pub mod NameLemmas
 pub mod Readings

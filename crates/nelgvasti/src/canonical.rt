@@ -11,7 +11,7 @@ ghost use Rattle.nelgvasti.specs.Calls.{AnswersOrMemory, list_octets, reading_an
 
 use crate::answers::{DONE, ITEM, MEMORY, SHORT, TOO_SMALL};
 use crate::item_position::ItemPosition;
-use crate::ordered::{octets_in, put_forms};
+use crate::ordered::put_list;
 use dns_message::read_forms_by;
 use dns_record::Formats;
 use std::alloc::Global;
@@ -43,7 +43,7 @@ pub(crate) fn canonical_size(
     let Ok(order) = forms.collapsed(alloc) else {
         return MEMORY;
     };
-    *octets = octets_in(&order);
+    *octets = order.octet_count();
     *records = order.len();
     DONE
 }
@@ -78,11 +78,11 @@ pub(crate) fn canonical(
     let Ok(order) = forms.collapsed(alloc) else {
         return MEMORY;
     };
-    let length = octets_in(&order);
+    let length = order.octet_count();
     *out_length = length;
     if out.len() < length {
         return TOO_SMALL;
     }
-    put_forms(&order, out);
+    put_list(&order, out);
     DONE
 }

@@ -17,7 +17,7 @@ use crate::answers::{DONE, ITEM, MEMORY, SHORT, TOO_SMALL, USAGE};
 use crate::canonical::{canonical, canonical_size};
 use crate::formats::formats_of;
 use crate::item_position::ItemPosition;
-use crate::ordered::are_alike;
+use crate::ordered::are_same;
 use dns_message::read_forms;
 use dns_record::Formats;
 use std::alloc::Global;
@@ -166,6 +166,6 @@ pub extern "C" fn nelgvasti_same(
     let Ok(second_order) = second_forms.collapsed(alloc) else {
         return MEMORY;
     };
-    *same = u32::from(are_alike(&first_order, &second_order));
+    *same = u32::from(are_same(&first_order, &second_order));
     DONE
 }

@@ -67,16 +67,16 @@ fn add_up(lengths: &[usize], total: usize) -> bool
     rest == 0
 }
 
-/// The messages of these lengths whose octets are given one after the other.
-fn cut(alloc: Global, octets: &[u8], lengths: &[usize]) -> Result<Vec<Vec<u8>>, AllocError>
+/// The messages of these lengths, borrowed from the octets that are given one after the other.
+fn cut<'o>(alloc: Global, octets: &'o [u8], lengths: &[usize]) -> Result<Vec<&'o [u8]>, AllocError>
     requires { sum lengths.now ≡ length octets.now }
-    ensures { IfOk result (λ messages. AreCut octets.now lengths.now (map (λ m. m.items) messages.items)) }
+    ensures { IfOk result (λ messages. AreCut octets.now lengths.now (map (λ m. m.now) messages.items)) }
 {
     let mut messages = Vec::with_capacity(alloc, lengths.len())?;
     let mut start = 0;
     for length in lengths {
         let end = start + *length;
-        messages.push(Vec::from_slice(alloc, &octets[start..end])?)?;
+        messages.push(&octets[start..end])?;
         start = end;
     }
     Ok(messages)

@@ -1,4 +1,4 @@
-use Rattle.std.proofs.Common.{List, ap, map, subst, sym, ◌≡◌}
+use Rattle.std.proofs.Common.{subst, sym}
 use Rattle.std.proofs.lemmas.Result.{IfErr-weaker, IfOk-weaker}
 use Rattle.dns_wire.specs.Hexadecimal.{Spells}
 use Rattle.dns_canon.proofs.ExpectedStatuses.{message_answers}

@@ -1,6 +1,6 @@
-use Rattle.std.proofs.Common.{refl}
-use Rattle.dns_canon.proofs.SortedForms.{keys_listed}
+use Rattle.std.proofs.Common.{filter, refl}
 use Rattle.std.proofs.lemmas.Result.{err_from_is_err_and}
+use Rattle.dns_message.specs.Canonical.{is_not_opt}
 use Rattle.dns_canon.specs.Parts.{first_text, second_text}
 use Rattle.dns_canon.specs.declared.status.Status.TheVariants.{Done}
 use Rattle.dns_canon.proofs.Pairs.{both_spelled, called, first_refused, second_refused}
@@ -33,10 +33,8 @@ returns-clause-ok c =
     c.deref.ensures.value c.deref-2.ensures.value c.in_ok-first_message.ensures.ok c.in_ok-second_message.ensures.ok in
     let valid = c.in_ok-first_forms.ensures.ok in
     let also = c.in_ok-second_forms.ensures.ok in
-    let first = c.deref-3.result.now in
-    let second = c.deref-4.result.now in
-    let sorted = keys_listed valid.0 _ _ first valid.2 c.in_ok-first_order.ensures.keys c.deref-3.ensures.value in
-    let sorted-too = keys_listed also.0 _ _ second also.2 c.in_ok-second_order.ensures.keys c.deref-4.ensures.value in
-    let word = reported (first_text t) (second_text t) m n valid.0 also.0 first second c.sameness.result.now both.1 both.2 valid.1 also.1 sorted sorted-too
-    c.sameness.ensures.same c.sameness.ensures.different in
+    let listed = c.in_ok-first_order.ensures.octets (filter is_not_opt valid.0) valid.2 in
+    let listed-too = c.in_ok-second_order.ensures.octets (filter is_not_opt also.0) also.2 in
+    let word = reported (first_text t) (second_text t) m n valid.0 also.0 _ _ c.are_same.result c.sameness.result.now both.1 both.2 valid.1 also.1 listed listed-too
+    c.are_same.ensures c.sameness.ensures.same c.sameness.ensures.different in
     (called t Done (m, n, valid.0, also.0, both, valid.1, also.1), (m, n, valid.0, also.0, both.1, both.2, valid.1, also.1, word))

@@ -16,7 +16,7 @@ pub returns : goal.returns
 returns c =
     let command = c.args.command.now in
     let read = c.in_ok-forms.ensures.read in
-    let keys = c.deref.ensures.value ∙ c.in_ok-order.ensures.keys (filter is_not_opt read.0) read.2 in
+    let keys = c.forms-2.ensures ∙ c.in_ok-order.ensures.keys (filter is_not_opt read.0) read.2 in
     let refusal = ap (members_refusal command) keys ∙ sym (valid_refusal (members_refusal command) c.args.message.now read.0 read.1) in
     record {
       printed = IfOk-weaker c.text_of.result _ _ (λ text is. (read.0, read.1, is ∙ ap (members_text command) keys)) c.text_of.ensures.printed;

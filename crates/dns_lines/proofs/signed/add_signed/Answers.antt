@@ -12,10 +12,10 @@ returns-in_err-forms-clause-refused c = let refused = c.in_err-forms.ensures.ref
 pub returns-clause-added : goal.returns-clause-added
 returns-clause-added c =
     let read = c.in_ok-forms.ensures.read in
-    let order = c.deref.ensures.value ∙ c.in_ok-order.ensures.keys (filter is_not_opt read.0) read.2 in (
+    let order = c.forms.ensures ∙ c.in_ok-order.ensures.keys (filter is_not_opt read.0) read.2 in (
       signature_lines (members read.0),
       (read.0, read.1, refl),
-      c.in_ok-extend_from_slice.ensures.items ∙ ap (λ (l : List ℕ). c.args.answers.now.items ++ l) (c.deref-2.ensures.value ∙ c.in_ok-lines.ensures ∙ ap signature_lines order),
+      c.in_ok-extend_from_slice.ensures.items ∙ ap (λ (l : List ℕ). c.args.answers.now.items ++ l) (c.deref.ensures.value ∙ c.in_ok-lines.ensures ∙ ap signature_lines order),
     )
 
 pub returns-clause-accepted : goal.returns-clause-accepted

@@ -3,7 +3,7 @@ use Rattle.std.proofs.lemmas.Bool.{le-ltb}
 use Rattle.dns_wire.specs.Names.{lowered, name_labels, wire}
 use Rattle.dns_wire.specs.Reading.{with_end}
 use Rattle.dns_wire.proofs.Lowered.{lowered_long}
-use Rattle.dns_chain.proofs.WrittenNames.{always_fits, written_first}
+use Rattle.dns_message.proofs.WrittenNames.{always_fits, written_first}
 use Rattle.dns_message.proofs.LowercasedFields.{from_place}
 use Rattle.dns_message.proofs.lowercase_fields.read_uncompressed_name.Goals as goal
 

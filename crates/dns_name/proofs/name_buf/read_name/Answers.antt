@@ -1,63 +1,57 @@
-use Rattle.std.proofs.Common.{arith, ◌+◌, ◌-◌, ◌≡◌, drop, ◌++◌, ◌∷◌, [], take, length, refl}
-use Rattle.std.specs.Prelude.{unwrap_or, slice_range}
+use Rattle.std.proofs.Common.{◌≡◌, ◌∙◌, arith, length, refl, take}
+use Rattle.std.proofs.lemmas.List.{length-take}
 use Rattle.std.proofs.lemmas.Result.{err_from_is_err_and}
-use Rattle.std.proofs.lemmas.List.{length-take, length-drop}
-use Rattle.dns_name.proofs.Followed.{Reads, followed_none, followed_bad, followed_root, followed_label, followed_long, followed_pointer, root_end, root_ends}
-use Rattle.dns_name.proofs.CountedSteps.{counted_none, counted_label, counted_pointer, counted_root}
-use Rattle.dns_name.proofs.name_buf.read_name.Given.{Over}
+use Rattle.dns_name.proofs.CountedSteps.{counted_none}
+use Rattle.dns_name.proofs.Followed.{followed_none}
+use Rattle.dns_name.proofs.OwnLabelLemmas.{copied_before, copied_bound, copied_counted, copied_counts, copied_pointer, copied_root, followed_no_room, no_room_bound}
 use Rattle.dns_name.proofs.name_buf.read_name.Goals as goal
-use Rattle.dns_name.proofs.name_buf.read_name.Goals.{In-Root}
 
-pub loop-buffer-init : goal.loop-buffer-init
-loop-buffer-init g c = record { array = refl; room = omega arith; followed = rw c.new-cursor.ensures (followed_none _ _); counted = rw c.new-cursor.ensures (counted_none _ _ _) }
+pub loop-own-init : goal.loop-own-init
+loop-own-init g c = record { array = refl; room = omega arith; followed = followed_none _ _; counted = counted_none _ _ _ }
 
-pub returns-in_err-next_label_type-clause-exact : goal.returns-in_err-next_label_type-clause-exact
-returns-in_err-next_label_type-clause-exact g c =
+pub returns-in_err-own-clause-exact : goal.returns-in_err-own-clause-exact
+returns-in_err-own-clause-exact g c =
     let p = err_from_is_err_and c.from_residual.result c.from_residual.ensures.1 in
-    rw p.1 (followed_bad _ _ _ _ _ _ c.loop-buffer.invariant.followed c.in_err-next_label_type.ensures.exact)
+    let cut = c.in_err-own.ensures.refused in
+    let long : length (take c.loop-own.size c.loop-own.buffer) ≡ c.loop-own.size = omega (arith, length-take c.loop-own.size c.loop-own.buffer, c.loop-own.invariant.array, c.loop-own.invariant.room) in
+    rw p.1 (followed_no_room _ _ _ _ _ cut.0 c.loop-own.invariant.followed (rw long cut.2))
 
--- what is read at the root
-found : (g : Over) (c : In-Root g) → Reads c.args.contents.now c.args.start (take c.loop-buffer.size c.loop-buffer.buffer ++ 0 ∷ []) (unwrap_or c.loop-buffer.cursor.end (c.loop-buffer.cursor.at + 1))
-found g c = followed_root _ _ _ _ _ _ c.loop-buffer.invariant.followed (rw c.in-Root.is at c.in_ok-next_label_type.ensures.exact) (rw c.in-Root.is at c.in_ok-next_label_type.ensures.fits)
+pub returns-in_err-own-clause-bound : goal.returns-in_err-own-clause-bound
+returns-in_err-own-clause-bound g c =
+    let cut = c.in_err-own.ensures.refused in
+    rw cut.1 (no_room_bound _ _ _ _ _ _ cut.0 c.loop-own.invariant.counted cut.2)
 
 pub from_buffer-name-requires-clause-name : goal.from_buffer-name-requires-clause-name
-from_buffer-name-requires-clause-name g c = rw c.copy_at.ensures.prefix (found g (goal.at.from_buffer-name-requires-clause-name g c).In-Root).whole
+from_buffer-name-requires-clause-name g c = rw c.copy_at.ensures.prefix (copied_root _ _ _ _ _ _ _ _ c.in_ok-own.ensures.copied.0 c.loop-own.invariant.followed (omega (arith, c.loop-own.invariant.array, c.loop-own.invariant.room)) c.in_ok-own.ensures.copied.2 c.in_default.is).whole
 
-pub unwrap-requires : goal.unwrap-requires
-unwrap-requires g c = root_ends c.loop-buffer.cursor c.next_label_type.new.self (rw c.in-Root.is at c.in_ok-next_label_type.ensures.moves)
+pub returns-in_default-clause-exact : goal.returns-in_default-clause-exact
+returns-in_default-clause-exact g c = rw (c.unwrap_or-name_end.ensures, c.from_buffer-name.ensures, c.copy_at.ensures.prefix) (copied_root _ _ _ _ _ _ _ _ c.in_ok-own.ensures.copied.0 c.loop-own.invariant.followed (omega (arith, c.loop-own.invariant.array, c.loop-own.invariant.room)) c.in_ok-own.ensures.copied.2 c.in_default.is).reads
 
-pub returns-in-Root-clause-exact : goal.returns-in-Root-clause-exact
-returns-in-Root-clause-exact g c = rw (root_end c.loop-buffer.cursor c.next_label_type.new.self c.unwrap.result (rw c.in-Root.is at c.in_ok-next_label_type.ensures.moves) c.unwrap.ensures, c.from_buffer-name.ensures, c.copy_at.ensures.prefix) (found g (goal.at.returns-in-Root-clause-exact g c).In-Root).reads
+pub returns-in_default-clause-within : goal.returns-in_default-clause-within
+returns-in_default-clause-within g c = rw c.unwrap_or-name_end.ensures (copied_root _ _ _ _ _ _ _ _ c.in_ok-own.ensures.copied.0 c.loop-own.invariant.followed (omega (arith, c.loop-own.invariant.array, c.loop-own.invariant.room)) c.in_ok-own.ensures.copied.2 c.in_default.is).within
 
-pub returns-in-Root-clause-within : goal.returns-in-Root-clause-within
-returns-in-Root-clause-within g c = rw (root_end c.loop-buffer.cursor c.next_label_type.new.self c.unwrap.result (rw c.in-Root.is at c.in_ok-next_label_type.ensures.moves) c.unwrap.ensures) (found g (goal.at.returns-in-Root-clause-within g c).In-Root).within
+pub returns-in_default-clause-counts : goal.returns-in_default-clause-counts
+returns-in_default-clause-counts g c =
+    λ found.
+    let own = c.in_ok-own.ensures.copied in
+    rw own.1 (copied_counts _ _ _ _ _ _ _ _ _ own.0 c.loop-own.invariant.counted own.2 c.in_default.is _ _ found)
 
-pub returns-then-size-label-ge-MAX_SIZE-clause-exact : goal.returns-then-size-label-ge-MAX_SIZE-clause-exact
-returns-then-size-label-ge-MAX_SIZE-clause-exact g c =
-    followed_long _ _ _ _ _ _ _ c.loop-buffer.invariant.followed (rw c.in-Label.is at c.in_ok-next_label_type.ensures.exact) (rw c.in-Label.is at c.in_ok-next_label_type.ensures.fits) (omega (arith, length-take c.loop-buffer.size c.loop-buffer.buffer))
+pub returns-in_default-clause-bound : goal.returns-in_default-clause-bound
+returns-in_default-clause-bound g c =
+    let own = c.in_ok-own.ensures.copied in
+    rw own.1 (copied_bound _ _ _ _ _ _ _ _ _ own.0 c.loop-own.invariant.counted own.2)
 
-pub loop-buffer-preserved-in-Label : goal.loop-buffer-preserved-in-Label
-loop-buffer-preserved-in-Label g c =
-    let fits = rw c.in-Label.is at c.in_ok-next_label_type.ensures.fits in
-    let long : length (slice_range c.args.contents.now c.loop-buffer.cursor.at (c.loop-buffer.cursor.at + 1 + c.in-Label.label)) ≡ 1 + c.in-Label.label = omega (arith, length-take (c.loop-buffer.cursor.at + 1 + c.in-Label.label - c.loop-buffer.cursor.at) (drop c.loop-buffer.cursor.at c.args.contents.now), length-drop c.loop-buffer.cursor.at c.args.contents.now, fits) in
-    let prefix = rw long at c.copy_at-in-Label.ensures.prefix in
+pub loop-own-smaller : goal.loop-own-smaller
+loop-own-smaller g c =
+    let own = c.in_ok-own.ensures.copied in
+    copied_before _ _ _ _ _ _ _ _ own.0 c.loop-own.invariant.followed (omega (arith, c.loop-own.invariant.array, c.loop-own.invariant.room)) own.2 c.in-Some.target c.in-Some.is
+
+pub loop-own-preserved : goal.loop-own-preserved
+loop-own-preserved g c =
+    let own = c.in_ok-own.ensures.copied in
     record {
-      array = omega arith;
-      room = omega arith;
-      counted = rw (rw c.in-Label.is at c.in_ok-next_label_type.ensures.moves, c.add.ensures) (counted_label _ _ _ _ _ _ _ _ c.loop-buffer.invariant.counted fits);
-      followed = rw (rw c.in-Label.is at c.in_ok-next_label_type.ensures.moves, prefix) (followed_label _ _ _ _ _ _ _ c.loop-buffer.invariant.followed (rw c.in-Label.is at c.in_ok-next_label_type.ensures.exact) fits (omega (arith, length-take c.loop-buffer.size c.loop-buffer.buffer)));
+      array = c.copy_counted.ensures.room ∙ c.loop-own.invariant.array;
+      room = own.2.short;
+      followed = rw c.unwrap_or-name_end.ensures (copied_pointer _ _ _ _ _ _ _ _ own.0 c.loop-own.invariant.followed (omega (arith, c.loop-own.invariant.array, c.loop-own.invariant.room)) own.2 c.in-Some.target c.in-Some.is);
+      counted = rw own.1 (copied_counted _ _ _ _ _ _ _ _ _ own.0 c.loop-own.invariant.counted own.2 c.in-Some.target c.in-Some.is);
     }
-
-pub loop-buffer-preserved : goal.loop-buffer-preserved
-loop-buffer-preserved g c =
-    let fits = rw c.in-Pointer.is at c.in_ok-next_label_type.ensures.fits in
-    record {
-      array = c.loop-buffer.invariant.array;
-      room = c.loop-buffer.invariant.room;
-      counted = rw (rw c.in-Pointer.is at c.in_ok-next_label_type.ensures.moves, c.add.ensures) (counted_pointer _ _ _ _ _ _ _ _ c.loop-buffer.invariant.counted (rw c.in-Pointer.is at c.in_ok-next_label_type.ensures.exact) fits.1);
-      followed = rw (rw c.in-Pointer.is at c.in_ok-next_label_type.ensures.moves) (followed_pointer _ _ _ _ _ _ _ c.loop-buffer.invariant.followed (rw c.in-Pointer.is at c.in_ok-next_label_type.ensures.exact) fits.0 fits.1);
-    }
-
-pub returns-in-Root-clause-counts : goal.returns-in-Root-clause-counts
-returns-in-Root-clause-counts g c =
-    λ found. rw c.add.ensures (counted_root _ _ _ _ _ _ _ c.loop-buffer.invariant.counted (rw c.in-Root.is at c.in_ok-next_label_type.ensures.exact) _ _ found)

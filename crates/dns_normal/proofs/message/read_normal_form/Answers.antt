@@ -1,4 +1,4 @@
-use Rattle.std.proofs.Common.{ap, arith, filter, map, rules, subst, sym, ◌∙◌}
+use Rattle.std.proofs.Common.{arith, filter, map, rules, subst, sym, ◌∙◌}
 use Rattle.std.specs.Prelude.{IfErr}
 use Rattle.std.proofs.lemmas.Result.{IfOk-weaker}
 use Rattle.dns_wire.specs.Reading.{AreOctets}
@@ -22,7 +22,7 @@ answers_message-requires c =
       members,
       (
         left_well read.0 (all_well c.args.message.now read.0 fit read.1),
-        sym (ap (map octets_of_key) c.deref.ensures.value ∙ c.in_ok-order.ensures.octets (filter is_not_opt read.0) read.2),
+        sym (c.in_ok-order.ensures.octets (filter is_not_opt read.0) read.2),
       ),
     )
 
@@ -30,9 +30,9 @@ pub returns-clause-formed : goal.returns-clause-formed
 returns-clause-formed c =
     let read = c.in_ok-forms.ensures.read in
     let fit : AreOctets c.args.message.now = λ i. (let fits = c.type_inv.message i in omega (arith, fits)) in
-    let are : AreRecordsOf (map octets_of_key c.deref.result.now) (collapsed (filter is_not_opt read.0)) = (
+    let are : AreRecordsOf (map octets_of_key c.in_ok-order.order) (collapsed (filter is_not_opt read.0)) = (
       left_well read.0 (all_well c.args.message.now read.0 fit read.1),
-      sym (ap (map octets_of_key) c.deref.ensures.value ∙ c.in_ok-order.ensures.octets (filter is_not_opt read.0) read.2),
+      sym (c.in_ok-order.ensures.octets (filter is_not_opt read.0) read.2),
     ) in
     IfOk-weaker c.answers_message.result _ _ (λ text is. (read.0, read.1, is)) (c.answers_message.ensures.built (collapsed (filter is_not_opt read.0)) are)
 
@@ -40,9 +40,9 @@ pub returns-clause-accepted : goal.returns-clause-accepted
 returns-clause-accepted c =
     let read = c.in_ok-forms.ensures.read in
     let fit : AreOctets c.args.message.now = λ i. (let fits = c.type_inv.message i in omega (arith, fits)) in
-    let are : AreRecordsOf (map octets_of_key c.deref.result.now) (collapsed (filter is_not_opt read.0)) = (
+    let are : AreRecordsOf (map octets_of_key c.in_ok-order.order) (collapsed (filter is_not_opt read.0)) = (
       left_well read.0 (all_well c.args.message.now read.0 fit read.1),
-      sym (ap (map octets_of_key) c.deref.ensures.value ∙ c.in_ok-order.ensures.octets (filter is_not_opt read.0) read.2),
+      sym (c.in_ok-order.ensures.octets (filter is_not_opt read.0) read.2),
     ) in
     IfOk-weaker c.answers_message.result _ _ (λ text short. valid_refusal form_refusal c.args.message.now read.0 read.1 ∙ accepted_size (normal_form read.0) short) (c.answers_message.ensures.accepted (collapsed (filter is_not_opt read.0)) are)
 
@@ -50,9 +50,9 @@ pub returns-clause-refused : goal.returns-clause-refused
 returns-clause-refused c =
     let read = c.in_ok-forms.ensures.read in
     let fit : AreOctets c.args.message.now = λ i. (let fits = c.type_inv.message i in omega (arith, fits)) in
-    let are : AreRecordsOf (map octets_of_key c.deref.result.now) (collapsed (filter is_not_opt read.0)) = (
+    let are : AreRecordsOf (map octets_of_key c.in_ok-order.order) (collapsed (filter is_not_opt read.0)) = (
       left_well read.0 (all_well c.args.message.now read.0 fit read.1),
-      sym (ap (map octets_of_key) c.deref.ensures.value ∙ c.in_ok-order.ensures.octets (filter is_not_opt read.0) read.2),
+      sym (c.in_ok-order.ensures.octets (filter is_not_opt read.0) read.2),
     ) in
     subst (λ o. IfErr c.answers_message.result (RefusesFor o)) (sym (valid_refusal form_refusal c.args.message.now read.0 read.1)) (c.answers_message.ensures.refused (collapsed (filter is_not_opt read.0)) are)
 

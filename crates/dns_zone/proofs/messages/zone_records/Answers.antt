@@ -1,5 +1,5 @@
-use Rattle.std.proofs.Common.{◌≡◌, ◌+◌, ◌∙◌, ◌∷◌, ◌++◌, [], List, ℕ, ap, arith, refl, drop, filter, map, subst, suc, sym, take}
-use Rattle.std.proofs.lemmas.List.{length-map, length-take-le}
+use Rattle.std.proofs.Common.{Bor, ◌≡◌, ◌+◌, ◌∙◌, ◌∷◌, ◌++◌, [], List, ℕ, ap, arith, refl, drop, filter, get_or, map, subst, suc, sym, take}
+use Rattle.std.proofs.lemmas.List.{get_or_default, length-map, length-take-le}
 use Rattle.dns_message.specs.Canonical.{is_not_opt}
 use Rattle.dns_message.specs.Messages.{ValidBy}
 use Rattle.dns_message.specs.Order.{sort_key}
@@ -20,42 +20,44 @@ loop-number-init c = record { records = []; valid = tt; members = c.new.ensures;
 pub loop-number-preserved : goal.loop-number-preserved
 loop-number-preserved c =
     let reads = data_by c.args.formats in
-    let ms = map (λ m. m.items) c.args.messages.now in
+    let ms = map (λ m. m.now) c.args.messages.now in
     let apex = c.args.apex.now in
     let n = c.loop-number.number in
-    let m = c.index-messages-number.result in
+    let m : Bor (List ℕ) = get_or c.args.messages.now n (record { ref_ptr = (0, 0); now = [] }) in
+    let is : m ≡ get_or c.args.messages.now n m = get_or_default c.args.messages.now n _ m c.loop-number-test.true in
     let read = c.in-Ok.ensures.read in
-    let next = next_taken c.args.messages.now (λ m. m.items) n m c.loop-number-test.true c.index-messages-number.is in
-    let valid : ValidBy reads m.items read.0 = subst (λ (l : List ℕ). ValidBy reads l read.0) c.deref.ensures.value read.1 in
+    let next = next_taken c.args.messages.now (λ m. m.now) n m c.loop-number-test.true is in
+    let valid : ValidBy reads m.now read.0 = read.1 in
     let rss = c.loop-number.invariant.records ++ read.0 ∷ [] in
     let others = filter is_not_opt read.0 in
     let all : filter is_not_opt (all_records_by reads (take n ms)) ++ others ≡ filter is_not_opt (all_records_by reads (take (n + 1) ms)) =
-    kept_more reads (take n ms) m.items read.0 others valid refl ∙ ap (λ (l : List (List ℕ)). filter is_not_opt (all_records_by reads l)) (sym next) in
+    kept_more reads (take n ms) m.now read.0 others valid refl ∙ ap (λ (l : List (List ℕ)). filter is_not_opt (all_records_by reads l)) (sym next) in
     record {
       records = rss;
-      valid = subst (λ (l : List (List ℕ)). AreValidBy reads l rss) (sym next) (valid_more reads (take n ms) c.loop-number.invariant.records m.items read.0 c.loop-number.invariant.valid valid);
-      members = members_more apex (filter is_not_opt (all_records_by reads (take n ms))) others _ _ _ _ all (read_cover_types c.args.formats m.items read.0 valid) read.2 c.loop-number.invariant.members c.in_ok-add-in-Ok.ensures.members;
+      valid = subst (λ (l : List (List ℕ)). AreValidBy reads l rss) (sym next) (valid_more reads (take n ms) c.loop-number.invariant.records m.now read.0 c.loop-number.invariant.valid valid);
+      members = members_more apex (filter is_not_opt (all_records_by reads (take n ms))) others _ _ _ _ all (read_cover_types c.args.formats m.now read.0 valid) read.2 c.loop-number.invariant.members c.in_ok-add-in-Ok.ensures.members;
       soa = c.in_ok-add-in-Ok.ensures.soa ∙ soa_more apex (filter is_not_opt (all_records_by reads (take n ms))) others _ _ _ all read.2 c.loop-number.invariant.soa;
     }
 
 pub returns-in-Err-clause-refused : goal.returns-in-Err-clause-refused
 returns-in-Err-clause-refused c =
     let reads = data_by c.args.formats in
-    let ms = map (λ m. m.items) c.args.messages.now in
+    let ms = map (λ m. m.now) c.args.messages.now in
     let n = c.loop-number.number in
-    let m = c.index-messages-number.result in
-    let refused : RefusedByOrMemory reads m.items c.in-Err.error = subst (λ (l : List ℕ). RefusedByOrMemory reads l c.in-Err.error) c.deref.ensures.value c.in-Err.ensures.refused in
+    let m : Bor (List ℕ) = get_or c.args.messages.now n (record { ref_ptr = (0, 0); now = [] }) in
+    let is : m ≡ get_or c.args.messages.now n m = get_or_default c.args.messages.now n _ m c.loop-number-test.true in
+    let refused : RefusedByOrMemory reads m.now c.in-Err.error = c.in-Err.ensures.refused in
     subst (RefusesFor (first_refusal_by reads ms)) (sym c.refused.ensures)
-    (refuses_next reads ms (take n ms) (drop (suc n) ms) m.items c.loop-number.invariant.records n c.in-Err.error
-    (parted_at c.args.messages.now (λ m. m.items) n m c.loop-number-test.true c.index-messages-number.is)
-    (length-take-le n ms (omega (arith, c.loop-number-test.true, length-map c.args.messages.now (λ m. m.items)))) c.loop-number.invariant.valid refused)
+    (refuses_next reads ms (take n ms) (drop (suc n) ms) m.now c.loop-number.invariant.records n c.in-Err.error
+    (parted_at c.args.messages.now (λ m. m.now) n m c.loop-number-test.true is)
+    (length-take-le n ms (omega (arith, c.loop-number-test.true, length-map c.args.messages.now (λ m. m.now)))) c.loop-number.invariant.valid refused)
 
 pub returns : goal.returns
 returns c =
     let reads = data_by c.args.formats in
-    let ms = map (λ m. m.items) c.args.messages.now in
+    let ms = map (λ m. m.now) c.args.messages.now in
     let apex = c.args.apex.now in
-    let all = all_taken ms c.loop-number.number (omega (arith, c.loop-number-test.false, length-map c.args.messages.now (λ m. m.items))) in
+    let all = all_taken ms c.loop-number.number (omega (arith, c.loop-number-test.false, length-map c.args.messages.now (λ m. m.now))) in
     record {
       valid = valid_none reads ms c.loop-number.invariant.records 0 (subst (λ (l : List (List ℕ)). AreValidBy reads l c.loop-number.invariant.records) all c.loop-number.invariant.valid);
       members = c.loop-number.invariant.members ∙ ap (λ (l : List (List ℕ)). map sort_key (filter (belongs apex) (filter is_not_opt (all_records_by reads l)))) all;

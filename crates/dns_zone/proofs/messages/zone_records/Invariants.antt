@@ -11,7 +11,7 @@ use Rattle.dns_zone.proofs.messages.zone_records.Given as goal
 abbrev pub invariant-loop-number : goal.invariant-loop-number
 invariant-loop-number l = record {
   records : List (List RecordValue);
-  valid : AreValidBy (data_by l.formats) (take l.number (map (λ m. m.items) l.messages)) records;
-  members : l.found.forms ≡ map sort_key (filter (belongs l.apex) (filter is_not_opt (all_records_by (data_by l.formats) (take l.number (map (λ m. m.items) l.messages)))));
-  soa : l.found.has_soa ≡ has_soa l.apex (filter is_not_opt (all_records_by (data_by l.formats) (take l.number (map (λ m. m.items) l.messages))));
+  valid : AreValidBy (data_by l.formats) (take l.number (map (λ m. m.now) l.messages)) records;
+  members : l.found.forms ≡ map sort_key (filter (belongs l.apex) (filter is_not_opt (all_records_by (data_by l.formats) (take l.number (map (λ m. m.now) l.messages)))));
+  soa : l.found.has_soa ≡ has_soa l.apex (filter is_not_opt (all_records_by (data_by l.formats) (take l.number (map (λ m. m.now) l.messages))));
 }

@@ -1,7 +1,7 @@
-use Rattle.std.proofs.Common.{[], ◌∷◌, arith, sym, subst}
-use Rattle.dns_canon.proofs.SortedForms.{keys_listed}
+use Rattle.std.proofs.Common.{[], ◌∷◌, arith, filter, sym, subst}
 use Rattle.dns_wire.specs.Pointers.{name_at}
 use Rattle.dns_record.specs.Data.{data_in}
+use Rattle.dns_message.specs.Canonical.{is_not_opt}
 use Rattle.dns_message.specs.Messages.{message_reading}
 use Rattle.nelgvasti.specs.Calls.{AnswersOrMemory, reading_answer}
 use Rattle.nelgvasti.specs.declared.answers.TheConstants.{DONE}
@@ -41,10 +41,9 @@ pub returns-clause-done : goal.returns-clause-done
 returns-clause-done c = λ _.
     let read = c.in-Ok.ensures.read in
     let also = c.in-Ok-read_forms.ensures.read in
-    let keys = keys_listed read.0 _ _ c.deref.result.now read.2 c.in-Ok-collapsed.ensures.keys c.deref.ensures.value in
-    let other_keys =
-    keys_listed also.0 _ _ c.deref-2.result.now also.2 c.in-Ok-collapsed-2.ensures.keys c.deref-2.ensures.value in
+    let listed = c.in-Ok-collapsed.ensures.octets (filter is_not_opt read.0) read.2 in
+    let listed-too = c.in-Ok-collapsed-2.ensures.octets (filter is_not_opt also.0) also.2 in
     let says =
-    says_same c.args.first.now c.args.second.now read.0 also.0 c.deref.result.now c.deref-2.result.now c.are_alike.result c.from.result (λ i. (let fits = c.type_inv.first i in omega (arith, fits)))
-    (λ i. (let fits = c.type_inv.second i in omega (arith, fits))) read.1 also.1 keys other_keys c.are_alike.ensures c.from.ensures in
+    says_same c.args.first.now c.args.second.now read.0 also.0 _ _ c.are_same.result c.from.result (λ i. (let fits = c.type_inv.first i in omega (arith, fits)))
+    (λ i. (let fits = c.type_inv.second i in omega (arith, fits))) read.1 also.1 listed listed-too c.are_same.ensures c.from.ensures in
     (read.0, also.0, read.1, also.1, says)

@@ -6,6 +6,6 @@ use Rattle.nelgvasti.proofs.zone.cut.Given as goal
 abbrev pub invariant-loop-length : goal.invariant-loop-length
 invariant-loop-length l = record {
   starts : l.start ≡ sum (take l.length-index l.lengths);
-  octets : concat (map (λ m. m.items) l.messages.items) ≡ take l.start l.octets;
-  lengths : map length (map (λ m. m.items) l.messages.items) ≡ take l.length-index l.lengths;
+  octets : concat (map (λ m. m.now) l.messages.items) ≡ take l.start l.octets;
+  lengths : map length (map (λ m. m.now) l.messages.items) ≡ take l.length-index l.lengths;
 }

@@ -28,8 +28,8 @@ returns-then-lengths-gt-MOST_MESSAGES-clause-expected c = λ labels ms has cut f
 
 pub returns-in-Ok-zone_digest_by-clause-done : goal.returns-in-Ok-zone_digest_by-clause-done
 returns-in-Ok-zone_digest_by-clause-done c = λ _.
-    let ms = map (λ m. m.items) c.deref.result.now in
-    let cut = subst (λ l. AreCut c.args.messages.now c.args.lengths.now (map (λ m. m.items) l)) (sym c.deref.ensures.value) c.in-Ok-cut.ensures in
+    let ms = map (λ m. m.now) c.deref.result.now in
+    let cut = subst (λ l. AreCut c.args.messages.now c.args.lengths.now (map (λ m. m.now) l)) (sym c.deref.ensures.value) c.in-Ok-cut.ensures in
     let valid = none_valid (data_by c.args.formats) ms 0 c.in-Ok-zone_digest_by.ensures.valid in (
       c.in-Ok.apex,
       ms,
@@ -43,35 +43,35 @@ returns-in-Ok-zone_digest_by-clause-done c = λ _.
 
 pub returns-in-Ok-zone_digest_by-clause-expected : goal.returns-in-Ok-zone_digest_by-clause-expected
 returns-in-Ok-zone_digest_by-clause-expected c = λ labels others has other few.
-    let ms = map (λ m. m.items) c.deref.result.now in
-    let cut = subst (λ l. AreCut c.args.messages.now c.args.lengths.now (map (λ m. m.items) l)) (sym c.deref.ensures.value) c.in-Ok-cut.ensures in
+    let ms = map (λ m. m.now) c.deref.result.now in
+    let cut = subst (λ l. AreCut c.args.messages.now c.args.lengths.now (map (λ m. m.now) l)) (sym c.deref.ensures.value) c.in-Ok-cut.ensures in
     expected_for (data_by c.args.formats) c.args.messages.now c.args.lengths.now c.args.apex.now c.in-Ok.apex ms 0 (named c.args.apex.now c.in-Ok.apex c.in-Ok.ensures) cut
     (inl (sym (ap zone_answer (on_valid_records (data_by c.args.formats) c.in-Ok.apex ms true c.in-Ok-zone_digest_by.ensures.valid c.in-Ok-zone_digest_by.ensures.soa)))) labels others has other
 
 pub returns-clause-no_soa : goal.returns-clause-no_soa
 returns-clause-no_soa c = λ is.
-    let ms = map (λ m. m.items) c.deref.result.now in
-    let cut = subst (λ l. AreCut c.args.messages.now c.args.lengths.now (map (λ m. m.items) l)) (sym c.deref.ensures.value) c.in-Ok-cut.ensures in
+    let ms = map (λ m. m.now) c.deref.result.now in
+    let cut = subst (λ l. AreCut c.args.messages.now c.args.lengths.now (map (λ m. m.now) l)) (sym c.deref.ensures.value) c.in-Ok-cut.ensures in
     let without = zone_without_soa (data_by c.args.formats) c.in-Ok.apex ms c.in-Err.error c.in-Err.ensures.refused (sym c.refuse_zone.ensures.answer ∙ is) in
     (c.in-Ok.apex, ms, without.0, named c.args.apex.now c.in-Ok.apex c.in-Ok.ensures, cut, without.1, without.2)
 
 pub returns-clause-short : goal.returns-clause-short
 returns-clause-short c = λ is.
-    let ms = map (λ m. m.items) c.deref.result.now in
-    let cut = subst (λ l. AreCut c.args.messages.now c.args.lengths.now (map (λ m. m.items) l)) (sym c.deref.ensures.value) c.in-Ok-cut.ensures in
+    let ms = map (λ m. m.now) c.deref.result.now in
+    let cut = subst (λ l. AreCut c.args.messages.now c.args.lengths.now (map (λ m. m.now) l)) (sym c.deref.ensures.value) c.in-Ok-cut.ensures in
     let short = zone_short (data_by c.args.formats) c.in-Ok.apex ms c.in-Err.error c.args.position.now c.refuse_zone.new.position c.in-Err.ensures.refused c.refuse_zone.ensures.position (sym c.refuse_zone.ensures.answer ∙ is) in
     (ms, cut, short.0, short.1)
 
 pub returns-clause-item : goal.returns-clause-item
 returns-clause-item c = λ is.
-    let ms = map (λ m. m.items) c.deref.result.now in
-    let cut = subst (λ l. AreCut c.args.messages.now c.args.lengths.now (map (λ m. m.items) l)) (sym c.deref.ensures.value) c.in-Ok-cut.ensures in
+    let ms = map (λ m. m.now) c.deref.result.now in
+    let cut = subst (λ l. AreCut c.args.messages.now c.args.lengths.now (map (λ m. m.now) l)) (sym c.deref.ensures.value) c.in-Ok-cut.ensures in
     (ms, cut, zone_item (data_by c.args.formats) c.in-Ok.apex ms c.in-Err.error c.args.position.now c.refuse_zone.new.position c.in-Err.ensures.refused c.refuse_zone.ensures.position (sym c.refuse_zone.ensures.answer ∙ is))
 
 pub returns-clause-expected : goal.returns-clause-expected
 returns-clause-expected c = λ labels others has other few.
-    let ms = map (λ m. m.items) c.deref.result.now in
-    let cut = subst (λ l. AreCut c.args.messages.now c.args.lengths.now (map (λ m. m.items) l)) (sym c.deref.ensures.value) c.in-Ok-cut.ensures in
+    let ms = map (λ m. m.now) c.deref.result.now in
+    let cut = subst (λ l. AreCut c.args.messages.now c.args.lengths.now (map (λ m. m.now) l)) (sym c.deref.ensures.value) c.in-Ok-cut.ensures in
     rw c.refuse_zone.ensures.answer (expected_for (data_by c.args.formats) c.args.messages.now c.args.lengths.now c.args.apex.now c.in-Ok.apex ms _ (named c.args.apex.now c.in-Ok.apex c.in-Ok.ensures) cut
     (error_expected (data_by c.args.formats) c.in-Ok.apex ms c.in-Err.error c.in-Err.ensures.refused) labels others has other)
 

@@ -3,7 +3,7 @@ use Rattle.std.specs.Prelude.{reverse}
 use Rattle.dns_wire.specs.Names.{labels_wire, IsName, name_labels}
 use Rattle.dns_wire.proofs.Backward.{relative_is, reversed_long}
 use Rattle.dns_wire.proofs.Spelled.{name_octets}
-use Rattle.dns_name.proofs.Gathered.{HoldsReversed, holds_turned}
+use Rattle.dns_name.proofs.HeldReversed.{HoldsReversed, holds_turned}
 use Rattle.dns_name.proofs.name.Name.to_revname.Goals as goal
 use Rattle.dns_name.proofs.name.Name.to_revname.Goals.{After-copy_before}
 
