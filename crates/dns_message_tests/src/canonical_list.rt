@@ -75,6 +75,11 @@ fn lists(alloc: Global, message: &[u8], records: usize, octets: usize, ends: &[u
     counted && list.is_empty() == ends.is_empty() && end_in(&list, ends)
 }
 
+/// Whether two lists are the same. Each borrows forms of its own.
+fn are_same(list: &CanonicalList<'_>, other: &CanonicalList<'_>) -> bool {
+    *list == *other
+}
+
 /// Whether the lists of two messages are the same; none if a message is malformed.
 fn same(alloc: Global, first: &[u8], second: &[u8]) -> Option<bool> {
     let Ok(forms) = read_forms(alloc, first) else {
@@ -83,10 +88,13 @@ fn same(alloc: Global, first: &[u8], second: &[u8]) -> Option<bool> {
     let Ok(others) = read_forms(alloc, second) else {
         return None;
     };
-    match (forms.collapsed(alloc), others.collapsed(alloc)) {
-        (Ok(list), Ok(other)) => Some(list == other),
-        _ => None,
-    }
+    let Ok(list) = forms.collapsed(alloc) else {
+        return None;
+    };
+    let Ok(other) = others.collapsed(alloc) else {
+        return None;
+    };
+    Some(are_same(&list, &other))
 }
 
 #[test]
