@@ -184,7 +184,7 @@ fn read_into(
 
 /// Reads a whole message, and gives the canonical forms of its records except those of type OPT, in the message's order. Memory for them
 /// is taken once for as many as the header counts and the contents can hold, and again as names in full need it; at the first
-/// chain of pointers it is taken for the final targets too, and from the ninth name on 544 octets are taken for each place to which a name
+/// chain of pointers it is taken for the final targets too, and from the ninth name on 536 octets are taken for each place to which a name
 /// leads.
 pub fn read_forms(alloc: Global, message: &[u8]) -> Result<CanonicalForms, CanonError>
     ensures read { IfOk result (λ forms. (rs : List RecordValue) × Valid message.now rs × (forms ≡ forms_of rs)) }
