@@ -60,7 +60,8 @@ seconds_of() {
     dns_rdata | dns_canon) echo 256 ;;
     dns_message) echo 160 ;;
     dns_zone) echo 41 ;;
-    dnscanon | dnslines) echo 108 ;;
+    dns_dispatch) echo 60 ;;
+    dnscanon | dnslines) echo 50 ;;
     *) echo 41 ;;
     esac
 }
@@ -137,13 +138,15 @@ start() {
     ) </dev/null >"$out/$1.log" 2>&1 &
     echo $! >"$rooms/$1.pid"
     echo "$2" >"$rooms/$1.jobs"
+    echo "$seconds" >"$rooms/$1.began"
     free=$((free - $2))
     running="$running $1"
     waiting=$(echo " $waiting " | sed "s/ $1 / /")
 }
 
 # Starts what waits and depends on proved libraries alone. What comes in the list after a crate that is not ready is needed later: it
-# fills processors that are left, with one process, and does not count when the others have the processors divided among them.
+# fills processors that are left, with one process, and does not count when the others have the processors divided among them. Where each of
+# several gets one process, the first of them, which holds the build up longest, gets two.
 start_ready() {
     ready=
     later=
@@ -159,11 +162,14 @@ start_ready() {
     done
     count=$(echo $ready | wc -w)
     share=$((free + $(echo $filling | wc -w)))
+    first=1
     for name in $ready; do
         [ $share -ge 0 ] || return 0
-        start "$name" $((share < count ? 1 : share / count))
-        share=$((share - $(cat "$rooms/$name.jobs")))
+        jobs=$((share < count ? 1 : share / count))
+        start "$name" $((jobs == 1 && count > 1 && share > 1 && first == 1 ? 2 : jobs))
+        share=$((share - jobs))
         count=$((count - 1))
+        first=0
     done
     for name in $later; do
         [ $free -gt 0 ] || return 0
@@ -194,20 +200,28 @@ progress() {
     sed -n 's/^so far: \([0-9]*\) of \([0-9]*\) .*/\1 \2/p' "$out/$1.log" 2>/dev/null | tail -n 1
 }
 
-# About how many minutes are left: the seconds of the crates that are not proved, at the pace of those that this run has proved.
+# About how many minutes are left: the seconds of the crates that are not proved, at the pace of those that this run has proved. Of a crate
+# at work that says nothing of its progress, the seconds since it began count, up to nine tenths of it.
 minutes_left() {
     for name in $waiting $running "$program"; do
-        echo "$(seconds_of "$name") $(progress "$name")"
+        began=$(cat "$rooms/$name.began" 2>/dev/null)
+        echo "$(seconds_of "$name") $((seconds - ${began:-$seconds})) $(progress "$name")"
     done | awk -v passed="$seconds" -v spent="$spent" -v workers="$workers" '
-        { share = $3 > 0 ? $2 / $3 : 0; left += $1 * (1 - share); spent += $1 * share }
+        {
+            share = $4 > 0 ? $3 / $4 : $2 / $1
+            if (share > 0.9) share = 0.9
+            left += $1 * (1 - share); spent += $1 * share
+        }
         END { print int(left * (spent > 60 ? passed / spent : 4 / workers) / 60) + 1 }'
 }
 
-# A line with the minutes that are left and the crates at work, and how many functions of each are checked, of how many. On a
+# A line with the minutes that are left, which do not rise on the way, and the crates at work, and how many functions of each are checked, of how many. On a
 # terminal it is written over itself; elsewhere it comes when a crate is proved, and each minute.
 show() {
     [ -t 2 ] || [ -n "$change" ] || [ $((seconds % 60)) = 0 ] || return 0
-    line="$program: $(echo $proved | wc -w) of $all crates proved, about $(minutes_left) min left"
+    left=$(minutes_left)
+    [ -n "$shown" ] && [ "$left" -gt "$shown" ] || shown=$left
+    line="$program: $(echo $proved | wc -w) of $all crates proved, about $shown min left"
     for name in $running; do
         count=$(progress "$name" | tr ' ' /)
         line="$line, $name${count:+ $count}"
@@ -275,14 +289,14 @@ build_program() {
     running=$program change=yes
     show
     furnish "$program" || { failed=$program && return; }
-    (cd "$rooms/$program/crates/$program" && exec rt run -- "$(cat args)") </dev/null >"$out/$program.log" 2>&1 &
+    (cd "$rooms/$program/crates/$program" && rt check --jobs "$workers" && exec rt run -- "$(cat args)") </dev/null >"$out/$program.log" 2>&1 &
     echo $! >"$rooms/$program.pid"
     wait $!
     running=
     mv "$rooms/$program/crates/$program/out/$program" "$out/$program" || failed=$program
 }
 
-running='' filling='' failed='' proved='' waiting='' seconds=0 spent=0 change=yes
+running='' filling='' failed='' proved='' waiting='' shown='' seconds=0 spent=0 change=yes
 take_turn
 clear_rooms
 for crate in "$crates"/*/; do

@@ -1,18 +1,14 @@
 -- The expected status on the text of one message.
-use Rattle.std.proofs.Common.{◌≡◌, ℕ, ◌<◌, ◌≤◌, ◌⊎◌, inl, inr, true, false, ltb, List, [], ◌∷◌, length, Option, Some, None, refl, sym, ap, subst, ◌∙◌, ◌≢◌}
+use Rattle.std.proofs.Common.{◌≡◌, ℕ, ◌<◌, ◌≤◌, inl, inr, true, false, ltb, List, [], ◌∷◌, length, Option, Some, None, refl, sym, ap, ◌∙◌}
 use Rattle.std.specs.Prelude.{◌↔◌}
 use Rattle.std.proofs.lemmas.Bool.{cases_lt, le-ltb, lt-ltb}
-use Rattle.dns_wire.specs.Hexadecimal.{Spells, SpellsNothing, spelled, trim}
-use Rattle.dns_message.specs.Messages.{RecordValue, Reading, Valid, BadAt, message_reading}
-use Rattle.dns_message.specs.Messages.Reading.{Short as TooShort, Stopped, Whole}
-use Rattle.dns_canon.specs.Run.{AllowedStatus}
-use Rattle.dns_message.specs.Refusals.{RefusedOrMemory}
-use Rattle.dns_canon.specs.Statuses.{canon_status}
+use Rattle.dns_text.specs.Hexadecimal.{Spells, SpellsNothing, spelled, trim}
+use Rattle.dns_message.specs.Messages.{RecordValue, Valid, BadAt, message_reading}
 use Rattle.dns_canon.specs.ExpectedStatus.{expected_status, first_refusal}
 use Rattle.dns_message.specs.declared.canon_error.CanonError.{CanonError}
 use Rattle.dns_message.specs.declared.canon_error.CanonError.TheVariants as canon
 use Rattle.dns_canon.specs.declared.status.Status.{Status}
-use Rattle.dns_canon.specs.declared.status.Status.TheVariants.{Done, Short, Item, BadHex, TooLong, Usage, ReadFault, WriteFault, Memory}
+use Rattle.dns_canon.specs.declared.status.Status.TheVariants.{Done, Short, Item, BadHex, TooLong}
 use Rattle.dns_canon.specs.declared.words.Command.{Command}
 use Rattle.dns_canon.specs.declared.words.Command.TheVariants.{Canon}
 use Rattle.dns_message.proofs.OneReading.{three_kinds}
@@ -114,22 +110,3 @@ long_words t = (λ e. from (called t) e, too_long t) where
   from (is_short m v within spells few) e = let w = sym v ∙ e in absurd cc
   from (is_item m s i v within spells bad) e = let w = sym v ∙ e in absurd cc
   from (is_done m rs v within spells valid) e = let w = sym v ∙ e in absurd cc
-
--- ---- a refused message
-
--- what a command answers to a text that it does not print for
-abbrev pub Refuses : Command → List ℕ → Status → Type 0
-Refuses command t status = ((status ≡ expected_status (Some command) t) ⊎ (status ≡ Memory)) × ((status ≢ Done) × ((status ≢ ReadFault) × ((status ≢ WriteFault) × (status ≢ Usage))))
-
-reading_not_usage : (r : Reading) → first_refusal 0 (r ∷ []) ≢ Usage
-reading_not_usage TooShort = λ e. cc
-reading_not_usage (Stopped items section index place) = λ e. cc
-reading_not_usage (Whole items end) = λ e. cc
-
--- and it answers the text
-pub message_answers : (t m : List ℕ) (error : CanonError) (status : Status) → length t ≤ 131072 → Spells t m → RefusedOrMemory m error → status ≡ canon_status 0 error → AllowedStatus (expected_status (Some Canon) t) status
-message_answers t m error status within spells refused is = subst (AllowedStatus (expected_status (Some Canon) t)) (sym is) (by error refused) where
-  by : (e : CanonError) → RefusedOrMemory m e → AllowedStatus (expected_status (Some Canon) t) (canon_status 0 e)
-  by canon.Short few = sym (short t m within spells few)
-  by (canon.Item s i) bad = sym (bad_item t m s i within spells bad)
-  by canon.Memory none = λ e. reading_not_usage (message_reading m) (sym (on_reading t m within spells) ∙ e)

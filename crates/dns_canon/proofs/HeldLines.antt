@@ -1,16 +1,16 @@
 -- Lines that are held one after another.
 use Rattle.std.proofs.Common.{◌≡◌, Bool, Some, None, IfSome, subst, take-append-drop, take_all, ℕ, ◌+◌, ◌*◌, ◌<◌, ◌≤◌, List, [], ◌∷◌, ◌++◌, length, map, take, drop, Result, sym, ap, ◌∙◌, arith, get_or, flat_map, append_assoc, append-nil}
-use Rattle.std.specs.Prelude.{IsSome, slice_set}
+use Rattle.std.specs.Prelude.{IsSome}
 use Rattle.std.specs.declared.option.Option.{Option}
 use Rattle.std.proofs.KnownBytes.{Appends-trans}
-use Rattle.dns_wire.specs.Outside.{WritesPrefix, Puts}
-use Rattle.dns_wire.specs.declared.io.traits.Failed.{Failed}
+use Rattle.dns_text.specs.Outside.{WritesPrefix, Puts}
+use Rattle.dns_text.specs.declared.io.traits.Failed.{Failed}
 use Rattle.dns_text.proofs.Transfers.{prefix_after, prefix_longer, puts_after}
 use Rattle.std.specs.Io.KnownBytes.{Appends}
-use Rattle.std.proofs.lemmas.Grind.{take-set_at, flat_map-append}
+use Rattle.std.proofs.lemmas.Grind.{flat_map-append}
 use Rattle.std.proofs.lemmas.List.{length-append, length-take-le, map-append, take_at, take_more}
 use Rattle.std.proofs.lemmas.List.Concat.{flat_map-cons}
-use Rattle.dns_wire.specs.Hexadecimal.{shown, line, lines}
+use Rattle.dns_text.specs.Hexadecimal.{shown, line, lines}
 use Rattle.dns_text.proofs.Encoding.{shown_long}
 
 -- ---- a line after others
@@ -18,16 +18,11 @@ use Rattle.dns_text.proofs.Encoding.{shown_long}
 pub line_long : (octets : List ℕ) → length (line octets) ≡ 2 * length octets + 1
 line_long octets = length-append (flat_map shown octets) (10 ∷ []) ∙ omega (arith, shown_long octets)
 
--- digits that are written over as many, and LF after them
-pub line_written : (text octets digits back : List ℕ) (start end : ℕ) → start ≤ length text → end ≡ start + 2 * length octets → digits ≡ flat_map shown octets → 0 < length back
-    → take (start + 2 * length octets + 1) (slice_set (take start text ++ (digits ++ back)) end 10) ≡ take start text ++ line octets
-line_written text octets digits back start end within end-is shown-is room =
-    let long : length (take start text ++ digits) ≡ end = omega (arith, length-append (take start text) digits, length-take-le start text within, ap length shown-is, shown_long octets, end-is) in
-    let one-more : start + 2 * length octets + 1 ≡ end + 1 = omega (arith, end-is) in
-    ap (λ (l : List ℕ). take (start + 2 * length octets + 1) (slice_set l end 10)) (sym (append_assoc (take start text) digits back))
-    ∙ take-set_at ((take start text ++ digits) ++ back) end (start + 2 * length octets + 1) 10 one-more (omega (arith, long, length-append (take start text ++ digits) back, room))
-    ∙ ap (λ (l : List ℕ). l ++ 10 ∷ []) (take_at (take start text ++ digits) back end long)
-    ∙ append_assoc (take start text) digits (10 ∷ []) ∙ ap (λ (l : List ℕ). take start text ++ (l ++ 10 ∷ [])) shown-is
+-- a line that is written over as many octets, after those before a place
+pub line_written : (text octets put rest : List ℕ) (start end : ℕ) → start ≤ length text → end ≡ start + 2 * length octets + 1 → put ≡ line octets → take end (take start text ++ (put ++ rest)) ≡ take start text ++ line octets
+line_written text octets put rest start end within end-is put-is =
+    let long : length (take start text ++ put) ≡ end = omega (arith, length-append (take start text) put, length-take-le start text within, ap length put-is, line_long octets, end-is) in
+    ap (take end) (sym (append_assoc (take start text) put rest)) ∙ take_at (take start text ++ put) rest end long ∙ ap (λ (l : List ℕ). take start text ++ l) put-is
 
 -- ---- lines one after another
 

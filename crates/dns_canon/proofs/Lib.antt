@@ -6,9 +6,10 @@ pub mod MadeLemmas
 pub mod Pairs
 pub mod Parting
 pub mod PlainNames
-pub mod PrintedTexts
 pub mod PushedAnswers
 pub mod ReportedSameness
 pub mod ExpectedStatuses
 pub mod WordLemmas
 pub mod Written
+mod CanonRefusals
+mod RunStatuses

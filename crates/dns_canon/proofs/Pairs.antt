@@ -1,23 +1,20 @@
 -- The expected status on the text of two messages.
-use Rattle.std.proofs.Common.{◌≡◌, ◌≢◌, ℕ, ◌<◌, ◌≤◌, ◌⊎◌, inl, inr, false, true, ltb, List, [], ◌∷◌, length, Option, Some, None, refl, sym, ap, subst, ◌∙◌}
+use Rattle.std.proofs.Common.{◌≡◌, ℕ, ◌<◌, ◌≤◌, ◌⊎◌, inl, inr, false, true, ltb, List, [], ◌∷◌, length, Option, Some, None, refl, sym, ap, subst, ◌∙◌}
 use Rattle.std.specs.Prelude.{◌↔◌}
 use Rattle.std.proofs.lemmas.Bool.{cases_lt, le-ltb, lt-ltb}
-use Rattle.dns_wire.specs.Hexadecimal.{Spells, SpellsNothing, spelled, trim}
+use Rattle.dns_text.specs.Hexadecimal.{SpellsNothing, spelled, trim}
 use Rattle.dns_wire.specs.Steps.{◌>>=◌}
 use Rattle.dns_message.specs.Messages.{RecordValue, Valid, BadAt, message_reading}
 use Rattle.dns_message.proofs.OneReading.{three_kinds}
 use Rattle.dns_message.proofs.Phrased.{short_reading}
 use Rattle.dns_text.specs.Spelled.{all_spelled}
 use Rattle.dns_canon.specs.Parts.{first_text, second_text}
-use Rattle.dns_message.specs.Refusals.{RefusedOrMemory}
-use Rattle.dns_canon.specs.Statuses.{canon_status}
 use Rattle.dns_canon.specs.ExpectedStatus.{expected_status, first_refusal, on_messages, SpellsBoth}
 use Rattle.dns_message.specs.declared.canon_error.CanonError.{CanonError}
 use Rattle.dns_message.specs.declared.canon_error.CanonError.TheVariants as canon
 use Rattle.dns_canon.specs.declared.status.Status.{Status}
 use Rattle.dns_canon.specs.declared.status.Status.TheVariants.{Done, Short, Item, BadHex, TooLong, Usage, ReadFault, WriteFault, Memory}
 use Rattle.dns_canon.specs.declared.words.Command.TheVariants.{Same}
-use Rattle.dns_canon.proofs.ExpectedStatuses.{Refuses}
 
 -- what calls for a status
 abbrev pub CallsFor : List ℕ → Status → Type 0
@@ -88,48 +85,3 @@ some_call t = elim (cases_lt 262144 (length t)) [
 
 pub pair_words : (t : List ℕ) (status : Status) → (expected_status (Some Same) t ≡ status) ↔ CallsFor t status
 pair_words t status = (λ e. let some = some_call t in subst (CallsFor t) (sym (called t some.0 some.1) ∙ e) some.1, called t status)
-
--- ---- refusals
-
-as_expected_status : (t : List ℕ) (status : Status) → CallsFor t status → status ≢ Done → Refuses Same t status
-as_expected_status t Done call other = absurd (other refl)
-as_expected_status t (Short message) call other = (inl (sym (called t (Short message) call)), (λ e. cc, (λ e. cc, (λ e. cc, λ e. cc))))
-as_expected_status t (Item message s i) call other = (inl (sym (called t (Item message s i) call)), (λ e. cc, (λ e. cc, (λ e. cc, λ e. cc))))
-as_expected_status t BadHex call other = (inl (sym (called t BadHex call)), (λ e. cc, (λ e. cc, (λ e. cc, λ e. cc))))
-as_expected_status t TooLong call other = (inl (sym (called t TooLong call)), (λ e. cc, (λ e. cc, (λ e. cc, λ e. cc))))
-as_expected_status t Usage call other = absurd call
-as_expected_status t ReadFault call other = absurd call
-as_expected_status t WriteFault call other = absurd call
-as_expected_status t Memory call other = absurd call
-
-for_memory : (t : List ℕ) → Refuses Same t Memory
-for_memory t = (inr refl, (λ e. cc, (λ e. cc, (λ e. cc, λ e. cc))))
-
--- a text that spells nothing
-pub nothing_spelled : (t : List ℕ) (status : Status) → length t ≤ 262144 → SpellsNothing (first_text t) ⊎ SpellsNothing (second_text t) → status ≡ BadHex → Refuses Same t status
-nothing_spelled t status within nothing is = subst (Refuses Same t) (sym is) (as_expected_status t BadHex (within, nothing) (λ e. cc))
-
--- the first message is refused
-pub first_refused : (t m n : List ℕ) (error : CanonError) (status : Status) → SpellsBoth t m n → RefusedOrMemory m error → status ≡ canon_status 0 error → Refuses Same t status
-first_refused t m n error status both refused is = subst (Refuses Same t) (sym is) (by error refused) where
-  by : (e : CanonError) → RefusedOrMemory m e → Refuses Same t (canon_status 0 e)
-  by canon.Short few = as_expected_status t (Short 0) (m, n, both, inl (refl, few)) (λ e. cc)
-  by (canon.Item s i) bad = as_expected_status t (Item 0 s i) (m, n, both, inl (refl, bad)) (λ e. cc)
-  by canon.Memory none = for_memory t
-
--- the first message is valid, and the second is refused
-pub second_refused : (t m n : List ℕ) (rs : List RecordValue) (error : CanonError) (status : Status) → SpellsBoth t m n → Valid m rs → RefusedOrMemory n error → status ≡ canon_status 1 error → Refuses Same t status
-second_refused t m n rs error status both valid refused is = subst (Refuses Same t) (sym is) (by error refused) where
-  by : (e : CanonError) → RefusedOrMemory n e → Refuses Same t (canon_status 1 e)
-  by canon.Short few = as_expected_status t (Short 1) (m, n, both, inr (refl, rs, valid, few)) (λ e. cc)
-  by (canon.Item s i) bad = as_expected_status t (Item 1 s i) (m, n, both, inr (refl, rs, valid, bad)) (λ e. cc)
-  by canon.Memory none = for_memory t
-
--- what a text spells, by other words for the text and for the octets
-spelled_there : (text other m octets : List ℕ) → other ≡ text → octets ≡ m → Spells other m → Spells text octets
-spelled_there text other m octets is octets-is spells = ap spelled (ap trim (sym is)) ∙ spells ∙ ap Some (sym octets-is)
-
-pub both_spelled : (t first second m n octets others : List ℕ) → length t ≤ 262144 → first ≡ first_text t → second ≡ second_text t → m ≡ octets → n ≡ others
-    → Spells first octets → Spells second others → SpellsBoth t m n
-both_spelled t first second m n octets others within first-is second-is m-is n-is spells also =
-    (within, spelled_there (first_text t) first octets m first-is m-is spells, spelled_there (second_text t) second others n second-is n-is also)

@@ -1,10 +1,10 @@
 -- What equal canonical lists say of two messages.
 use Rattle.std.proofs.Common.{◌≡◌, ℕ, ◌⊎◌, inl, inr, Bool, true, false, List, [], ◌∷◌, ◌++◌, codes, refl, sym, ◌∙◌, subst}
 use Rattle.std.specs.Prelude.{◌↔◌}
-use Rattle.dns_wire.specs.Hexadecimal.{Spells, trim}
+use Rattle.dns_text.specs.Hexadecimal.{Spells, trim}
 use Rattle.dns_message.specs.Messages.{RecordValue, Valid}
 use Rattle.dns_message.specs.Same.{Same}
-use Rattle.dns_wire.proofs.HexadecimalLemmas.{spelled_octets}
+use Rattle.dns_text.proofs.HexadecimalLemmas.{spelled_octets}
 use Rattle.dns_message.proofs.CanonicalListSameness.{message_outputs}
 use Rattle.dns_message.proofs.OneReading.{valid_one}
 use Rattle.dns_message.specs.Order.{canonical_list}

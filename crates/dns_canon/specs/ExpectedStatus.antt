@@ -3,14 +3,17 @@ use Rattle.dns_text.specs.declared.transfer.TheConstants.{MESSAGE_TEXT_LIMIT}
 use Rattle.dns_wire.specs.Octets.{Octets}
 use Rattle.dns_canon.specs.declared.words.TheConstants.{LIMIT_OF_TWO}
 use Rattle.std.specs.Prelude.{ℕ, ◌≤◌, List, [], ◌∷◌, length, map, Option, Some, None, Bool, true, false, nat_lt, if◌then◌else◌}
-use Rattle.dns_wire.specs.Hexadecimal.{Spells}
-use Rattle.dns_text.specs.Endings.{text_if}
+use Rattle.dns_text.specs.Hexadecimal.{Spells}
+use Rattle.dns_command.specs.Endings.{text_if}
 use Rattle.dns_text.specs.Spelled.{all_spelled}
 use Rattle.dns_message.specs.Messages.{Reading, message_reading}
 use Rattle.dns_message.specs.Refusals.{first_refused}
 use Rattle.dns_message.specs.declared.canon_error.CanonError.{CanonError}
 use Rattle.dns_canon.specs.Parts.{first_text, second_text}
-use Rattle.dns_canon.specs.Statuses.{canon_status}
+use Rattle.dns_command.specs.Outcomes.{reads_text}
+use Rattle.dns_command.specs.Refusals.{first_refusal as first_message_refusal}
+use Rattle.dns_command.specs.declared.refusal.Refusal.TheVariants as refusal
+use Rattle.dns_canon.specs.Statuses.{CanonRefusal, canon_status}
 use Rattle.dns_canon.specs.declared.status.Status.{Status}
 use Rattle.dns_canon.specs.declared.status.Status.TheVariants.{Done, BadHex, TooLong, Usage}
 use Rattle.dns_canon.specs.declared.words.Command.{Command}
@@ -18,12 +21,15 @@ use Rattle.dns_canon.specs.declared.words.Command.TheVariants.{Canon, Same, Make
 
 -- ---- what a command reads
 
--- whether a command reads a text; `make` reads none, nor do words that are no command
+-- whether a command reads a text; `make` reads none
+abbrev pub command_reads : Command → Bool
+command_reads Canon = true
+command_reads Same = true
+command_reads (Make count) = false
+
+-- nor do words that are no command
 abbrev pub reads : Option Command → Bool
-reads None = false
-reads (Some Canon) = true
-reads (Some Same) = true
-reads (Some (Make count)) = false
+reads = reads_text command_reads
 
 -- the text that is read, as far as the source reports what it has left
 abbrev pub text_read : Option Command → Option Octets → Option Octets
@@ -61,6 +67,14 @@ on_messages (Some messages) = first_refusal 0 (map message_reading messages)
 abbrev pub expected_status : Option Command → Octets → Status
 expected_status None text = Usage
 expected_status (Some command) text = if nat_lt (limit_of command) (length text) then TooLong else on_messages (all_spelled (texts_in command text))
+
+-- why a text is refused; `None` if one is printed for it
+abbrev pub texts_refusal : Option (List Octets) → Option CanonRefusal
+texts_refusal None = Some refusal.BadHex
+texts_refusal (Some messages) = first_message_refusal messages
+
+abbrev pub canon_refusal : Command → Octets → Option CanonRefusal
+canon_refusal command text = texts_refusal (all_spelled (texts_in command text))
 
 -- ---- two messages
 

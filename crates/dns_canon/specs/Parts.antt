@@ -2,7 +2,7 @@
 use Rattle.std.specs.Prelude.{◌≡◌, ◌≢◌, ◌⊎◌, ◌==◌, if◌then◌else◌, [], ◌∷◌, ◌++◌}
 use Rattle.std.specs.List.{AllByRecursion}
 use Rattle.dns_wire.specs.Octets.{Octets}
-use Rattle.dns_wire.specs.Hexadecimal.{trim}
+use Rattle.dns_text.specs.Hexadecimal.{trim}
 
 -- what comes before the first LF; if there is none, the whole text
 unfoldable pub before_lf : Octets → Octets

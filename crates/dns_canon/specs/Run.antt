@@ -1,8 +1,8 @@
 -- What a run answers, writes and leaves.
-use Rattle.std.specs.Prelude.{◌≡◌, ◌⊎◌, List, [], ◌∷◌, ◌++◌, codes, Option, Result, Ok, Err}
+use Rattle.std.specs.Prelude.{◌≡◌, ◌⊎◌, List, [], ◌∷◌, ◌++◌, codes, Option}
 use Rattle.dns_wire.specs.Octets.{Octets}
-use Rattle.dns_wire.specs.Hexadecimal.{Spells, lines}
-use Rattle.dns_text.specs.Endings.{AllowedAs, EmptiesAs, Rules, WritesAs}
+use Rattle.dns_text.specs.Hexadecimal.{Spells, lines}
+use Rattle.dns_command.specs.Endings.{AllowedAs, EmptiesAs, Rules, WritesAs}
 use Rattle.dns_message.specs.Messages.{RecordValue, Valid}
 use Rattle.dns_message.specs.Order.{canonical_list}
 use Rattle.dns_message.specs.Same.{Same as AreSame}
@@ -21,11 +21,6 @@ use Rattle.dns_canon.specs.declared.words.Command.TheVariants.{Canon, Same, Make
 -- written, or memory ran out. Nothing comes in place of `Usage`.
 abbrev pub AllowedStatus : Status → Status → Type 0
 AllowedStatus expected answer = AllowedAs Done Usage (ending_of answer) expected answer
-
--- how a run ends whose command came to this
-abbrev pub ended : Result (Unit {0}) Status → Status
-ended (Ok u) = Done
-ended (Err status) = status
 
 -- ---- what is written
 

@@ -1,16 +1,18 @@
--- How a run ends: codes, lines, and the status of each refusal.
+-- How a run ends: codes, lines, and the statuses of refusals and outcomes.
 use Rattle.std.specs.Prelude.{ℕ, []}
 use Rattle.dns_wire.specs.Octets.{Octets}
-use Rattle.dns_text.specs.Endings.{Ending}
-use Rattle.dns_text.specs.Endings.Ending.{Printed, NoCommand, TextTooLong, TextRefused, SourceFailed, SinkFailed, NoMemory}
-use Rattle.dns_text.specs.Notes.{ending_note, notice_line}
-use Rattle.dns_text.specs.declared.notice.Notice.TheVariants as notice
+use Rattle.dns_command.specs.Endings.{Ending}
+use Rattle.dns_command.specs.Endings.Ending.{Printed, NoCommand, TextTooLong, TextRefused, SourceFailed, SinkFailed, NoMemory}
+use Rattle.dns_command.specs.Notes.{ending_note, notice_line}
+use Rattle.dns_command.specs.declared.notice.Notice.TheVariants as notice
 use Rattle.dns_message.specs.declared.canon_error.CanonError.{CanonError}
 use Rattle.dns_message.specs.declared.canon_error.CanonError.TheVariants as canon
-use Rattle.dns_text.specs.declared.error.HexError.{HexError}
-use Rattle.dns_text.specs.declared.error.HexError.TheVariants as hexadecimal
-use Rattle.dns_text.specs.declared.error.TextError.{TextError}
-use Rattle.dns_text.specs.declared.error.TextError.TheVariants as text
+use Rattle.std.specs.declared.convert.Infallible.{Infallible}
+use Rattle.dns_command.specs.Refusals.{refusal_note}
+use Rattle.dns_command.specs.declared.outcome.Outcome.{Outcome}
+use Rattle.dns_command.specs.declared.outcome.Outcome.TheVariants as outcome
+use Rattle.dns_command.specs.declared.refusal.Refusal.{Refusal}
+use Rattle.dns_command.specs.declared.refusal.Refusal.TheVariants as refusal
 use Rattle.dns_canon.specs.declared.status.Status.{Status}
 use Rattle.dns_canon.specs.declared.status.Status.TheVariants.{Done, Short, Item, BadHex, TooLong, Usage, ReadFault, WriteFault, Memory}
 
@@ -51,19 +53,47 @@ refusal_line status = []
 abbrev pub note_of : Status → Octets
 note_of status = ending_note (ending_of status) (refusal_line status)
 
--- ---- the status of each way in which a part of the work is refused
+-- ---- refusals and outcomes
 
-abbrev pub text_status : TextError → Status
-text_status text.TooLong = TooLong
-text_status text.ReadFault = ReadFault
-text_status text.Memory = Memory
+-- why a text is refused
+abbrev pub CanonRefusal : Type 0
+CanonRefusal = Refusal ℕ Infallible
 
-abbrev pub hex_status : HexError → Status
-hex_status hexadecimal.BadHex = BadHex
-hex_status hexadecimal.Memory = Memory
+-- the status of a text that is refused
+abbrev pub refusal_status : CanonRefusal → Status
+refusal_status refusal.BadHex = BadHex
+refusal_status (refusal.Short message) = Short message
+refusal_status (refusal.Item message section index) = Item message section index
+refusal_status (refusal.Own reason) = elim reason [ ]
 
--- for the message of a number
+-- an outcome as a status
+abbrev pub status_of : Outcome CanonRefusal → Status
+status_of outcome.Done = Done
+status_of outcome.Usage = Usage
+status_of outcome.TooLong = TooLong
+status_of (outcome.Refused refused) = refusal_status refused
+status_of outcome.ReadFault = ReadFault
+status_of outcome.WriteFault = WriteFault
+status_of outcome.Memory = Memory
+
+-- a status as an outcome
+abbrev pub outcome_of : Status → Outcome CanonRefusal
+outcome_of Done = outcome.Done
+outcome_of (Short message) = outcome.Refused (refusal.Short message)
+outcome_of (Item message section index) = outcome.Refused (refusal.Item message section index)
+outcome_of BadHex = outcome.Refused refusal.BadHex
+outcome_of TooLong = outcome.TooLong
+outcome_of Usage = outcome.Usage
+outcome_of ReadFault = outcome.ReadFault
+outcome_of WriteFault = outcome.WriteFault
+outcome_of Memory = outcome.Memory
+
+-- the status of a message of a number that is not read whole
 abbrev pub canon_status : ℕ → CanonError → Status
 canon_status message canon.Short = Short message
 canon_status message (canon.Item section index) = Item message section index
 canon_status message canon.Memory = Memory
+
+-- the line that is noted for a refusal
+abbrev pub canon_note : CanonRefusal → Octets
+canon_note = refusal_note (λ message. message) (λ reason. [])

@@ -1,7 +1,7 @@
 -- The words of the command line.
 use Rattle.dns_wire.specs.Octets.{Octets}
 use Rattle.dns_canon.specs.declared.words.TheConstants.{MOST_RECORDS}
-use Rattle.std.specs.Prelude.{ℕ, List, [], ◌∷◌, Option, Some, None, codes, bytes_eq, if◌then◌else◌}
+use Rattle.std.specs.Prelude.{ℕ, ◌≤◌, List, [], ◌∷◌, Option, Some, None, codes, bytes_eq, if◌then◌else◌}
 use Rattle.std.specs.Option.{option_map}
 use Rattle.dns_text.specs.Words.{number_within}
 use Rattle.dns_canon.specs.declared.words.Command.{Command}
@@ -25,3 +25,9 @@ command_of [] = None
 command_of (word ∷ []) = command_named word
 command_of (word ∷ number ∷ []) = numbered_command word number
 command_of (word ∷ other ∷ another ∷ more) = None
+
+-- a message is made of no more records than 1,000
+abbrev pub IsSmall : Command → Type 0
+IsSmall Canon = Unit {0}
+IsSmall Same = Unit {0}
+IsSmall (Make count) = count ≤ MOST_RECORDS

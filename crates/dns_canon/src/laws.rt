@@ -2,7 +2,7 @@
 
 ghost use Rattle.std.specs.Prelude.{◌≡◌, ◌≤◌, ◌<◌, ◌⊎◌, ◌↔◌, ℕ, List, [], ◌∷◌, ◌++◌, Some, None, codes, decimal, length, IsTrue};
 ghost use Rattle.dns_text.specs.declared.transfer.TheConstants.{MESSAGE_TEXT_LIMIT};
-ghost use Rattle.dns_wire.specs.Hexadecimal.{Spells, SpellsNothing, lines};
+ghost use Rattle.dns_text.specs.Hexadecimal.{Spells, SpellsNothing, lines};
 ghost use Rattle.dns_message.specs.Messages.{RecordValue, Valid, BadAt};
 ghost use Rattle.dns_message.specs.Order.{canonical_list};
 ghost use Rattle.dns_message.specs.Same.{Same};

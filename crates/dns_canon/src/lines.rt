@@ -1,13 +1,12 @@
 //! The lines of canonical forms, on their way to a sink.
 
 ghost use Rattle.std.specs.Prelude.{◌≡◌, ◌≤◌, ◌<◌, ◌+◌, ◌-◌, ◌*◌, [], ◌++◌, length, map, take, true, IfOk, OnOk};
-ghost use Rattle.dns_wire.specs.Hexadecimal.{line, lines};
-ghost use Rattle.dns_wire.specs.Outside.{HasCause, BecomesFlag, Puts};
+ghost use Rattle.dns_text.specs.Hexadecimal.{line, lines};
+ghost use Rattle.dns_text.specs.Outside.{HasCause, BecomesFlag, Puts};
 ghost use Rattle.dns_message.specs.Order.{octets_of_key};
 
 use dns_message::{CanonicalForm, CanonicalRecord};
-use dns_text::{put_all, put_digits, put_text, zeros};
-use dns_wire::{Failed, Sink};
+use dns_text::{Failed, Sink, put_all, put_hex_line, put_text, zeros};
 use std::alloc::{AllocError, Global};
 use std::marker::Model;
 
@@ -22,9 +21,7 @@ fn write_line(text: &mut [u8], start: usize, octets: &[u8])
     requires { start + 2 * length octets.now < length text.old }
     ensures { take (start + 2 * length octets.now + 1) text.new ≡ take start text.old ++ line octets.now }
 {
-    let end = start + 2 * octets.len();
-    put_digits(octets, &mut text[start..end]);
-    text[end] = b'\n';
+    put_hex_line(octets, &mut text[start..start + 2 * octets.len() + 1]);
 }
 
 /// Lines that are to be written, one after another. All its memory is taken when it is made.

@@ -8,10 +8,8 @@ ghost use Rattle.dns_canon.specs.Generated.{generated_owner, generated_server, g
 ghost use Rattle.dns_canon.specs.Making.{HasMade};
 ghost use Rattle.dns_canon.specs.declared.words.TheConstants.{MOST_RECORDS};
 
-use crate::message::forms_in;
-use crate::status::Status;
 use dns_basic::{Mx, Ns};
-use dns_message::{HeaderFlags, MAX_MESSAGE_SIZE, MessageBuilder};
+use dns_message::{CanonError, HeaderFlags, MAX_MESSAGE_SIZE, MessageBuilder, read_forms};
 use dns_name::NameBuf;
 use dns_num::U16;
 use dns_plain::{A, Txt};
@@ -26,10 +24,10 @@ const TEXT_ROOM: usize = 16;
 
 /// The line on the message of that many generated records, at most 1,000: how many records its canonical list has, how many octets
 /// these have, and how many the message has, whose names are shared.
-pub(crate) fn make_text(alloc: Global, count: u16) -> Result<Vec<u8>, Status>
+pub(crate) fn make_text(alloc: Global, count: u16) -> Result<Vec<u8>, CanonError>
     requires { count ≤ MOST_RECORDS }
     ensures ok { IfOk result (λ printed. printed.items ≡ made_line count) }
-    ensures err { IfErr result (λ status. status ≡ Status.Memory) }
+    ensures err { IfErr result (λ error. error ≡ CanonError.Memory) }
 {
     let mut buffer = vec![in alloc; 0; MAX_MESSAGE_SIZE]?;
     let mut compressor = NameCompressor::new();
@@ -40,14 +38,14 @@ pub(crate) fn make_text(alloc: Global, count: u16) -> Result<Vec<u8>, Status>
 }
 
 /// The line on a message in which that many generated records were built.
-fn line_on(alloc: Global, builder: &MessageBuilder<'_>, count: u16) -> Result<Vec<u8>, Status>
+fn line_on(alloc: Global, builder: &MessageBuilder<'_>, count: u16) -> Result<Vec<u8>, CanonError>
     requires few { count ≤ MOST_RECORDS }
     requires made { HasMade count builder.now }
     ensures ok { IfOk result (λ printed. printed.items ≡ made_line count) }
-    ensures err { IfErr result (λ status. status ≡ Status.Memory) }
+    ensures err { IfErr result (λ error. error ≡ CanonError.Memory) }
 {
     let message = builder.message().as_bytes();
-    let forms = forms_in(alloc, message, 0)?;
+    let forms = read_forms(alloc, message)?;
     let order = forms.collapsed(alloc)?;
     let line = format!(in alloc;
         "records {} octets {} message {}\n",

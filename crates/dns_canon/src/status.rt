@@ -1,8 +1,10 @@
 //! How a run ends.
 
-use dns_message::CanonError;
-use dns_text::{HexError, TextError};
-use std::alloc::AllocError;
+use dns_command::{Outcome, Refusal};
+use std::convert::Infallible;
+
+/// Why a text is refused. The messages of a text have the numbers 0 and 1, and no valid message is refused.
+pub type CanonRefusal = Refusal<u8, Infallible>;
 
 /// How a run ends.
 #[derive(Clone, Copy, Debug, PartialEq, Eq)]
@@ -34,64 +36,53 @@ pub enum Status {
     Memory,
 }
 
-impl From<TextError> for Status {
+/// The status of a text that is refused.
+impl From<CanonRefusal> for Status {
     ghost use Rattle.std.specs.Prelude.{◌≡◌};
-    ghost use Rattle.dns_canon.specs.Statuses.{text_status};
+    ghost use Rattle.dns_canon.specs.Statuses.{refusal_status};
 
-    ghost from_gives = { λ e s. s ≡ text_status e };
+    ghost from_gives = { λ refusal status. status ≡ refusal_status refusal };
 
-    fn from(error: TextError) -> Status {
-        match error {
-            TextError::TooLong => Status::TooLong,
-            TextError::ReadFault => Status::ReadFault,
-            TextError::Memory => Status::Memory,
+    fn from(refusal: CanonRefusal) -> Status {
+        match refusal {
+            Refusal::BadHex => Status::BadHex,
+            Refusal::Short { message } => Status::Short { message },
+            Refusal::Item {
+                message,
+                section,
+                index,
+            } => Status::Item {
+                message,
+                section,
+                index,
+            },
+            Refusal::Own(reason) => match reason {},
         }
     }
 }
 
-impl From<HexError> for Status {
+impl From<Outcome<CanonRefusal>> for Status {
     ghost use Rattle.std.specs.Prelude.{◌≡◌};
-    ghost use Rattle.dns_canon.specs.Statuses.{hex_status};
+    ghost use Rattle.dns_canon.specs.Statuses.{status_of};
 
-    ghost from_gives = { λ e s. s ≡ hex_status e };
+    ghost from_gives = { λ outcome status. status ≡ status_of outcome };
 
-    fn from(error: HexError) -> Status {
-        match error {
-            HexError::BadHex => Status::BadHex,
-            HexError::Memory => Status::Memory,
+    fn from(outcome: Outcome<CanonRefusal>) -> Status {
+        match outcome {
+            Outcome::Done => Status::Done,
+            Outcome::Usage => Status::Usage,
+            Outcome::TooLong => Status::TooLong,
+            Outcome::Refused(refusal) => Status::from(refusal),
+            Outcome::ReadFault => Status::ReadFault,
+            Outcome::WriteFault => Status::WriteFault,
+            Outcome::Memory => Status::Memory,
         }
-    }
-}
-
-impl From<AllocError> for Status {
-    ghost use Rattle.std.specs.Prelude.{◌≡◌};
-    ghost use Rattle.dns_canon.specs.declared.status.Status.TheVariants.{Memory};
-
-    ghost from_gives = { λ _ s. s ≡ Memory };
-
-    fn from(_error: AllocError) -> Status {
-        Status::Memory
     }
 }
 
 impl Status {
     ghost use Rattle.std.specs.Prelude.{◌≡◌};
-    ghost use Rattle.dns_canon.specs.Statuses.{canon_status, code_of};
-
-    /// The status of a refusal, for the message of this number.
-    pub(crate) fn of_message(message: u8, error: CanonError) -> Status
-        ensures { result ≡ canon_status message error }
-    {
-        match error {
-            CanonError::Short => Status::Short { message },
-            CanonError::Item { section, index } => Status::Item {
-                message,
-                section,
-                index,
-            },
-            CanonError::Memory => Status::Memory,
-        }
-    }
+    ghost use Rattle.dns_canon.specs.Statuses.{code_of};
 
     /// The code that a process ends with, from 0 to 8.
     pub fn code(&self) -> u8

@@ -1,10 +1,9 @@
 //! The words of the command line.
 
-ghost use Rattle.std.specs.Prelude.{◌≡◌, List, map, string_bytes};
-ghost use Rattle.dns_canon.specs.Words.{command_named, command_of, numbered_command};
-ghost use Rattle.dns_wire.specs.Octets.{Octets};
+ghost use Rattle.std.specs.Prelude.{◌≡◌, IfSome};
+ghost use Rattle.dns_canon.specs.Words.{IsSmall, command_named, command_of, numbered_command};
 
-use dns_text::number_within;
+use dns_text::{Args, number_within};
 use std::marker::Model;
 
 /// The most octets of the text of two messages.
@@ -27,7 +26,8 @@ pub enum Command {
 impl Command {
     /// The command of one word; `None` if the word is no command.
     fn named(word: &str) -> Option<Command>
-        ensures { result ≡ command_named word.now }
+        ensures command { result ≡ command_named word.now }
+        ensures small { IfSome result IsSmall }
     {
         match word {
             "canon" => Some(Command::Canon),
@@ -38,7 +38,8 @@ impl Command {
 
     /// The command of a word and the word after it; `None` if they are no command.
     fn numbered(word: &str, number: &str) -> Option<Command>
-        ensures { result ≡ numbered_command word.now number.now }
+        ensures command { result ≡ numbered_command word.now number.now }
+        ensures small { IfSome result IsSmall }
     {
         if word != "make" {
             return None;
@@ -48,34 +49,31 @@ impl Command {
     }
 }
 
-/// The words of the command line, without the program's own name.
+/// A command of this program: `make` is of at most 1,000 records.
 #[derive(Drop)]
-pub struct Words {
-    words: Vec<String>,
+pub(crate) struct CanonCommand {
+    pub(crate) command: Command,
 }
 
-impl Model for Words {
-    ghost Value = { List Octets };
+impl Model for CanonCommand {
+    ghost use Rattle.dns_canon.specs.declared.words.Command.{Command};
+    ghost use Rattle.dns_canon.specs.Words.{IsSmall};
 
-    ghost view = { λ w. map string_bytes w.words.items };
+    ghost Value = { Command };
+
+    ghost view = { λ c. c.command };
+
+    ghost invariant = { λ c. IsSmall c.command };
 }
 
-impl Words {
-    /// These words.
-    pub fn new(words: Vec<String>) -> Self
-        ensures { result ≡ map string_bytes words.items }
-    {
-        Words { words }
-    }
-
-    /// The command that the words are; `None` if they are no command.
-    pub fn command(&self) -> Option<Command>
-        ensures { result ≡ command_of self.now }
-    {
-        match self.words.as_slice() {
-            [word] => Command::named(word.as_str()),
-            [word, number] => Command::numbered(word.as_str(), number.as_str()),
-            _ => None,
-        }
-    }
+/// The command that the words are; `None` if they are no command.
+pub(crate) fn command_of(words: &Args) -> Option<CanonCommand>
+    ensures { result ≡ command_of words.now }
+{
+    let command = match (words.get(0), words.get(1), words.get(2)) {
+        (Some(word), None, None) => Command::named(word)?,
+        (Some(word), Some(number), None) => Command::numbered(word, number)?,
+        _ => return None,
+    };
+    Some(CanonCommand { command })
 }

@@ -1,7 +1,7 @@
 //! A run over devices in memory, from plain values to plain values.
 
 use dns_canon::{Status, Words, run};
-use dns_wire::{TextSink, TextSource};
+use dns_text::{TextSink, TextSource};
 use std::alloc::{AllocError, Global};
 
 /// A call that no device reaches.

@@ -3,7 +3,7 @@
 use crate::answers::words_of;
 use crate::replies::{ORDINARY_REPLY, ORDINARY_REPLY_LINES};
 use dns_canon::{Status, run};
-use dns_wire::{NullSink, ReadSource, Sink, WriteSink};
+use dns_text::{NullSink, ReadSource, Sink, WriteSink};
 use std::fs::File;
 use std::io::Read;
 use std::{fs, io};

@@ -1,7 +1,8 @@
 //! Codes and printed texts of statuses, commands and limits.
 
 use crate::answers::words_of;
-use dns_canon::{Command, LIMIT_OF_TWO, MESSAGE_TEXT_LIMIT, MOST_RECORDS, READ_CHUNK, Status};
+use dns_canon::{LIMIT_OF_TWO, MESSAGE_TEXT_LIMIT, MOST_RECORDS, READ_CHUNK, Status, run};
+use dns_text::{NullSink, PlainSource};
 use std::alloc::Global;
 
 /// Statuses, and their codes.
@@ -31,26 +32,29 @@ fn ends_with_a_code(rt: HostRuntime) {
     }
 }
 
-/// The command of a line of words.
-fn command_of(alloc: Global, line: &str) -> Option<Command> {
-    match words_of(alloc, line) {
-        Ok(words) => words.command(),
-        Err(_) => None,
-    }
+/// How a line of words ends over an empty text.
+fn ending_of(alloc: Global, line: &str) -> Option<Status> {
+    let Ok(words) = words_of(alloc, line) else {
+        return None;
+    };
+    let mut source = PlainSource::new(b"");
+    Some(run(alloc, &words, &mut source, &mut NullSink, &mut NullSink))
 }
 
-/// Lines of words, and the commands that they name.
-const COMMANDS: &[(&str, Option<Command>)] = &[
-    ("canon", Some(Command::Canon)),
-    ("same", Some(Command::Same)),
-    ("make 1000", Some(Command::Make { count: 1000 })),
-    ("canonical", None),
+/// Lines of words, and how they end over an empty text, whose message has no octets.
+const ENDINGS: &[(&str, Status)] = &[
+    ("canon", Status::Short { message: 0 }),
+    ("same", Status::Short { message: 0 }),
+    ("make 1000", Status::Done),
+    ("make 1001", Status::Usage),
+    ("make 01", Status::Usage),
+    ("canonical", Status::Usage),
 ];
 
 #[test]
 fn words_name_commands(rt: HostRuntime) {
-    for (line, command) in COMMANDS {
-        assert!(rt; command_of(rt.alloc(), line) == *command, "{line}");
+    for (line, status) in ENDINGS {
+        assert!(rt; ending_of(rt.alloc(), line) == Some(*status), "{line}");
     }
 }
 

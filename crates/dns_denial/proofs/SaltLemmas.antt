@@ -4,7 +4,7 @@ use Rattle.std.specs.Prelude.{◌↔◌, ◌&&◌, codes}
 use Rattle.std.specs.Str.{bytes_eq}
 use Rattle.std.specs.Cmp.Lexicographic.{bytes_decides}
 use Rattle.std.proofs.lemmas.Bool.{and_parts, le-leb, leb-true}
-use Rattle.dns_wire.specs.Hexadecimal.{digit_value, pair_before, spelled}
+use Rattle.dns_text.specs.Hexadecimal.{digit_value, pair_before, spelled}
 use Rattle.dns_denial.specs.Words.{IsSalt, salt_named}
 
 -- a text has two digits for each octet that it spells

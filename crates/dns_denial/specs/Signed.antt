@@ -3,13 +3,16 @@ use Rattle.std.specs.Prelude.{ℕ, ◌+◌, ◌*◌, ◌==◌, ◌&&◌, Bool, L
 use Rattle.std.specs.Int.{w32, from_be_bytes}
 use Rattle.std.specs.Ordering.{is_eq}
 use Rattle.dns_wire.specs.Octets.{Octets, Labels}
-use Rattle.dns_wire.specs.Hexadecimal.{line}
+use Rattle.dns_text.specs.Hexadecimal.{line}
 use Rattle.dns_wire.specs.Names.{plain_name, wire}
 use Rattle.dns_name.specs.Order.{key_cmp}
 use Rattle.dns_message.specs.Order.{SortKey, octets_of_key}
 use Rattle.dns_denial.specs.Coverage.{name_before}
-use Rattle.dns_denial.specs.declared.refusal.Refusal.{Refusal}
-use Rattle.dns_denial.specs.declared.refusal.Refusal.TheVariants.{NoSignature, TooManyLabels}
+use Rattle.dns_command.specs.declared.refusal.OneMessage.{OneMessage}
+use Rattle.dns_command.specs.declared.refusal.Refusal.{Refusal}
+use Rattle.dns_command.specs.declared.refusal.Refusal.TheVariants.{Own}
+use Rattle.dns_denial.specs.declared.refusal.DenialReason.{DenialReason}
+use Rattle.dns_denial.specs.declared.refusal.DenialReason.TheVariants.{NoSignature, TooManyLabels}
 
 -- ---- signatures
 
@@ -93,11 +96,15 @@ signature_line records (Some g) = line (signed_octets records g)
 abbrev pub signed_text : ℕ → List SortKey → Octets
 signed_text number records = signature_line records (signature_at number records)
 
+-- why a text is refused
+abbrev pub DenialRefusal : Type 0
+DenialRefusal = Refusal OneMessage DenialReason
+
 -- why nothing is printed for a signature: its labels field is more than the number of its owner's labels
-abbrev pub signature_refusal : Option SortKey → Option Refusal
-signature_refusal None = Some NoSignature
-signature_refusal (Some g) = if nat_lt (length g.owner) (labels_field g.octets) then Some TooManyLabels else None
+abbrev pub signature_refusal : Option SortKey → Option DenialRefusal
+signature_refusal None = Some (Own NoSignature)
+signature_refusal (Some g) = if nat_lt (length g.owner) (labels_field g.octets) then Some (Own TooManyLabels) else None
 
 -- why nothing is printed for the signature of a number
-abbrev pub signed_refusal : ℕ → List SortKey → Option Refusal
+abbrev pub signed_refusal : ℕ → List SortKey → Option DenialRefusal
 signed_refusal number records = signature_refusal (signature_at number records)

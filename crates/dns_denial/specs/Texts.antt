@@ -1,25 +1,23 @@
 -- The message in a text, the outcome that a text calls for, and what is printed for it.
 use Rattle.std.specs.Prelude.{◌≡◌, ◌≤◌, ◌<◌, ℕ, Bool, true, false, List, [], codes, filter, length, map, Option, Some, None, ⊤}
 use Rattle.dns_wire.specs.Octets.{Octets}
-use Rattle.dns_wire.specs.Hexadecimal.{spelled, trim}
-use Rattle.dns_text.specs.Notes.{note_line, notice_line}
-use Rattle.dns_text.specs.declared.notice.Notice.TheVariants as notice
-use Rattle.dns_text.specs.Endings.{Rules}
-use Rattle.dns_text.specs.Outcomes.{expected_outcome, text_rules}
-use Rattle.dns_text.specs.declared.outcome.Outcome.{Outcome}
-use Rattle.dns_text.specs.declared.outcome.Outcome.TheVariants as outcome
+use Rattle.dns_text.specs.declared.transfer.TheConstants.{MESSAGE_TEXT_LIMIT}
+use Rattle.dns_command.specs.Endings.{Rules}
+use Rattle.dns_command.specs.Outcomes.{expected_outcome, text_rules}
+use Rattle.dns_command.specs.Refusals.{message_refusal as text_refusal, refusal_note}
+use Rattle.dns_command.specs.Texts.{HasRecords}
+use Rattle.dns_command.specs.declared.outcome.Outcome.{Outcome}
+use Rattle.dns_command.specs.declared.outcome.Outcome.TheVariants as outcome
+use Rattle.dns_command.specs.declared.refusal.Refusal.TheVariants.{BadHex, Short, Item, Own}
 use Rattle.dns_message.specs.Canonical.{is_not_opt}
-use Rattle.dns_message.specs.Messages.{Reading, RecordValue, message_reading, records_among}
-use Rattle.dns_message.specs.Messages.Reading.{Short as TooShort, Stopped, Whole}
-use Rattle.dns_message.specs.Texts.{HasRecords}
+use Rattle.dns_message.specs.Messages.{RecordValue}
 use Rattle.dns_message.specs.Order.{SortKey, collapsed, sort_key}
 use Rattle.dns_denial.specs.Coverage.{coverage_text}
 use Rattle.dns_denial.specs.Hashes.{hash_line}
 use Rattle.dns_denial.specs.KeyTags.{key_tags_text}
-use Rattle.dns_denial.specs.Signed.{labels_field, signatures, signature_at, signed_refusal, signed_text}
-use Rattle.dns_denial.specs.declared.refusal.Refusal.{Refusal}
-use Rattle.dns_denial.specs.declared.refusal.Refusal.TheVariants.{BadHex, Short, Item, TooManyLabels, NoSignature}
-use Rattle.dns_text.specs.declared.transfer.TheConstants.{MESSAGE_TEXT_LIMIT}
+use Rattle.dns_denial.specs.Signed.{DenialRefusal, labels_field, signatures, signature_at, signed_refusal, signed_text}
+use Rattle.dns_denial.specs.declared.refusal.DenialReason.{DenialReason}
+use Rattle.dns_denial.specs.declared.refusal.DenialReason.TheVariants.{TooManyLabels, NoSignature}
 use Rattle.dns_denial.specs.declared.status.DenialStatus.{DenialStatus}
 use Rattle.dns_denial.specs.declared.status.DenialStatus.TheVariants as status
 use Rattle.dns_denial.specs.declared.words.DenialCommand.{DenialCommand}
@@ -34,20 +32,9 @@ members rs = map sort_key (collapsed (filter is_not_opt rs))
 
 -- ---- the expected outcome
 
--- why a message is refused that is read so; one that is read whole by its members
-abbrev pub reading_refusal : (List SortKey → Option Refusal) → Reading → Option Refusal
-reading_refusal refusal TooShort = Some Short
-reading_refusal refusal (Stopped items section index place) = Some (Item section index)
-reading_refusal refusal (Whole items end) = refusal (members (records_among items))
-
--- why a text is refused that does or does not spell octets
-abbrev pub spelling_refusal : (List SortKey → Option Refusal) → Option Octets → Option Refusal
-spelling_refusal refusal None = Some BadHex
-spelling_refusal refusal (Some m) = reading_refusal refusal (message_reading m)
-
--- why a text is refused whose message is read
-abbrev pub message_refusal : (List SortKey → Option Refusal) → Octets → Option Refusal
-message_refusal refusal text = spelling_refusal refusal (spelled (trim text))
+-- why a text is refused whose message is read; a valid one by its members
+abbrev pub message_refusal : (List SortKey → Option DenialRefusal) → Octets → Option DenialRefusal
+message_refusal refusal text = text_refusal (record {}) (λ rs. refusal (members rs)) text
 
 -- which commands read a message
 abbrev pub denial_reads : DenialCommand → Bool
@@ -57,14 +44,14 @@ denial_reads (Signed number) = true
 denial_reads KeyTags = true
 
 -- why a message is refused whose members are these
-abbrev pub members_refusal : DenialCommand → List SortKey → Option Refusal
+abbrev pub members_refusal : DenialCommand → List SortKey → Option DenialRefusal
 members_refusal (Hash name salt iterations) records = None
 members_refusal (Covers name) records = None
 members_refusal (Signed number) records = signed_refusal number records
 members_refusal KeyTags records = None
 
 -- why a text is refused; `None` if a text is printed for it
-abbrev pub denial_refusal : DenialCommand → Octets → Option Refusal
+abbrev pub denial_refusal : DenialCommand → Octets → Option DenialRefusal
 denial_refusal (Hash name salt iterations) text = None
 denial_refusal (Covers name) text = message_refusal (members_refusal (Covers name)) text
 denial_refusal (Signed number) text = message_refusal (members_refusal (Signed number)) text
@@ -74,7 +61,7 @@ abbrev pub denial_limit : DenialCommand → ℕ
 denial_limit command = MESSAGE_TEXT_LIMIT
 
 -- the outcome that a text calls for; `denial_statuses_in_words` says it in other words
-abbrev pub denial_outcome : Option DenialCommand → Octets → Outcome Refusal
+abbrev pub denial_outcome : Option DenialCommand → Octets → Outcome DenialRefusal
 denial_outcome = expected_outcome denial_limit denial_refusal
 
 -- the members have no signature of the number that is asked for
@@ -121,31 +108,32 @@ PrintsDenial KeyTags text printed = PrintsMembers key_tags_text text printed
 
 -- ---- lines and statuses
 
+-- what is said of a reason
+abbrev pub reason_words : DenialReason → Octets
+reason_words TooManyLabels = codes "too many labels"
+reason_words NoSignature = codes "no signature"
+
 -- the line that is noted for a refusal; the message has the number 0
-abbrev pub denial_note : Refusal → Octets
-denial_note BadHex = notice_line notice.BadHex
-denial_note Short = notice_line (notice.Short 0)
-denial_note (Item section index) = notice_line (notice.Item 0 section index)
-denial_note TooManyLabels = note_line (codes "too many labels") []
-denial_note NoSignature = note_line (codes "no signature") []
+abbrev pub denial_note : DenialRefusal → Octets
+denial_note = refusal_note (λ message. 0) reason_words
 
 -- the rules of the commands
-abbrev pub denial_rules : Rules DenialCommand (Outcome Refusal)
+abbrev pub denial_rules : Rules DenialCommand (Outcome DenialRefusal)
 denial_rules = text_rules denial_reads denial_limit denial_refusal PrintsDenial
 
 -- a status as an outcome
-abbrev pub outcome_of : DenialStatus → Outcome Refusal
+abbrev pub outcome_of : DenialStatus → Outcome DenialRefusal
 outcome_of status.Done = outcome.Done
-outcome_of status.Short = outcome.Refused Short
-outcome_of (status.Item section index) = outcome.Refused (Item section index)
+outcome_of status.Short = outcome.Refused (Short (record {}))
+outcome_of (status.Item section index) = outcome.Refused (Item (record {}) section index)
 outcome_of status.BadHex = outcome.Refused BadHex
 outcome_of status.TooLong = outcome.TooLong
 outcome_of status.Usage = outcome.Usage
 outcome_of status.ReadFault = outcome.ReadFault
 outcome_of status.WriteFault = outcome.WriteFault
 outcome_of status.Memory = outcome.Memory
-outcome_of status.TooManyLabels = outcome.Refused TooManyLabels
-outcome_of status.NoSignature = outcome.Refused NoSignature
+outcome_of status.TooManyLabels = outcome.Refused (Own TooManyLabels)
+outcome_of status.NoSignature = outcome.Refused (Own NoSignature)
 
 abbrev pub code_of : DenialStatus → ℕ
 code_of status.Done = 0

@@ -3,7 +3,7 @@ use Rattle.std.specs.Prelude.{◌≡◌, ◌≤◌, List, [], ◌∷◌, ◌&&�
 use Rattle.std.specs.Option.{option_map}
 use Rattle.std.specs.Result.{result_ok}
 use Rattle.dns_wire.specs.Octets.{Octets}
-use Rattle.dns_wire.specs.Hexadecimal.{spelled}
+use Rattle.dns_text.specs.Hexadecimal.{spelled}
 use Rattle.dns_wire.specs.Steps.{◌>>=◌}
 use Rattle.dns_text.specs.Words.{number_within}
 use Rattle.dns_name.specs.Text.{parsed_name}

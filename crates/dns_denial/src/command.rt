@@ -1,27 +1,22 @@
 //! The commands `hash`, `covers`, `signed` and `keytags`.
 
-ghost use Rattle.std.specs.Prelude.{◌≡◌, ◌≤◌, List, Option, Some, None, IfOk, IfErr, length, true};
-ghost use Rattle.dns_wire.specs.Hexadecimal.{spelled, trim};
+ghost use Rattle.std.specs.Prelude.{◌≡◌, ◌≤◌, None, IfOk, IfErr, length};
 ghost use Rattle.dns_wire.specs.Names.{name_labels};
-ghost use Rattle.dns_text.specs.Endings.{Ran};
-ghost use Rattle.dns_text.specs.Outcomes.{RefusesFor, note_of};
-ghost use Rattle.dns_message.specs.Order.{SortKey};
+ghost use Rattle.dns_command.specs.Endings.{Ran};
+ghost use Rattle.dns_command.specs.Outcomes.{RefusesFor, note_of};
 ghost use Rattle.dns_denial.specs.Hashes.{hash_line};
-ghost use Rattle.dns_denial.specs.Texts.{PrintsDenial, denial_limit, denial_note, denial_reads, denial_refusal, denial_rules, outcome_of, spelling_refusal};
+ghost use Rattle.dns_denial.specs.Texts.{PrintsDenial, denial_limit, denial_note, denial_reads, denial_refusal, denial_rules, outcome_of};
 ghost use Rattle.dns_denial.specs.Words.{command_of};
 
 use crate::base32::base32hex;
-use crate::message::text_in;
+use crate::message::print_message;
 use crate::nsec3::nsec3_hash;
-use crate::refusal::Refusal;
+use crate::refusal::DenialRefusal;
 use crate::status::DenialStatus;
 use crate::words::{DenialCommand, command_of};
+use dns_command::{Notice, PrintError, PutError, TextCommand, put_printed, run_command};
 use dns_name::Name;
-use dns_text::{
-    Args, HexError, MESSAGE_TEXT_LIMIT, Notice, PrintError, TextCommand, octets_of, put_line,
-    put_notice, run_command,
-};
-use dns_wire::{Failed, Sink, Source};
+use dns_text::{Args, MESSAGE_TEXT_LIMIT, Sink, Source};
 use std::alloc::{AllocError, Global};
 
 /// The line of the hash of a name.
@@ -40,35 +35,30 @@ fn hash_line(
     Ok(line)
 }
 
-/// The octets of the message that a text spells.
-fn message_of(alloc: Global, text: &[u8]) -> Result<Vec<u8>, PrintError<Refusal>>
-    ensures spelled { IfOk result (λ message. spelled (trim text.now) ≡ Some message.items) }
-    ensures refused { (refusal : List SortKey → Option Refusal) → IfErr result (RefusesFor (spelling_refusal refusal (spelled (trim text.now)))) }
-{
-    match octets_of(alloc, text) {
-        Ok(message) => Ok(message),
-        Err(HexError::BadHex) => Err(PrintError::Refused(Refusal::BadHex)),
-        Err(HexError::Memory) => Err(PrintError::Memory),
+impl DenialCommand {
+    /// The text that is printed for a text.
+    fn print(&self, alloc: Global, text: &[u8]) -> Result<Vec<u8>, PrintError<DenialRefusal>>
+        ensures printed { IfOk result (λ printed. PrintsDenial self.now text.now printed.items) }
+        ensures accepted { IfOk result (λ _. denial_refusal self.now text.now ≡ None) }
+        ensures refused { IfErr result (RefusesFor (denial_refusal self.now text.now)) }
+    {
+        match self {
+            DenialCommand::Hash {
+                name,
+                salt,
+                iterations,
+            } => {
+                let line = hash_line(alloc, name.as_name(), salt.as_slice(), *iterations)?;
+                Ok(line)
+            }
+            DenialCommand::Covers { .. } | DenialCommand::Signed { .. } | DenialCommand::KeyTags =>
+                print_message(alloc, self, text),
+        }
     }
 }
 
-/// What a command prints for the message that a text spells.
-fn print_message(
-    alloc: Global,
-    command: &DenialCommand,
-    text: &[u8],
-) -> Result<Vec<u8>, PrintError<Refusal>>
-    requires { denial_reads command.now ≡ true }
-    ensures printed { IfOk result (λ printed. PrintsDenial command.now text.now printed.items) }
-    ensures accepted { IfOk result (λ _. denial_refusal command.now text.now ≡ None) }
-    ensures refused { IfErr result (RefusesFor (denial_refusal command.now text.now)) }
-{
-    let message = message_of(alloc, text)?;
-    text_in(alloc, command, &message)
-}
-
 impl TextCommand for DenialCommand {
-    type Refusal = Refusal;
+    type Refusal = DenialRefusal;
 
     ghost reads = { denial_reads };
 
@@ -92,36 +82,17 @@ impl TextCommand for DenialCommand {
         MESSAGE_TEXT_LIMIT
     }
 
-    fn print(&self, alloc: Global, text: &[u8]) -> Result<Vec<u8>, PrintError<Refusal>> {
-        match self {
-            DenialCommand::Hash {
-                name,
-                salt,
-                iterations,
-            } => {
-                let line = hash_line(alloc, name.as_name(), salt.as_slice(), *iterations)?;
-                Ok(line)
-            }
-            DenialCommand::Covers { .. } | DenialCommand::Signed { .. } | DenialCommand::KeyTags =>
-                print_message(alloc, self, text),
-        }
+    fn put<K: Sink>(
+        &self,
+        alloc: Global,
+        text: &[u8],
+        sink: &mut K,
+    ) -> Result<(), PutError<DenialRefusal>> {
+        put_printed(self.print(alloc, text), sink)
     }
 
-    fn put_refusal<N: Sink>(refused: Refusal, notes: &mut N) -> Result<(), Failed> {
-        match refused {
-            Refusal::BadHex => put_notice(Notice::BadHex, notes),
-            Refusal::Short => put_notice(Notice::Short { message: 0 }, notes),
-            Refusal::Item { section, index } => put_notice(
-                Notice::Item {
-                    message: 0,
-                    section,
-                    index,
-                },
-                notes,
-            ),
-            Refusal::TooManyLabels => put_line(notes, b"too many labels", &[]),
-            Refusal::NoSignature => put_line(notes, b"no signature", &[]),
-        }
+    fn notice(refused: DenialRefusal) -> Notice {
+        refused.notice()
     }
 }
 
@@ -141,5 +112,5 @@ pub fn run_denial<S: Source, K: Sink, N: Sink>(
     ensures { Ran S.Source K.Sink N.Sink denial_rules (note_of denial_note) (command_of args.now) source.old source.new sink.old sink.new notes.old notes.new (outcome_of result) }
 {
     let outcome = run_command(alloc, &command_of(args), source, sink, notes);
-    DenialStatus::of_outcome(outcome)
+    DenialStatus::from(outcome)
 }

@@ -1,7 +1,7 @@
 //! What follows from the definitions.
 
 ghost use Rattle.std.specs.Prelude.{◌≡◌, ◌≢◌, ◌≤◌, ◌<◌, ◌↔◌, ℕ, true, false, List, [], ◌∷◌, Some, None, Ok, codes, decimal, length, IsTrue};
-ghost use Rattle.dns_wire.specs.Hexadecimal.{Spells, SpellsNothing};
+ghost use Rattle.dns_text.specs.Hexadecimal.{Spells, SpellsNothing};
 ghost use Rattle.dns_wire.specs.Octets.{Octets, Labels};
 ghost use Rattle.dns_wire.specs.Reading.{AreOctets};
 ghost use Rattle.dns_message.specs.Messages.{BadAt, RecordValue};
@@ -11,13 +11,14 @@ ghost use Rattle.std.specs.declared.cmp.Ordering.{Ordering};
 ghost use Rattle.std.specs.declared.cmp.Ordering.TheVariants.{Equal};
 ghost use Rattle.dns_denial.specs.Coverage.{LiesBetween, coverage_by};
 ghost use Rattle.dns_denial.specs.Base32.{base32hex_of};
-ghost use Rattle.dns_message.specs.Texts.{HasRecords};
+ghost use Rattle.dns_command.specs.Texts.{HasRecords};
 ghost use Rattle.dns_denial.specs.Texts.{HasTooManyLabels, LacksSignature, PrintsDenial, Suits, denial_outcome, denial_reads, members, outcome_of};
 ghost use Rattle.dns_denial.specs.Unbase32.{hash_of_text};
 ghost use Rattle.dns_denial.specs.Words.{IsSalt, command_of};
 ghost use Rattle.dns_text.specs.declared.transfer.TheConstants.{MESSAGE_TEXT_LIMIT};
 
 use crate::coverage::Coverage;
+use crate::refusal::DenialReason;
 use crate::status::DenialStatus;
 use crate::words::DenialCommand;
 
@@ -77,7 +78,8 @@ pub fn denial_statuses_in_words()
     ensures usage { (t : Octets) → denial_outcome None t ≡ outcome_of DenialStatus.Usage }
 {}
 
-/// Statuses are equal exactly if they are the same.
+/// Statuses are equal exactly if they are the same, and so are reasons.
 pub fn equal_statuses()
-    ensures { (a b : _) → IsTrue (⟦<DenialStatus as PartialEq>⟧.eq a b) ↔ (a ≡ b) }
+    ensures status { (a b : _) → IsTrue (⟦<DenialStatus as PartialEq>⟧.eq a b) ↔ (a ≡ b) }
+    ensures reason { (a b : _) → IsTrue (⟦<DenialReason as PartialEq>⟧.eq a b) ↔ (a ≡ b) }
 {}

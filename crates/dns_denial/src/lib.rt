@@ -24,6 +24,7 @@ pub use laws::{
     matches_and_covers_exclude_each_other, words_of_denial,
 };
 pub use nsec3::nsec3_hash;
+pub use refusal::{DenialReason, DenialRefusal};
 pub use signed::{Signature, signed_octets};
 pub use status::DenialStatus;
 pub use tag::key_tag;

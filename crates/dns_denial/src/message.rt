@@ -1,26 +1,24 @@
 //! What is printed for the records of a message.
 
-ghost use Rattle.std.specs.Prelude.{◌≡◌, ◌<◌, ◌^◌, ◌++◌, Option, Some, None, List, IfOk, IfErr, OnOk, length};
-ghost use Rattle.dns_wire.specs.Hexadecimal.{line};
+ghost use Rattle.std.specs.Prelude.{◌≡◌, ◌<◌, ◌^◌, ◌++◌, Some, None, true, IfOk, IfErr, OnOk, length};
+ghost use Rattle.dns_text.specs.Hexadecimal.{line};
 ghost use Rattle.dns_wire.specs.Names.{name_labels};
-ghost use Rattle.dns_text.specs.Outcomes.{RefusesFor};
-ghost use Rattle.dns_message.specs.FormsRead.{forms_of};
-ghost use Rattle.dns_message.specs.Messages.{RecordValue, Valid, message_reading};
-ghost use Rattle.dns_message.specs.Order.{SortKey};
+ghost use Rattle.dns_command.specs.Outcomes.{RefusesFor};
 ghost use Rattle.dns_denial.specs.Coverage.{coverage_line, coverage_text, coverage_word};
 ghost use Rattle.dns_denial.specs.KeyTags.{key_line, key_tags_text, tag_line};
 ghost use Rattle.dns_denial.specs.Signed.{signature_refusal, signed_octets, signed_refusal, signed_text};
-ghost use Rattle.dns_denial.specs.Texts.{members, members_refusal, members_text, reading_refusal};
+ghost use Rattle.dns_denial.specs.Texts.{PrintsDenial, denial_reads, denial_refusal, members_refusal, members_text};
 
 use crate::coverage::{Coverage, nsec_coverage, nsec3_coverage};
-use crate::refusal::Refusal;
+use crate::refusal::{DenialReason, DenialRefusal};
 use crate::signed::{Signature, signature_at, signed_octets};
 use crate::tag::{is_rsa_md5, key_tag};
 use crate::words::DenialCommand;
-use dns_message::{CanonError, CanonicalForm, CanonicalForms, read_forms};
+use dns_command::{OneMessage, PrintError, Refusal, TextReader};
+use dns_message::CanonicalForm;
 use dns_name::Name;
 use dns_record::RType;
-use dns_text::{PrintError, hex_line};
+use dns_text::hex_line;
 use std::alloc::{AllocError, Global};
 
 /// The line of a key's data: its tag, or `-` for RSA/MD5.
@@ -102,33 +100,18 @@ fn coverage_text(
     Ok(text)
 }
 
-/// The canonical forms of a message's records other than OPT.
-fn forms_in(alloc: Global, message: &[u8]) -> Result<CanonicalForms, PrintError<Refusal>>
-    ensures read { IfOk result (λ forms. (rs : List RecordValue) × Valid message.now rs × (forms ≡ forms_of rs)) }
-    ensures refused { (refusal : List SortKey → Option Refusal) → IfErr result (RefusesFor (reading_refusal refusal (message_reading message.now))) }
-{
-    match read_forms(alloc, message) {
-        Ok(forms) => Ok(forms),
-        Err(CanonError::Short) => Err(PrintError::Refused(Refusal::Short)),
-        Err(CanonError::Item { section, index }) => {
-            Err(PrintError::Refused(Refusal::Item { section, index }))
-        }
-        Err(CanonError::Memory) => Err(PrintError::Memory),
-    }
-}
-
 /// The line of the octets that a signature is over.
 fn signed_line(
     alloc: Global,
     forms: &[CanonicalForm<'_>],
     signature: &Signature<'_, '_>,
-) -> Result<Vec<u8>, PrintError<Refusal>>
+) -> Result<Vec<u8>, PrintError<DenialRefusal>>
     ensures printed { IfOk result (λ text. text.items ≡ line (signed_octets forms.now signature.now)) }
     ensures accepted { IfOk result (λ _. signature_refusal (Some signature.now) ≡ None) }
     ensures refused { IfErr result (RefusesFor (signature_refusal (Some signature.now))) }
 {
     if signature.has_too_many_labels() {
-        return Err(PrintError::Refused(Refusal::TooManyLabels));
+        return Err(PrintError::Refused(Refusal::Own(DenialReason::TooManyLabels)));
     }
     let octets = signed_octets(alloc, forms, signature)?;
     let line = hex_line(alloc, &octets)?;
@@ -140,14 +123,14 @@ fn signed_text(
     alloc: Global,
     forms: &[CanonicalForm<'_>],
     number: u16,
-) -> Result<Vec<u8>, PrintError<Refusal>>
+) -> Result<Vec<u8>, PrintError<DenialRefusal>>
     ensures printed { IfOk result (λ text. text.items ≡ signed_text number forms.now) }
     ensures accepted { IfOk result (λ _. signed_refusal number forms.now ≡ None) }
     ensures refused { IfErr result (RefusesFor (signed_refusal number forms.now)) }
 {
     match signature_at(forms, number) {
         Some(signature) => signed_line(alloc, forms, &signature),
-        None => Err(PrintError::Refused(Refusal::NoSignature)),
+        None => Err(PrintError::Refused(Refusal::Own(DenialReason::NoSignature))),
     }
 }
 
@@ -156,7 +139,7 @@ fn text_of(
     alloc: Global,
     command: &DenialCommand,
     forms: &[CanonicalForm<'_>],
-) -> Result<Vec<u8>, PrintError<Refusal>>
+) -> Result<Vec<u8>, PrintError<DenialRefusal>>
     ensures printed { IfOk result (λ text. text.items ≡ members_text command.now forms.now) }
     ensures accepted { IfOk result (λ _. members_refusal command.now forms.now ≡ None) }
     ensures refused { IfErr result (RefusesFor (members_refusal command.now forms.now)) }
@@ -169,17 +152,19 @@ fn text_of(
     }
 }
 
-/// What a command prints of the records in a message, in canonical order and alike ones once.
-pub(crate) fn text_in(
+/// What a command prints of the records in the message that a text spells, in canonical order and alike ones once.
+pub(crate) fn print_message(
     alloc: Global,
     command: &DenialCommand,
-    message: &[u8],
-) -> Result<Vec<u8>, PrintError<Refusal>>
-    ensures printed { IfOk result (λ text. (rs : List RecordValue) × Valid message.now rs × (text.items ≡ members_text command.now (members rs))) }
-    ensures accepted { IfOk result (λ _. reading_refusal (members_refusal command.now) (message_reading message.now) ≡ None) }
-    ensures refused { IfErr result (RefusesFor (reading_refusal (members_refusal command.now) (message_reading message.now))) }
+    text: &[u8],
+) -> Result<Vec<u8>, PrintError<DenialRefusal>>
+    requires { denial_reads command.now ≡ true }
+    ensures printed { IfOk result (λ printed. PrintsDenial command.now text.now printed.items) }
+    ensures accepted { IfOk result (λ _. denial_refusal command.now text.now ≡ None) }
+    ensures refused { IfErr result (RefusesFor (denial_refusal command.now text.now)) }
 {
-    let forms = forms_in(alloc, message)?;
+    let mut reader = TextReader::new(alloc);
+    let forms = reader.read_forms(alloc, text, OneMessage)?;
     let order = forms.collapsed(alloc)?;
     text_of(alloc, command, order.forms())
 }

@@ -1,7 +1,7 @@
 //! Salts (RFC 5155 section 3.1.5).
 
 ghost use Rattle.std.specs.Prelude.{◌≡◌, ◌≤◌, length};
-ghost use Rattle.dns_wire.specs.Hexadecimal.{spelled};
+ghost use Rattle.dns_text.specs.Hexadecimal.{spelled};
 ghost use Rattle.dns_denial.specs.Words.{salt_named};
 
 use dns_text::put_octets;

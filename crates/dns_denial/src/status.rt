@@ -1,7 +1,7 @@
 //! How the commands end.
 
-use crate::refusal::Refusal;
-use dns_text::Outcome;
+use crate::refusal::{DenialReason, DenialRefusal};
+use dns_command::{Outcome, Refusal};
 
 /// How `hash`, `covers`, `signed` or `keytags` ends.
 #[derive(Clone, Copy, Debug, PartialEq, Eq)]
@@ -31,37 +31,47 @@ pub enum DenialStatus {
     NoSignature,
 }
 
-impl DenialStatus {
+/// The status of a text that is refused.
+impl From<DenialRefusal> for DenialStatus {
     ghost use Rattle.std.specs.Prelude.{◌≡◌};
-    ghost use Rattle.dns_denial.specs.Texts.{code_of, outcome_of};
+    ghost use Rattle.dns_command.specs.declared.outcome.Outcome.TheVariants.{Refused};
+    ghost use Rattle.dns_denial.specs.Texts.{outcome_of};
 
-    /// The status of a text that is refused.
-    fn of_refusal(refusal: Refusal) -> DenialStatus
-        ensures { outcome_of result ≡ Outcome.Refused refusal }
-    {
+    ghost from_gives = { λ refusal status. outcome_of status ≡ Refused refusal };
+
+    fn from(refusal: DenialRefusal) -> DenialStatus {
         match refusal {
             Refusal::BadHex => DenialStatus::BadHex,
-            Refusal::Short => DenialStatus::Short,
-            Refusal::Item { section, index } => DenialStatus::Item { section, index },
-            Refusal::TooManyLabels => DenialStatus::TooManyLabels,
-            Refusal::NoSignature => DenialStatus::NoSignature,
+            Refusal::Short { .. } => DenialStatus::Short,
+            Refusal::Item { section, index, .. } => DenialStatus::Item { section, index },
+            Refusal::Own(DenialReason::TooManyLabels) => DenialStatus::TooManyLabels,
+            Refusal::Own(DenialReason::NoSignature) => DenialStatus::NoSignature,
         }
     }
+}
 
-    /// The status that an outcome is.
-    pub(crate) fn of_outcome(outcome: Outcome<Refusal>) -> DenialStatus
-        ensures { outcome_of result ≡ outcome }
-    {
+impl From<Outcome<DenialRefusal>> for DenialStatus {
+    ghost use Rattle.std.specs.Prelude.{◌≡◌};
+    ghost use Rattle.dns_denial.specs.Texts.{outcome_of};
+
+    ghost from_gives = { λ outcome status. outcome_of status ≡ outcome };
+
+    fn from(outcome: Outcome<DenialRefusal>) -> DenialStatus {
         match outcome {
             Outcome::Done => DenialStatus::Done,
             Outcome::Usage => DenialStatus::Usage,
             Outcome::TooLong => DenialStatus::TooLong,
-            Outcome::Refused(refusal) => DenialStatus::of_refusal(refusal),
+            Outcome::Refused(refusal) => DenialStatus::from(refusal),
             Outcome::ReadFault => DenialStatus::ReadFault,
             Outcome::WriteFault => DenialStatus::WriteFault,
             Outcome::Memory => DenialStatus::Memory,
         }
     }
+}
+
+impl DenialStatus {
+    ghost use Rattle.std.specs.Prelude.{◌≡◌};
+    ghost use Rattle.dns_denial.specs.Texts.{code_of};
 
     /// The code that a process ends with: those of `run` for the same statuses, 12 and 13.
     pub fn code(&self) -> u8

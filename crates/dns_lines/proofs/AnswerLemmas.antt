@@ -5,23 +5,22 @@ use Rattle.std.specs.List.{concat}
 use Rattle.std.proofs.lemmas.Bool.{cases_lt, le-ltb, lt-ltb}
 use Rattle.std.proofs.lemmas.List.Folds.{concat-append}
 use Rattle.sha2.specs.Sha512.{sha384}
-use Rattle.dns_wire.specs.Hexadecimal.{line}
-use Rattle.dns_text.specs.Notes.{notice_line}
-use Rattle.dns_text.specs.declared.notice.Notice.TheVariants as notice
+use Rattle.dns_text.specs.Hexadecimal.{line}
+use Rattle.dns_command.specs.Notes.{notice_line}
+use Rattle.dns_command.specs.declared.notice.Notice.TheVariants as notice
 use Rattle.dns_message.specs.Messages.{RecordValue}
 use Rattle.dns_message.specs.Order.{canonical_list}
 use Rattle.dns_message.specs.Same.{Same}
 use Rattle.dns_record.specs.FurtherFormats.{data_by}
 use Rattle.dns_record.specs.declared.formats.Formats.TheVariants.{Listed}
-use Rattle.dns_message.specs.Texts.{HasRecordsBy}
+use Rattle.dns_command.specs.Texts.{HasRecordsBy}
 use Rattle.dns_message.proofs.CanonicalListSameness.{canonical_list_from_same, keys_from_same}
-use Rattle.dns_message.proofs.TextLemmas.{one_records, one_records_by, text_well}
+use Rattle.dns_command.proofs.TextLemmas.{one_records, one_records_by, text_well}
 use Rattle.dns_normal.specs.Normal.{normal_form}
 use Rattle.dns_denial.specs.Texts.{members}
-use Rattle.dns_normal.specs.Texts.{form_refusal, normal_note, reading_refusal, size_refusal, spelling_refusal, spelling_refusal_by}
-use Rattle.dns_normal.specs.declared.refusal.Refusal.{Refusal}
+use Rattle.dns_command.proofs.RefusalLemmas.{text_refusal, text_refusal_by}
+use Rattle.dns_normal.specs.Texts.{NormalRefusal, form_refusal, normal_note, size_refusal}
 use Rattle.dns_normal.proofs.NormalForms.{same_normal}
-use Rattle.dns_normal.proofs.NormalOutcomes.{valid_refusal}
 use Rattle.dns_lines.specs.Answers.{Answers, AreAnswers, IsAnswer, IsAnswerAs, PrintsFor, formats_for, refusal_for, refusal_line}
 use Rattle.dns_lines.specs.Lines.{HasLines, ended}
 use Rattle.dns_lines.specs.Signatures.{marked, signature_lines}
@@ -125,15 +124,15 @@ divided command t u written other first second =
 -- ---- lines with the same records
 
 -- why a text is refused whose records are these
-abbrev pub refusal_of : LineCommand → List RecordValue → Option Refusal
+abbrev pub refusal_of : LineCommand → List RecordValue → Option NormalRefusal
 refusal_of Normal rs = form_refusal rs
 refusal_of Digest rs = None
 refusal_of Signed rs = None
 
 pub records_refusal : (command : LineCommand) (t : List ℕ) (rs : List RecordValue) → HasRecordsBy (data_by (formats_for command)) t rs → refusal_for command t ≡ refusal_of command rs
-records_refusal Normal t rs (m, spells, valid) = ap (spelling_refusal form_refusal) spells ∙ valid_refusal form_refusal m rs valid
-records_refusal Digest t rs (m, spells, valid) = ap (spelling_refusal (λ rs. None)) spells ∙ valid_refusal (λ rs. None) m rs valid
-records_refusal Signed t rs (m, spells, (items, end, is, are)) = ap (spelling_refusal_by (data_by Listed) (λ rs. None)) spells ∙ ap (reading_refusal (λ rs. None)) is
+records_refusal Normal t rs has = text_refusal (record {}) form_refusal t rs has
+records_refusal Digest t rs has = text_refusal (record {}) (λ rs. None) t rs has
+records_refusal Signed t rs has = text_refusal_by (data_by Listed) (record {}) (λ rs. None) t rs has
 
 same_refusal : (command : LineCommand) (t u : List ℕ) (rs ss : List RecordValue) → HasRecordsBy (data_by (formats_for command)) t rs → HasRecordsBy (data_by (formats_for command)) u ss → Same rs ss → refusal_of command rs ≡ refusal_of command ss
 same_refusal Normal t u rs ss first second same = ap (λ (m : List ℕ). size_refusal m) (same_normal rs ss (text_well t rs first) (text_well u ss second) same)

@@ -5,7 +5,7 @@ use Rattle.std.specs.Io.KnownBytes.{Appends, Consumes}
 use Rattle.std.proofs.KnownBytes.{Appends-nil, Appends-trans, Consumes-nil, Consumes-trans}
 use Rattle.std.proofs.lemmas.List.Concat.{flat_map-append}
 use Rattle.std.proofs.lemmas.List.Folds.{concat-append}
-use Rattle.dns_wire.specs.Outside.{WritesPrefix}
+use Rattle.dns_text.specs.Outside.{WritesPrefix}
 use Rattle.dns_text.proofs.Transfers.{prefix_after}
 use Rattle.dns_lines.specs.Answers.{Answers, AreAnswers, IsAnswer}
 use Rattle.dns_lines.specs.Lines.{HasLines, IsLine, Parted, ended, with_last}

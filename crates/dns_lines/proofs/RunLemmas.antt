@@ -2,10 +2,10 @@
 use Rattle.std.proofs.Common.{◌≡◌, ◌≢◌, ℕ, ◌-◌, ◌^◌, ◌≤◌, Bool, true, false, List, [], ◌++◌, length, take, take_all, Option, Some, None, IfSome, IsSome, Result, Ok, Err, is_err, OnOk, OnErr, inl, inr, refl, sym, ap, subst, ◌∙◌, append-nil, arith}
 use Rattle.std.specs.Io.KnownBytes.{Appends, Consumes, IsAtEnd}
 use Rattle.std.proofs.KnownBytes.{Appends-nil, Consumes-trans}
-use Rattle.dns_wire.specs.Outside.{BecomesFlag, HasCause, Puts, Rose, WritesPrefix}
-use Rattle.dns_wire.specs.declared.io.traits.Source.{Ghosts as SourceGhosts}
-use Rattle.dns_wire.specs.declared.io.traits.Sink.{Ghosts as SinkGhosts}
-use Rattle.dns_text.specs.Endings.{Reported}
+use Rattle.dns_text.specs.Outside.{BecomesFlag, HasCause, Puts, Rose, WritesPrefix}
+use Rattle.dns_text.specs.declared.io.traits.Source.{Ghosts as SourceGhosts}
+use Rattle.dns_text.specs.declared.io.traits.Sink.{Ghosts as SinkGhosts}
+use Rattle.dns_command.specs.Endings.{Reported}
 use Rattle.dns_lines.specs.Lines.{IsLine}
 use Rattle.dns_lines.specs.Pieces.{AnswersFront, AnswersPiece, EndsWith}
 use Rattle.dns_lines.specs.Runs.{AnswersAll, AnswersEnded, AnswersPrefix, AnswersSome, Ended, Settled}

@@ -8,22 +8,22 @@ use Rattle.dns_message.specs.Order.{SortKey, canonical_list}
 use Rattle.std.proofs.lemmas.Bool.{agree_below_at, cases_lt}
 use Rattle.std.proofs.lemmas.List.{get_or_past}
 use Rattle.std.proofs.lemmas.List.Concat.{flat_map-cons}
-use Rattle.dns_wire.specs.Hexadecimal.{line, shown, spelled, trim}
-use Rattle.dns_text.specs.Notes.{note_line, notice_line, spaced}
-use Rattle.dns_text.specs.declared.notice.Notice.TheVariants as notice
+use Rattle.dns_text.specs.Hexadecimal.{line, shown, spelled, trim}
+use Rattle.dns_command.specs.Notes.{note_line, notice_line, spaced}
+use Rattle.dns_command.specs.declared.notice.Notice.TheVariants as notice
 use Rattle.dns_message.specs.Messages.{RecordValue}
 use Rattle.dns_message.specs.Same.{Same}
-use Rattle.dns_message.specs.Texts.{HasRecords}
+use Rattle.dns_command.specs.Texts.{HasRecords}
 use Rattle.dns_message.specs.WellFormed.{WellFormed}
 use Rattle.dns_wire.specs.Reading.{AreOctets}
-use Rattle.dns_message.proofs.TextLemmas.{one_records, text_well}
+use Rattle.dns_command.proofs.TextLemmas.{one_records, text_well}
 use Rattle.dns_wire.specs.Names.{wire}
 use Rattle.dns_denial.specs.Signed.{algorithm, is_signature, key_tag_field, labels_field, signature_field, signed_octets, signer, type_covered}
 use Rattle.dns_denial.specs.Texts.{members}
 use Rattle.dns_normal.specs.Normal.{normal_form}
-use Rattle.dns_normal.specs.Texts.{normal_note}
-use Rattle.dns_normal.specs.declared.refusal.Refusal.{Refusal}
-use Rattle.dns_normal.specs.declared.refusal.Refusal.TheVariants.{BadHex, Short, Item, TooLarge}
+use Rattle.dns_normal.specs.Texts.{NormalRefusal, normal_note}
+use Rattle.dns_command.specs.declared.refusal.Refusal.TheVariants.{BadHex, Short, Item, Own}
+use Rattle.dns_normal.specs.declared.refusal.NormalReason.TheVariants.{TooLarge}
 use Rattle.dns_normal.proofs.NormalForms.{normal_octets, other_normal}
 use Rattle.dns_normal.proofs.NormalOutcomes.{accepted_size}
 use Rattle.dns_normal.proofs.NormalTexts.{line_back}
@@ -97,11 +97,11 @@ note_is_line word numbers none = (
   ap (λ (l : List ℕ). codes "! " ++ l) (sym (append_assoc word (flat_map spaced numbers) (10 ∷ []))),
 )
 
-refusal_is_line : (refused : Refusal) → IsOneLine (marked (normal_note refused))
+refusal_is_line : (refused : NormalRefusal) → IsOneLine (marked (normal_note refused))
 refusal_is_line BadHex = note_is_line (codes "bad hex") [] refl
-refusal_is_line Short = note_is_line (codes "short") (0 ∷ []) refl
-refusal_is_line (Item section index) = note_is_line (codes "item") (0 ∷ section ∷ index ∷ []) refl
-refusal_is_line TooLarge = note_is_line (codes "too large") [] refl
+refusal_is_line (Short message) = note_is_line (codes "short") (0 ∷ []) refl
+refusal_is_line (Item message section index) = note_is_line (codes "item") (0 ∷ section ∷ index ∷ []) refl
+refusal_is_line (Own TooLarge) = note_is_line (codes "too large") [] refl
 
 -- ---- answers
 
@@ -116,7 +116,7 @@ marked_or_printed command t answer is = elim (cases_lt 131072 (length t)) [
   | inl long ↦ inl (subst IsOneLine (sym (answer_refused command t (notice_line notice.TooLong) answer (long_line command t long) is)) (note_is_line (codes "too long") [] refl))
   | inr short ↦ on_refusal (short_line command t short) (refusal_for command t) refl
 ] where
-  on_refusal : refusal_line command t ≡ option_map normal_note (refusal_for command t) → (o : Option Refusal) → refusal_for command t ≡ o → IsOneLine answer ⊎ PrintsFor command t answer
+  on_refusal : refusal_line command t ≡ option_map normal_note (refusal_for command t) → (o : Option NormalRefusal) → refusal_for command t ≡ o → IsOneLine answer ⊎ PrintsFor command t answer
   on_refusal e None f = inr (answer_printed command t answer (e ∙ ap (option_map normal_note) f) is)
   on_refusal e (Some r) f = inl (subst IsOneLine (sym (answer_refused command t (normal_note r) answer (e ∙ ap (option_map normal_note) f) is)) (refusal_is_line r))
 

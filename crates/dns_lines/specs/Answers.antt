@@ -3,19 +3,19 @@ use Rattle.std.specs.Prelude.{◌≡◌, ◌++◌, List, [], ◌∷◌, ⊤, len
 use Rattle.std.specs.List.{concat}
 use Rattle.std.specs.Option.{option_map}
 use Rattle.sha2.specs.Sha512.{sha384}
-use Rattle.dns_wire.specs.Hexadecimal.{line}
+use Rattle.dns_text.specs.Hexadecimal.{line}
 use Rattle.dns_wire.specs.Octets.{Octets}
-use Rattle.dns_text.specs.Notes.{notice_line}
-use Rattle.dns_text.specs.declared.notice.Notice.TheVariants.{TooLong}
+use Rattle.dns_command.specs.Notes.{notice_line}
+use Rattle.dns_command.specs.declared.notice.Notice.TheVariants.{TooLong}
 use Rattle.dns_message.specs.Messages.{RecordValue}
 use Rattle.dns_message.specs.Order.{canonical_list}
-use Rattle.dns_message.specs.Texts.{HasRecords, HasRecordsBy}
+use Rattle.dns_command.specs.Texts.{HasRecords, HasRecordsBy}
 use Rattle.dns_record.specs.FurtherFormats.{data_by}
 use Rattle.dns_record.specs.declared.formats.Formats.{Formats}
 use Rattle.dns_record.specs.declared.formats.Formats.TheVariants.{Usual, Listed}
 use Rattle.dns_denial.specs.Texts.{members}
-use Rattle.dns_normal.specs.Texts.{PrintsNormal, message_refusal, message_refusal_by, normal_note, normal_refusal}
-use Rattle.dns_normal.specs.declared.refusal.Refusal.{Refusal}
+use Rattle.dns_command.specs.Refusals.{message_refusal, message_refusal_by}
+use Rattle.dns_normal.specs.Texts.{NormalRefusal, PrintsNormal, normal_note, normal_refusal}
 use Rattle.dns_lines.specs.Lines.{HasLines}
 use Rattle.dns_lines.specs.Signatures.{marked, signature_lines}
 use Rattle.dns_lines.specs.declared.command.LineCommand.{LineCommand}
@@ -25,8 +25,8 @@ use Rattle.dns_lines.specs.declared.line.TheConstants.{LINE_LIMIT}
 -- ---- the digest of a message
 
 -- why the text of a message is refused for which a digest is asked
-abbrev pub digest_refusal : Octets → Option Refusal
-digest_refusal text = message_refusal (λ rs. None) text
+abbrev pub digest_refusal : Octets → Option NormalRefusal
+digest_refusal text = message_refusal (record {}) (λ rs. None) text
 
 -- what is printed: the digits of the digest of the canonical octets of the message's records, one after another, and LF
 abbrev pub PrintsDigest : Octets → Octets → Type 0
@@ -35,8 +35,8 @@ PrintsDigest text printed = (rs : List RecordValue) × HasRecords text rs × (pr
 -- ---- the signatures of a message
 
 -- why the text of a message is refused whose signatures are asked for, by the formats of all types that RFC 4034 section 6.2 lists
-abbrev pub signatures_refusal : Octets → Option Refusal
-signatures_refusal text = message_refusal_by (data_by Listed) (λ rs. None) text
+abbrev pub signatures_refusal : Octets → Option NormalRefusal
+signatures_refusal text = message_refusal_by (data_by Listed) (record {}) (λ rs. None) text
 
 -- what is printed: the lines that answer the signatures among the message's records, in canonical order
 abbrev pub PrintsSignatures : Octets → Octets → Type 0
@@ -51,7 +51,7 @@ formats_for Digest = Usual
 formats_for Signed = Listed
 
 -- why the text of a message is refused; `None` if a text is printed for it
-abbrev pub refusal_for : LineCommand → Octets → Option Refusal
+abbrev pub refusal_for : LineCommand → Octets → Option NormalRefusal
 refusal_for Normal text = normal_refusal tt text
 refusal_for Digest text = digest_refusal text
 refusal_for Signed text = signatures_refusal text

@@ -3,7 +3,7 @@ use Rattle.std.specs.Prelude.{◌≡◌, ◌++◌, List, [], ◌∷◌, Option, 
 use Rattle.std.specs.List.{AllByRecursion, concat}
 use Rattle.std.specs.Io.KnownBytes.{Appends}
 use Rattle.dns_wire.specs.Octets.{Octets}
-use Rattle.dns_wire.specs.Outside.{WritesPrefix}
+use Rattle.dns_text.specs.Outside.{WritesPrefix}
 use Rattle.dns_lines.specs.Answers.{AreAnswers, IsAnswer}
 use Rattle.dns_lines.specs.Lines.{IsLine, Parted, ended}
 use Rattle.dns_lines.specs.declared.command.LineCommand.{LineCommand}

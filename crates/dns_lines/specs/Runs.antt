@@ -3,12 +3,12 @@ use Rattle.std.specs.Prelude.{◌≡◌, ◌≢◌, ◌≤◌, ◌⊎◌, ◌-�
 use Rattle.std.specs.List.{concat}
 use Rattle.std.specs.Io.KnownBytes.{Appends, Consumes, IsAtEnd}
 use Rattle.dns_wire.specs.Octets.{Octets}
-use Rattle.dns_wire.specs.Outside.{BecomesFlag, Rose, WritesPrefix}
-use Rattle.dns_wire.specs.declared.io.traits.Source.{Ghosts as SourceGhosts}
-use Rattle.dns_wire.specs.declared.io.traits.Sink.{Ghosts as SinkGhosts}
-use Rattle.dns_text.specs.Endings.{Reported}
-use Rattle.dns_text.specs.Notes.{notice_line}
-use Rattle.dns_text.specs.declared.notice.Notice.TheVariants as notice
+use Rattle.dns_text.specs.Outside.{BecomesFlag, Rose, WritesPrefix}
+use Rattle.dns_text.specs.declared.io.traits.Source.{Ghosts as SourceGhosts}
+use Rattle.dns_text.specs.declared.io.traits.Sink.{Ghosts as SinkGhosts}
+use Rattle.dns_command.specs.Endings.{Reported}
+use Rattle.dns_command.specs.Notes.{notice_line}
+use Rattle.dns_command.specs.declared.notice.Notice.TheVariants as notice
 use Rattle.dns_lines.specs.Answers.{Answers, AreAnswers}
 use Rattle.dns_lines.specs.Lines.{HasLines, Parted}
 use Rattle.dns_lines.specs.declared.command.LineCommand.{LineCommand}

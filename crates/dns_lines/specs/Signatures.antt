@@ -1,10 +1,12 @@
 -- The lines of a message's signatures (RFC 4034 section 3.1).
 use Rattle.std.specs.Prelude.{ℕ, [], ◌∷◌, ◌++◌, List, codes, decimal, flat_map, length, nat_lt, if◌then◌else◌}
-use Rattle.dns_wire.specs.Hexadecimal.{line, shown}
+use Rattle.dns_text.specs.Hexadecimal.{line, shown}
 use Rattle.dns_wire.specs.Names.{wire}
 use Rattle.dns_wire.specs.Octets.{Octets}
-use Rattle.dns_text.specs.Notes.{note_line}
+use Rattle.dns_command.specs.Notes.{note_line}
 use Rattle.dns_message.specs.Order.{SortKey}
+use Rattle.dns_denial.specs.Texts.{reason_words}
+use Rattle.dns_denial.specs.declared.refusal.DenialReason.TheVariants.{TooManyLabels}
 use Rattle.dns_denial.specs.Signed.{algorithm, is_signature, key_tag_field, labels_field, signature_field, signed_octets, signer, type_covered}
 
 -- `!`, a space, and the line
@@ -32,7 +34,7 @@ signature_line records g = signature_numbers g.octets ++ (octets_field (wire (si
 -- the line that answers a signature: the one that `signed` of `dns_denial` notes, marked, if its labels field is more than the number of its
 -- owner's labels
 abbrev pub signature_answer : List SortKey → SortKey → Octets
-signature_answer records g = if nat_lt (length g.owner) (labels_field g.octets) then marked (note_line (codes "too many labels") []) else signature_line records g
+signature_answer records g = if nat_lt (length g.owner) (labels_field g.octets) then marked (note_line (reason_words TooManyLabels) []) else signature_line records g
 
 -- the line that answers a record, if it is a signature
 abbrev pub signature_part : List SortKey → SortKey → Octets

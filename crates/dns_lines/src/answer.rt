@@ -1,19 +1,18 @@
 //! The answer to one line.
 
-ghost use Rattle.std.specs.Prelude.{◌≡◌, ◌≤◌, ◌++◌, None, IfOk, IfErr, OnOk, OnErr, length};
-ghost use Rattle.dns_wire.specs.Octets.{Octets};
-ghost use Rattle.dns_text.specs.Outcomes.{RefusesFor};
-ghost use Rattle.dns_normal.specs.Texts.{normal_note};
+ghost use Rattle.std.specs.Prelude.{◌≡◌, ◌++◌, None, IfErr, OnOk, OnErr};
+ghost use Rattle.dns_command.specs.Outcomes.{RefusesFor};
+ghost use Rattle.dns_command.specs.Notes.{notice_line};
 ghost use Rattle.dns_lines.specs.Answers.{AddsAnswer, AddsPrinted, refusal_for};
 ghost use Rattle.dns_lines.specs.Signatures.{marked};
 
 use crate::command::LineCommand;
 use crate::digest::add_digest;
 use crate::line::LINE_LIMIT;
-use crate::note::NoteSink;
 use crate::signed::add_signed;
-use dns_normal::{Normal, Refusal, TextReader};
-use dns_text::{PrintError, TextCommand, push_hex_line};
+use dns_command::{Notice, PrintError, TextReader};
+use dns_normal::{NormalRefusal, read_normal_form};
+use dns_text::push_hex_line;
 use std::alloc::{AllocError, Global};
 
 /// Adds the normal form of the message in a line, in hexadecimal digits, and LF to answers.
@@ -22,13 +21,13 @@ fn add_normal_form(
     reader: &mut TextReader,
     line: &[u8],
     answers: &mut Vec<u8>,
-) -> Result<(), PrintError<Refusal>>
+) -> Result<(), PrintError<NormalRefusal>>
     ensures added { OnOk result (AddsPrinted LineCommand.Normal line.now answers.old.items answers.new.items) }
     ensures accepted { OnOk result (refusal_for LineCommand.Normal line.now ≡ None) }
     ensures refused { IfErr result (RefusesFor (refusal_for LineCommand.Normal line.now)) }
     ensures unchanged { OnErr result (answers.new.items ≡ answers.old.items) }
 {
-    let form = reader.read_normal_form(alloc, line)?;
+    let form = read_normal_form(alloc, reader, line)?;
     push_hex_line(&form, answers)?;
     Ok(())
 }
@@ -40,7 +39,7 @@ fn add_printed(
     reader: &mut TextReader,
     line: &[u8],
     answers: &mut Vec<u8>,
-) -> Result<(), PrintError<Refusal>>
+) -> Result<(), PrintError<NormalRefusal>>
     ensures added { OnOk result (AddsPrinted command line.now answers.old.items answers.new.items) }
     ensures accepted { OnOk result (refusal_for command line.now ≡ None) }
     ensures refused { IfErr result (RefusesFor (refusal_for command line.now)) }
@@ -53,15 +52,17 @@ fn add_printed(
     }
 }
 
-/// The line for a refusal, marked.
-fn refusal_line(alloc: Global, refused: Refusal) -> Result<Vec<u8>, AllocError>
-    ensures { IfOk result (λ line. line.items ≡ marked (normal_note refused)) }
+/// Adds the line of a notice, marked, to a text. `AllocError` is out of memory, and adds nothing.
+pub(crate) fn push_marked(
+    alloc: Global,
+    notice: Notice,
+    text: &mut Vec<u8>,
+) -> Result<(), AllocError>
+    ensures added { OnOk result (text.new.items ≡ text.old.items ++ marked (notice_line notice)) }
+    ensures unchanged { OnErr result (text.new.items ≡ text.old.items) }
 {
-    let mut note = NoteSink::new(Vec::from_slice(alloc, b"! ")?);
-    match Normal::put_refusal(refused, &mut note) {
-        Ok(()) => Ok(note.into_octets()),
-        Err(_) => Err(AllocError),
-    }
+    let line = format!(in alloc; "! {}\n", notice)?;
+    text.extend_from_slice(line.as_bytes())
 }
 
 /// Adds the answer to a line to others. `AllocError` is out of memory, and adds nothing.
@@ -76,13 +77,11 @@ pub(crate) fn add_answer(
     ensures unchanged { OnErr result (answers.new.items ≡ answers.old.items) }
 {
     if line.len() > LINE_LIMIT {
-        return answers.extend_from_slice(b"! too long\n");
+        return push_marked(alloc, Notice::TooLong, answers);
     }
     match add_printed(alloc, command, reader, line, answers) {
         Ok(()) => Ok(()),
-        Err(PrintError::Refused(refused)) => {
-            answers.extend_from_slice(&refusal_line(alloc, refused)?)
-        }
+        Err(PrintError::Refused(refused)) => push_marked(alloc, refused.notice(), answers),
         Err(PrintError::Memory) => Err(AllocError),
     }
 }

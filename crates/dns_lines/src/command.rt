@@ -3,12 +3,12 @@
 ghost use Rattle.std.specs.Prelude.{◌≡◌};
 ghost use Rattle.dns_lines.specs.Runs.{EndedFor, Ran, note_of};
 ghost use Rattle.dns_lines.specs.Words.{command_of};
-ghost use Rattle.dns_wire.specs.Outside.{HasCause, Puts};
+ghost use Rattle.dns_text.specs.Outside.{HasCause, Puts};
 
 use crate::filter::answer_lines;
 use crate::status::LinesStatus;
-use dns_text::{Args, Notice, put_notice};
-use dns_wire::{Failed, Sink, Source};
+use dns_command::{Notice, put_notice};
+use dns_text::{Args, Failed, Sink, Source};
 use std::alloc::Global;
 
 /// What each line is answered by.

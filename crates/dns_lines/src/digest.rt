@@ -1,12 +1,13 @@
 //! The digest of a message's records.
 
 ghost use Rattle.std.specs.Prelude.{◌≡◌, None, IfErr, OnOk, OnErr};
-ghost use Rattle.dns_text.specs.Outcomes.{RefusesFor};
+ghost use Rattle.dns_command.specs.Outcomes.{RefusesFor};
 ghost use Rattle.dns_lines.specs.Answers.{AddsPrinted, digest_refusal};
 
 use crate::command::LineCommand;
-use dns_normal::{Refusal, TextReader};
-use dns_text::{PrintError, push_hex_line};
+use dns_command::{OneMessage, PrintError, TextReader};
+use dns_normal::NormalRefusal;
+use dns_text::push_hex_line;
 use dns_zone::digest_of;
 use std::alloc::Global;
 
@@ -17,13 +18,13 @@ pub(crate) fn add_digest(
     reader: &mut TextReader,
     line: &[u8],
     answers: &mut Vec<u8>,
-) -> Result<(), PrintError<Refusal>>
+) -> Result<(), PrintError<NormalRefusal>>
     ensures added { OnOk result (AddsPrinted LineCommand.Digest line.now answers.old.items answers.new.items) }
     ensures accepted { OnOk result (digest_refusal line.now ≡ None) }
     ensures refused { IfErr result (RefusesFor (digest_refusal line.now)) }
     ensures unchanged { OnErr result (answers.new.items ≡ answers.old.items) }
 {
-    let forms = reader.read_forms(alloc, line)?;
+    let forms = reader.read_forms(alloc, line, OneMessage)?;
     let order = forms.collapsed(alloc)?;
     push_hex_line(&digest_of(&order), answers)?;
     Ok(())

@@ -2,7 +2,7 @@
 
 ghost use Rattle.std.specs.Prelude.{◌≡◌, ◌≢◌, ◌≤◌, ◌++◌, IfOk, OnOk, OnErr, take, true, vec_len};
 ghost use Rattle.dns_wire.specs.Octets.{Octets};
-ghost use Rattle.dns_wire.specs.Outside.{BecomesFlag, Rose};
+ghost use Rattle.dns_text.specs.Outside.{BecomesFlag, Rose};
 ghost use Rattle.dns_lines.specs.Lines.{IsLine};
 ghost use Rattle.dns_lines.specs.Pieces.{AnswersFront, AnswersPiece, EndsWith, IsLastAnswer};
 ghost use Rattle.dns_lines.specs.Runs.{Ended};
@@ -11,9 +11,8 @@ use crate::answer::add_answer;
 use crate::command::LineCommand;
 use crate::line::{KEPT_OCTETS, extend_line, split_line};
 use crate::status::LinesStatus;
-use dns_normal::TextReader;
-use dns_text::put_text;
-use dns_wire::{Sink, Source};
+use dns_command::TextReader;
+use dns_text::{Sink, Source, put_text};
 use std::alloc::{AllocError, Global};
 
 /// The most octets of one read.

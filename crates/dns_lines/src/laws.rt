@@ -1,17 +1,17 @@
 //! What follows from the definitions.
 
-ghost use Rattle.std.specs.Prelude.{◌≡◌, ◌≢◌, ◌≤◌, ◌↔◌, ◌⊎◌, ◌++◌, ◌∷◌, [], List, Some, None, codes, flat_map, length, IsTrue};
+ghost use Rattle.std.specs.Prelude.{◌≡◌, ◌≢◌, ◌≤◌, ◌↔◌, ◌++◌, ◌∷◌, [], List, Some, codes, flat_map, length, IsTrue};
 ghost use Rattle.std.specs.List.{AllByRecursion, concat};
 ghost use Rattle.dns_wire.specs.Octets.{Octets};
 ghost use Rattle.dns_message.specs.Messages.{RecordValue};
 ghost use Rattle.dns_message.specs.Order.{canonical_list};
 ghost use Rattle.dns_message.specs.Same.{Same};
-ghost use Rattle.dns_message.specs.Texts.{HasRecords, HasRecordsBy};
+ghost use Rattle.dns_command.specs.Texts.{HasRecords, HasRecordsBy};
 ghost use Rattle.dns_record.specs.FurtherFormats.{data_by};
 ghost use Rattle.dns_message.specs.declared.message.TheConstants.{MAX_MESSAGE_SIZE};
 ghost use Rattle.dns_normal.specs.Normal.{normal_form};
 ghost use Rattle.dns_lines.specs.Answers.{Answers, IsAnswer, formats_for};
-ghost use Rattle.dns_lines.specs.Lines.{HasLines, IsLine, ended, line_feed};
+ghost use Rattle.dns_lines.specs.Lines.{HasLines, IsLine, ended};
 ghost use Rattle.dns_lines.specs.Words.{command_of};
 
 use crate::command::LineCommand;

@@ -7,7 +7,6 @@ mod digest;
 mod filter;
 mod laws;
 mod line;
-mod note;
 mod signed;
 mod status;
 

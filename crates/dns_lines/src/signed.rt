@@ -1,18 +1,20 @@
 //! The signatures of a message.
 
 ghost use Rattle.std.specs.Prelude.{◌≡◌, ◌≤◌, ◌+◌, ◌*◌, ◌++◌, None, IfOk, IfErr, OnOk, OnErr, codes, flat_map, length};
-ghost use Rattle.dns_wire.specs.Hexadecimal.{shown};
-ghost use Rattle.dns_text.specs.Outcomes.{RefusesFor};
+ghost use Rattle.dns_text.specs.Hexadecimal.{shown};
+ghost use Rattle.dns_command.specs.Outcomes.{RefusesFor};
 ghost use Rattle.dns_denial.specs.Signed.{labels_field};
 ghost use Rattle.dns_lines.specs.Answers.{AddsPrinted, signatures_refusal};
 ghost use Rattle.dns_lines.specs.Signatures.{number_field, octets_field, signature_answer, signature_line, signature_lines, signature_numbers, signature_part};
 
+use crate::answer::push_marked;
 use crate::command::LineCommand;
-use dns_denial::{Signature, signed_octets};
+use dns_command::{Notice, OneMessage, PrintError, Reason, TextReader};
+use dns_denial::{DenialReason, Signature, signed_octets};
 use dns_message::CanonicalForm;
-use dns_normal::{Refusal, TextReader};
+use dns_normal::NormalRefusal;
 use dns_record::Formats;
-use dns_text::{PrintError, push_hex_line, put_digits};
+use dns_text::{push_hex_line, put_digits};
 use std::alloc::{AllocError, Global};
 
 /// Writes the digits of octets in lowercase, and a space.
@@ -88,7 +90,11 @@ fn push_signature_answer(
     ensures { OnOk result (text.new.items ≡ text.old.items ++ signature_answer forms.now signature.now) }
 {
     if signature.has_too_many_labels() {
-        return text.extend_from_slice(b"! too many labels\n");
+        return push_marked(
+            alloc,
+            Notice::Own(DenialReason::TooManyLabels.words()),
+            text,
+        );
     }
     push_signature_line(alloc, forms, signature, text)
 }
@@ -126,13 +132,13 @@ pub(crate) fn add_signed(
     reader: &mut TextReader,
     line: &[u8],
     answers: &mut Vec<u8>,
-) -> Result<(), PrintError<Refusal>>
+) -> Result<(), PrintError<NormalRefusal>>
     ensures added { OnOk result (AddsPrinted LineCommand.Signed line.now answers.old.items answers.new.items) }
     ensures accepted { OnOk result (signatures_refusal line.now ≡ None) }
     ensures refused { IfErr result (RefusesFor (signatures_refusal line.now)) }
     ensures unchanged { OnErr result (answers.new.items ≡ answers.old.items) }
 {
-    let forms = reader.read_forms_by(alloc, line, Formats::Listed)?;
+    let forms = reader.read_forms_by(alloc, line, OneMessage, Formats::Listed)?;
     let order = forms.collapsed(alloc)?;
     let lines = signature_lines(alloc, order.forms())?;
     answers.extend_from_slice(&lines)?;

@@ -1,8 +1,8 @@
 -- Names to which pointers lead, and names that go on with them.
-use Rattle.std.proofs.Common.{◌≡◌, ℕ, ◌+◌, ◌-◌, ◌<◌, ◌≤◌, List, [], ◌∷◌, ◌++◌, length, take, drop, get_or, Option, Some, None, true, inl, inr, refl, sym, ap, ap₂, subst, ◌∙◌, arith, append_assoc}
+use Rattle.std.proofs.Common.{◌≡◌, ℕ, ◌+◌, ◌-◌, ◌<◌, ◌≤◌, List, [], ◌∷◌, ◌++◌, length, take, drop, get_or, Option, Some, None, inl, inr, refl, sym, ap, ap₂, subst, ◌∙◌, arith, append_assoc}
 use Rattle.std.specs.List.{All}
 use Rattle.std.specs.Option.{IfSome}
-use Rattle.std.specs.Prelude.{is_some, reverse}
+use Rattle.std.specs.Prelude.{reverse}
 use Rattle.std.specs.Str.{str_to_ascii_lowercase}
 use Rattle.std.proofs.lemmas.Bool.{cases_lt}
 use Rattle.std.proofs.lemmas.Grind.{flat_map-append}
@@ -15,7 +15,7 @@ use Rattle.dns_wire.proofs.Following.{name_at_is, name_at_more, name_at_name}
 use Rattle.dns_wire.proofs.Lowered.{lowered_long, name_lowered}
 use Rattle.dns_wire.proofs.Spelled.{labels_of_wire}
 use Rattle.dns_wire.proofs.Walk.{labels_wire-append, wire_long}
-use Rattle.dns_chain.specs.CanonicalNames.{GoesOn, HasOwnLabels, IsReadAs, IsReadOrNone}
+use Rattle.dns_chain.specs.CanonicalNames.{GoesOn, HasOwnLabels, IsReadAs}
 use Rattle.dns_chain.specs.declared.canonical_name.NameSpan.{NameSpan}
 use Rattle.dns_name.specs.declared.own_labels.OwnLabels.{OwnLabels}
 use Rattle.dns_message.specs.KnownNames.{Holds, IsKnown}
@@ -178,14 +178,6 @@ pub joined_found : (contents : List ℕ) (start target : ℕ) (o : OwnLabels) (o
     → IfSome found (IsReadAs contents start new)
 joined_found contents start target o old new name None is to known size octets = tt
 joined_found contents start target o old new name (Some span) is to known size octets = joined_read contents start target o old new name span is to known size octets
-
--- own labels alone
-pub own_read : (contents : List ℕ) (start : ℕ) (o : OwnLabels) (buffer : List ℕ) → HasOwnLabels contents start buffer o → o.target ≡ None → IsReadAs contents start buffer (record { size = o.size + 1; end = o.end })
-own_read contents start o buffer is none = (is.0, subst (GoesOn contents start is.0 o.end) none is.6, is.1, is.2, is.3)
-
-pub found_or_none : (contents : List ℕ) (start : ℕ) (buffer : List ℕ) (found : Option NameSpan) → is_some found ≡ true → IfSome found (IsReadAs contents start buffer) → IsReadOrNone contents start buffer found
-found_or_none contents start buffer None e is = absurd (let h = e in cc)
-found_or_none contents start buffer (Some span) e is = is
 
 pub joined_found_key : (contents : List ℕ) (start target : ℕ) (o : OwnLabels) (old new name_key key : List ℕ) (name : KnownName) (found : Option NameSpan) → HasOwnLabels contents start old o → o.target ≡ Some target
     → (known : (labels : Labels) × (later : ℕ) × (name_at contents target ≡ Some (labels, later)) × Holds name labels)

@@ -44,8 +44,6 @@ pub mod KnownNameLemmas
 pub mod Streamed
 pub mod Surviving
 pub mod ListOctets
-pub mod ListTexts
-pub mod TextLemmas
 pub mod UnparsedRecords
 pub mod WellFormedLemmas
 pub mod WrittenNames

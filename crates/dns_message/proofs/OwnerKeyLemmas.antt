@@ -6,7 +6,7 @@ use Rattle.std.specs.Ordering.{nat_cmp, ordering_then}
 use Rattle.std.specs.Cmp.Lexicographic.{slice_cmp}
 use Rattle.std.specs.declared.cmp.Ordering.TheVariants.{Less, Equal, Greater}
 use Rattle.std.proofs.lemmas.Bool.{cases_lt, cases_order, lt-ltb, le-ltb}
-use Rattle.std.proofs.lemmas.List.{append_assoc, map-append, length-append, length-map, length-take, length-drop, drop-drop, drop_all, drop_at, take_at, take_more, take_more_set, get_or-drop, reverse-append}
+use Rattle.std.proofs.lemmas.List.{append_assoc, length-append, length-map, length-take, length-drop, drop-drop, drop_all, drop_at, take_at, get_or-drop, reverse-append}
 use Rattle.std.specs.Char.{to_ascii_lowercase}
 use Rattle.std.specs.Str.{str_to_ascii_lowercase}
 use Rattle.std.proofs.lemmas.Str.Ascii.{lowercase_is, lowercase-lowercase}
@@ -41,10 +41,6 @@ octet_lowered x = elim (cases_lt x 65) [
   | inl few ↦ ap key_octet ((lowercase_is x).1 few)
   | inr many ↦ high (to_ascii_lowercase x) (omega (arith, past_capitals x many)) ∙ lowercase-lowercase x ∙ sym (high x many)
 ]
-
--- an octet in lowercase
-pub lowercase_key : (x : ℕ) → to_ascii_lowercase x ≡ x → 65 ≤ x → key_octet x ≡ x
-lowercase_key x is many = high x many ∙ is
 
 some : (x : ℕ) → 0 < key_octet x
 some x = elim (cases_lt x 65) [
@@ -141,18 +137,6 @@ first_key f records i r keys size within is are long =
     (omega (arith, long, ap length first, length-take size keys), first)
 
 -- ---- a key that is written from its end on
-
--- the next octet of a label's key
-pub next_of_label : (label key : List ℕ) (at : ℕ) → at < length label → length key ≡ 1 + length label → take (1 + at) key ≡ 0 ∷ map key_octet (take at label)
-    → take (1 + (at + 1)) (slice_set key (at + 1) (key_octet (slice_index_or label at 0))) ≡ 0 ∷ map key_octet (take (at + 1) label)
-next_of_label label key at within long so =
-    let on : 1 + (at + 1) ≡ at + 1 + 1 = omega arith in
-    let same : 1 + at ≡ at + 1 = omega arith in
-    ap (λ n. take n (slice_set key (at + 1) (key_octet (slice_index_or label at 0)))) on
-    ∙ take_more_set key (at + 1) (key_octet (slice_index_or label at 0)) (omega (arith, within, long))
-    ∙ ap (λ n. take n key ++ key_octet (slice_index_or label at 0) ∷ []) (sym same)
-    ∙ ap (λ l. l ++ key_octet (slice_index_or label at 0) ∷ []) so
-    ∙ ap (λ l. 0 ∷ l) (sym (map-append key_octet (take at label) (slice_index_or label at 0 ∷ [])) ∙ ap (map key_octet) (sym (take_more label at 0 within)))
 
 -- the labels before a place of a name are in the key that is after another place; what is left is in the owner from the place on
 pub record KeyedFrom (owner : List ℕ) (at end : ℕ) (key : List ℕ) : Type 0 where

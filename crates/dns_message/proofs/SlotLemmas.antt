@@ -1,7 +1,6 @@
 -- The places of the counted items, and items one after another.
-use Rattle.std.proofs.Common.{◌≡◌, ℕ, zero, suc, ◌+◌, ◌-◌, ◌*◌, ◌<◌, List, [], ◌∷◌, ◌++◌, length, get_or, take, drop, refl, sym, ap, ◌∙◌, subst, arith, add-zero, add-one, drop-cons}
-use Rattle.std.proofs.lemmas.List.{get_or-take}
-use Rattle.dns_message.specs.Messages.{Item, RecordValue, slots, slots_from, counts_of, records_among}
+use Rattle.std.proofs.Common.{◌≡◌, ℕ, zero, suc, ◌+◌, ◌-◌, ◌<◌, List, [], ◌∷◌, ◌++◌, length, get_or, drop, refl, sym, ap, ◌∙◌, subst, arith, add-zero, add-one, drop-cons}
+use Rattle.dns_message.specs.Messages.{Item, RecordValue, slots, slots_from, records_among}
 use Rattle.dns_message.specs.Messages.Item.{QuestionItem, RecordItem}
 use Rattle.dns_message.specs.Worded.{ItemsAt}
 
@@ -32,15 +31,6 @@ among_append (QuestionItem q ∷ items) others = among_append items others
 among_append (RecordItem r ∷ items) others = ap (λ (l : List RecordValue). r ∷ l) (among_append items others)
 
 -- ---- the counts
-
--- the count of a section is in the header
-pub count_is : (m header : List ℕ) (section count : ℕ) → section < 4 → header ≡ take 12 m
-    → count ≡ get_or header (4 + 2 * section) 0 * 256 + get_or header (4 + 2 * section + 1) 0 → count ≡ get_or (counts_of m) section 0
-count_is m header zero count below is e = e ∙ rw is (rw (get_or-take 12 m 4 0 (omega arith), get_or-take 12 m 5 0 (omega arith)) refl)
-count_is m header (suc zero) count below is e = e ∙ rw is (rw (get_or-take 12 m 6 0 (omega arith), get_or-take 12 m 7 0 (omega arith)) refl)
-count_is m header (suc (suc zero)) count below is e = e ∙ rw is (rw (get_or-take 12 m 8 0 (omega arith), get_or-take 12 m 9 0 (omega arith)) refl)
-count_is m header (suc (suc (suc zero))) count below is e = e ∙ rw is (rw (get_or-take 12 m 10 0 (omega arith), get_or-take 12 m 11 0 (omega arith)) refl)
-count_is m header (suc (suc (suc (suc section)))) count below is e = absurd (omega arith)
 
 -- the places of a section, and those after it
 pub slots_turn : (counts : List ℕ) (section count : ℕ) → section < length counts → count ≡ get_or counts section 0

@@ -23,7 +23,6 @@ pub mod Same
 pub mod Seen
 pub mod Several
 pub mod Sorted
-pub mod Texts
 pub mod UnparsedRecords
 pub mod WellFormed
 pub mod Worded

@@ -6,7 +6,6 @@ ghost use Rattle.std.specs.Hash.{u16};
 ghost use Rattle.std.specs.List.{All, Contains, concat};
 ghost use Rattle.std.specs.List.Sorted.{IsPermutation};
 ghost use Rattle.std.specs.declared.cmp.Ordering.TheVariants.{Equal};
-ghost use Rattle.dns_wire.specs.Hexadecimal.{lines};
 ghost use Rattle.dns_wire.specs.Octets.{Octets};
 ghost use Rattle.dns_wire.specs.Reading.{AreOctets};
 ghost use Rattle.dns_record.specs.InPlace.{QuestionAt, RecordAt};
@@ -152,15 +151,6 @@ pub fn equal_outputs()
     ensures records { (rs ss : List RecordValue) → All WellFormed rs → All WellFormed ss → (canonical_list rs ≡ canonical_list ss) ↔ Same rs ss }
     ensures messages { (m n : Octets) (rs ss : List RecordValue) → AreOctets m → AreOctets n → Valid m rs → Valid n ss →
         (canonical_list rs ≡ canonical_list ss) ↔ Same rs ss }
-{}
-
-/// Lists of octets have one text only if they are one (RFC 4648 section 8). So the texts of two valid messages are equal
-/// exactly if their records are the same.
-pub fn canonical_texts()
-    ensures lists { (ls ks : List Octets) → All AreOctets ls → All AreOctets ks → (lines ls ≡ lines ks) ↔ (ls ≡ ks) }
-    ensures one { (rs ss : List RecordValue) → All WellFormed rs → All WellFormed ss → (lines (canonical_list rs) ≡ lines (canonical_list ss)) ↔ (canonical_list rs ≡ canonical_list ss) }
-    ensures messages { (m n : Octets) (rs ss : List RecordValue) → AreOctets m → AreOctets n → Valid m rs → Valid n ss →
-        (lines (canonical_list rs) ≡ lines (canonical_list ss)) ↔ Same rs ss }
 {}
 
 /// Canonical octets one after another are those of one list alone, though nothing stands between two records (RFC 8976 section 3.3.1.2).

@@ -48,11 +48,10 @@ pub use header::{Header, HeaderFlags, SectionCounts};
 pub use item::{MessageItem, ParsedMessageItem};
 pub use laws::{
     alike_records, canonical_lists, canonical_octets_are_read_back,
-    canonical_records_are_split_back, canonical_streams, canonical_texts, counted_items,
-    equal_canonical_octets, equal_errors, equal_outputs, equal_positions, header_flags,
-    items_in_words, limits, order_of_records, owners_in_either_layout, parsers_read_messages,
-    readings_in_words, records_that_are_read_are_well_formed, same_formats, same_records,
-    three_kinds_of_messages,
+    canonical_records_are_split_back, canonical_streams, counted_items, equal_canonical_octets,
+    equal_errors, equal_outputs, equal_positions, header_flags, items_in_words, limits,
+    order_of_records, owners_in_either_layout, parsers_read_messages, readings_in_words,
+    records_that_are_read_are_well_formed, same_formats, same_records, three_kinds_of_messages,
 };
 pub use message::{MAX_MESSAGE_SIZE, Message};
 pub use parser::{ItemPosition, MessageParser};

@@ -33,7 +33,7 @@ pub(crate) struct NameReader<'a> {
 
 impl<'a> Model for NameReader<'a> {
     ghost use Rattle.dns_wire.specs.Octets.{Octets};
-    ghost use Rattle.dns_wire.specs.Reading.{AreOctets, all_of};
+    ghost use Rattle.dns_wire.specs.Reading.{AreOctets};
     ghost use Rattle.dns_message.specs.KnownNames.{KnowsNames};
 
     ghost Value = { Octets };
@@ -224,9 +224,7 @@ impl<'a> NameReader<'a> {
         if known.is_some() {
             return Ok(known);
         }
-        if let Some(target) = own.target
-            && !self.is_first()
-        {
+        if let Some(target) = own.target {
             self.keep_name(alloc, target, start, false)?;
             let joined = self.join_known(own, start, end, buffer);
             if joined.is_some() {
@@ -281,9 +279,7 @@ impl<'a> NameReader<'a> {
         if known.is_some() {
             return Ok(known);
         }
-        if let Some(target) = own.target
-            && !self.is_first()
-        {
+        if let Some(target) = own.target {
             self.keep_name(alloc, target, start, true)?;
             let joined = self.join_known_owner(own, start, octets, key);
             if joined.is_some() {

@@ -3,10 +3,10 @@ use Rattle.std.proofs.Common.{◌≡◌, ℕ, suc, ◌+◌, ◌*◌, ◌/◌, �
 use Rattle.std.specs.List.{AllByRecursion}
 use Rattle.std.proofs.lemmas.Bool.{agree_below_at}
 use Rattle.std.proofs.lemmas.List.Concat.{flat_map-cons}
-use Rattle.dns_wire.specs.Hexadecimal.{IsWhitespace, Spells, Trimmed, is_whitespace, line, shown, spelled}
+use Rattle.dns_text.specs.Hexadecimal.{IsWhitespace, Spells, Trimmed, is_whitespace, line, shown, spelled}
 use Rattle.dns_wire.specs.Reading.{AreOctets}
-use Rattle.dns_wire.proofs.HexadecimalLemmas.{spelled-shown}
-use Rattle.dns_wire.proofs.Trimmed.{trims_one}
+use Rattle.dns_text.proofs.HexadecimalLemmas.{spelled-shown}
+use Rattle.dns_text.proofs.TrimLemmas.{trims_one}
 
 digit_solid : (n : ℕ) → n < 16 → is_whitespace (slice_index (codes "0123456789abcdef") n) ≡ false
 digit_solid n below = agree_below_at (λ (k : ℕ). is_whitespace (slice_index (codes "0123456789abcdef") k)) (λ (k : ℕ). false) 16 n refl below

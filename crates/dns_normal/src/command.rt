@@ -1,24 +1,23 @@
 //! The command `normal`.
 
-ghost use Rattle.std.specs.Prelude.{◌≡◌, true};
-ghost use Rattle.dns_text.specs.Endings.{Ran};
-ghost use Rattle.dns_text.specs.Outcomes.{note_of};
+ghost use Rattle.std.specs.Prelude.{◌≡◌, None, IfOk, IfErr, true};
+ghost use Rattle.dns_command.specs.Endings.{Ran};
+ghost use Rattle.dns_command.specs.Outcomes.{RefusesFor, note_of};
 ghost use Rattle.dns_normal.specs.Texts.{PrintsNormal, command_of, normal_limit, normal_note, normal_refusal, normal_rules, outcome_of};
 
-use crate::reader::TextReader;
-use crate::refusal::Refusal;
+use crate::message::read_normal_form;
+use crate::refusal::NormalRefusal;
 use crate::status::NormalStatus;
-use dns_text::{
-    Args, MESSAGE_TEXT_LIMIT, Notice, PrintError, TextCommand, hex_line, put_line, put_notice,
-    run_command,
+use dns_command::{
+    Notice, PrintError, PutError, TextCommand, TextReader, put_printed, run_command,
 };
-use dns_wire::{Failed, Sink, Source};
+use dns_text::{Args, MESSAGE_TEXT_LIMIT, Sink, Source, hex_line};
 use std::alloc::Global;
 use std::marker::Model;
 
-/// The command `normal`: prints the normal form of the message that a text of hexadecimal digits spells, as such digits, and LF.
+/// The command `normal`.
 #[derive(Drop)]
-pub struct Normal;
+struct Normal;
 
 impl Model for Normal {
     ghost use Rattle.std.specs.Prelude.{⊤};
@@ -28,8 +27,19 @@ impl Model for Normal {
     ghost view = { λ _. tt };
 }
 
+/// The normal form of the message that a text of hexadecimal digits spells, as such digits, and LF.
+fn print_normal(alloc: Global, text: &[u8]) -> Result<Vec<u8>, PrintError<NormalRefusal>>
+    ensures printed { IfOk result (λ printed. PrintsNormal tt text.now printed.items) }
+    ensures accepted { IfOk result (λ _. normal_refusal tt text.now ≡ None) }
+    ensures refused { IfErr result (RefusesFor (normal_refusal tt text.now)) }
+{
+    let form = read_normal_form(alloc, &mut TextReader::new(alloc), text)?;
+    let printed = hex_line(alloc, &form)?;
+    Ok(printed)
+}
+
 impl TextCommand for Normal {
-    type Refusal = Refusal;
+    type Refusal = NormalRefusal;
 
     ghost reads = { λ command. true };
 
@@ -49,26 +59,17 @@ impl TextCommand for Normal {
         MESSAGE_TEXT_LIMIT
     }
 
-    fn print(&self, alloc: Global, text: &[u8]) -> Result<Vec<u8>, PrintError<Refusal>> {
-        let form = TextReader::new(alloc).read_normal_form(alloc, text)?;
-        let printed = hex_line(alloc, &form)?;
-        Ok(printed)
+    fn put<K: Sink>(
+        &self,
+        alloc: Global,
+        text: &[u8],
+        sink: &mut K,
+    ) -> Result<(), PutError<NormalRefusal>> {
+        put_printed(print_normal(alloc, text), sink)
     }
 
-    fn put_refusal<N: Sink>(refused: Refusal, notes: &mut N) -> Result<(), Failed> {
-        match refused {
-            Refusal::BadHex => put_notice(Notice::BadHex, notes),
-            Refusal::Short => put_notice(Notice::Short { message: 0 }, notes),
-            Refusal::Item { section, index } => put_notice(
-                Notice::Item {
-                    message: 0,
-                    section,
-                    index,
-                },
-                notes,
-            ),
-            Refusal::TooLarge => put_line(notes, b"too large", &[]),
-        }
+    fn notice(refused: NormalRefusal) -> Notice {
+        refused.notice()
     }
 }
 
@@ -95,5 +96,5 @@ pub fn run_normal<S: Source, K: Sink, N: Sink>(
     ensures { Ran S.Source K.Sink N.Sink normal_rules (note_of normal_note) (command_of args.now) source.old source.new sink.old sink.new notes.old notes.new (outcome_of result) }
 {
     let outcome = run_command(alloc, &command_of(args), source, sink, notes);
-    NormalStatus::of_outcome(outcome)
+    NormalStatus::from(outcome)
 }

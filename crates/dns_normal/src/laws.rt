@@ -2,7 +2,7 @@
 
 ghost use Rattle.std.specs.Prelude.{◌≡◌, ◌≤◌, ◌<◌, ◌↔◌, ℕ, List, [], ◌∷◌, Some, None, codes, length, IsTrue};
 ghost use Rattle.std.specs.List.{All};
-ghost use Rattle.dns_wire.specs.Hexadecimal.{Spells, SpellsNothing};
+ghost use Rattle.dns_text.specs.Hexadecimal.{Spells, SpellsNothing};
 ghost use Rattle.dns_wire.specs.Octets.{Octets};
 ghost use Rattle.dns_wire.specs.Reading.{AreOctets};
 ghost use Rattle.dns_message.specs.Messages.{BadAt, RecordValue, Valid};
@@ -10,13 +10,13 @@ ghost use Rattle.dns_message.specs.Order.{canonical_list};
 ghost use Rattle.dns_message.specs.Same.{Same};
 ghost use Rattle.dns_message.specs.WellFormed.{WellFormed};
 ghost use Rattle.dns_normal.specs.Normal.{normal_form};
-ghost use Rattle.dns_message.specs.Texts.{HasRecords};
+ghost use Rattle.dns_command.specs.Texts.{HasRecords};
 ghost use Rattle.dns_normal.specs.Texts.{PrintsNormal, command_of, normal_outcome, outcome_of};
 ghost use Rattle.dns_message.specs.declared.message.TheConstants.{MAX_MESSAGE_SIZE};
 ghost use Rattle.dns_text.specs.declared.transfer.TheConstants.{MESSAGE_TEXT_LIMIT};
 ghost use Rattle.dns_wire.specs.declared.sizes.TheConstants.{HEADER_SIZE};
 
-use crate::refusal::Refusal;
+use crate::refusal::NormalReason;
 use crate::status::NormalStatus;
 
 /// Lists of records that are the same have one normal form. If it is no more than 65,535 octets, other records have another one.
@@ -67,5 +67,5 @@ pub fn normal_statuses_in_words()
 /// Statuses are equal exactly if they are the same, and so are refusals.
 pub fn equal_statuses()
     ensures status { (a b : _) → IsTrue (⟦<NormalStatus as PartialEq>⟧.eq a b) ↔ (a ≡ b) }
-    ensures refusal { (a b : _) → IsTrue (⟦<Refusal as PartialEq>⟧.eq a b) ↔ (a ≡ b) }
+    ensures reason { (a b : _) → IsTrue (⟦<NormalReason as PartialEq>⟧.eq a b) ↔ (a ≡ b) }
 {}

@@ -1,28 +1,30 @@
 //! The normal form of a message.
 
-ghost use Rattle.std.specs.Prelude.{◌≡◌, ◌≤◌, ◌+◌, ℕ, min, List, ◌++◌, ◌∷◌, [], Option, Some, None, IfOk, IfErr, length, map};
-ghost use Rattle.std.specs.List.{concat};
-ghost use Rattle.dns_text.specs.Outcomes.{RefusesFor};
+ghost use Rattle.std.specs.Prelude.{◌≡◌, ◌≤◌, ◌+◌, ℕ, min, List, ◌++◌, ◌∷◌, [], None, IfOk, IfErr, length, map};
+ghost use Rattle.std.specs.List.{All, concat};
+ghost use Rattle.dns_command.specs.Outcomes.{RefusesFor};
 ghost use Rattle.dns_message.specs.Canonical.{canonical_wire, lowercase_names};
 ghost use Rattle.dns_message.specs.FormsRead.{forms_of};
-ghost use Rattle.dns_record.specs.FurtherFormats.{data_by};
-ghost use Rattle.dns_message.specs.Messages.{RecordValue, Valid, ValidBy, message_by, message_reading};
+ghost use Rattle.dns_message.specs.Messages.{RecordValue, Valid, message_reading};
 ghost use Rattle.dns_message.specs.Order.{octets_of_key};
 ghost use Rattle.dns_message.specs.WellFormed.{WellFormed};
 ghost use Rattle.dns_normal.specs.Answers.{AreRecordsOf, HasAnswers, HasAnswersIfFew, HaveRecords, IsRecordOf};
 ghost use Rattle.dns_normal.specs.Normal.{answers_message, normal_form};
-ghost use Rattle.dns_normal.specs.Texts.{form_refusal, reading_refusal, size_refusal};
+ghost use Rattle.dns_command.specs.Refusals.{reading_refusal};
+ghost use Rattle.dns_command.specs.Texts.{HasRecords};
+ghost use Rattle.dns_normal.specs.Texts.{form_refusal, normal_refusal, size_refusal};
 
-use crate::refusal::Refusal;
+use crate::refusal::{NormalReason, NormalRefusal};
+use dns_command::{OneMessage, PrintError, Refusal, TextReader, read_message};
 use dns_message::{
-    CanonError, CanonicalForm, CanonicalForms, CanonicalList, FormsReader, HeaderFlags,
-    MAX_MESSAGE_SIZE, MessageBuildError, MessageBuilder,
+    CanonicalForm, CanonicalForms, CanonicalList, HeaderFlags, MAX_MESSAGE_SIZE, MessageBuildError,
+    MessageBuilder,
 };
 use dns_name::Name;
 use dns_num::U16;
 use dns_rdata::RecordData;
-use dns_record::{Formats, Record};
-use dns_text::{PrintError, zeros};
+use dns_record::Record;
+use dns_text::zeros;
 use dns_wire::{HEADER_SIZE, NameCompressor, SplitBytes};
 use std::alloc::Global;
 
@@ -66,7 +68,10 @@ fn room_for(list: &CanonicalList<'_>) -> usize
 }
 
 /// The message that has these records as answers, lowercased, with names that are written once.
-fn answers_message(alloc: Global, list: &CanonicalList<'_>) -> Result<Vec<u8>, PrintError<Refusal>>
+fn answers_message(
+    alloc: Global,
+    list: &CanonicalList<'_>,
+) -> Result<Vec<u8>, PrintError<NormalRefusal>>
     requires { HaveRecords (map octets_of_key list.now) }
     ensures built { (rs : List RecordValue) → AreRecordsOf (map octets_of_key list.now) rs
         → IfOk result (λ octets. octets.items ≡ answers_message (map lowercase_names rs)) }
@@ -80,55 +85,46 @@ fn answers_message(alloc: Global, list: &CanonicalList<'_>) -> Result<Vec<u8>, P
     let (id, flags) = (U16::new(0), HeaderFlags::from_bits(0));
     let mut builder = MessageBuilder::new(&mut buffer, &mut compressor, id, flags);
     if push_records(&mut builder, list.forms()).is_err() {
-        return Err(PrintError::Refused(Refusal::TooLarge));
+        return Err(PrintError::Refused(Refusal::Own(NormalReason::TooLarge)));
     }
     let built = Vec::from_slice(alloc, builder.message().as_bytes())?;
     Ok(built)
 }
 
-/// The canonical forms of a message's records other than OPT, by these formats. `Refusal::Short` and `Refusal::Item` are those of a message
-/// that is not read whole.
-pub(crate) fn forms_in<'r>(
-    alloc: Global,
-    reader: &'r mut FormsReader,
-    message: &[u8],
-    formats: Formats,
-) -> Result<&'r CanonicalForms, PrintError<Refusal>>
-    ensures read { IfOk result (λ forms. (rs : List RecordValue) × ValidBy (data_by formats) message.now rs × (forms.now ≡ forms_of rs)) }
-    ensures refused { (refusal : List RecordValue → Option Refusal) → IfErr result (RefusesFor (reading_refusal refusal (message_by (data_by formats) message.now))) }
+/// The message that has the records of these forms as answers, lowercased and in canonical order, alike ones once.
+fn form_of(alloc: Global, forms: &CanonicalForms) -> Result<Vec<u8>, PrintError<NormalRefusal>>
+    requires { (rs : List RecordValue) × All WellFormed rs × (forms.now ≡ forms_of rs) }
+    ensures formed { (rs : List RecordValue) → All WellFormed rs → forms.now ≡ forms_of rs → IfOk result (λ form. form.items ≡ normal_form rs) }
+    ensures accepted { (rs : List RecordValue) → All WellFormed rs → forms.now ≡ forms_of rs → IfOk result (λ _. form_refusal rs ≡ None) }
+    ensures refused { (rs : List RecordValue) → All WellFormed rs → forms.now ≡ forms_of rs → IfErr result (RefusesFor (form_refusal rs)) }
 {
-    match reader.read_by(alloc, message, formats) {
-        Ok(forms) => Ok(forms),
-        Err(CanonError::Short) => Err(PrintError::Refused(Refusal::Short)),
-        Err(CanonError::Item { section, index }) => {
-            Err(PrintError::Refused(Refusal::Item { section, index }))
-        }
-        Err(CanonError::Memory) => Err(PrintError::Memory),
-    }
-}
-
-/// The normal form of a message, as `normal_form` has it.
-pub(crate) fn read_normal_form(
-    alloc: Global,
-    reader: &mut FormsReader,
-    message: &[u8],
-) -> Result<Vec<u8>, PrintError<Refusal>>
-    ensures formed { IfOk result (λ form. (rs : List RecordValue) × Valid message.now rs × (form.items ≡ normal_form rs)) }
-    ensures accepted { IfOk result (λ _. reading_refusal form_refusal (message_reading message.now) ≡ None) }
-    ensures refused { IfErr result (RefusesFor (reading_refusal form_refusal (message_reading message.now))) }
-{
-    let forms = forms_in(alloc, reader, message, Formats::Usual)?;
     let order = forms.collapsed(alloc)?;
     answers_message(alloc, &order)
 }
 
 /// The normal form of a message: a message with its records other than OPT in canonical order, alike ones once, as answers whose names are
 /// in lowercase where canonical form has them so, and are written once (RFC 4034 section 6, RFC 1035 section 4.1.4). At most 65,535 octets;
-/// a longer one is `Refusal::TooLarge`, and `Refusal::Short` and `Refusal::Item` are those of a message that is not valid.
-pub fn normal_form(alloc: Global, message: &[u8]) -> Result<Vec<u8>, PrintError<Refusal>>
+/// a longer one is `NormalReason::TooLarge`, and `Refusal::Short` and `Refusal::Item` are those of a message that is not valid.
+pub fn normal_form(alloc: Global, message: &[u8]) -> Result<Vec<u8>, PrintError<NormalRefusal>>
     ensures formed { IfOk result (λ form. (rs : List RecordValue) × Valid message.now rs × (form.items ≡ normal_form rs)) }
-    ensures accepted { IfOk result (λ _. reading_refusal form_refusal (message_reading message.now) ≡ None) }
-    ensures refused { IfErr result (RefusesFor (reading_refusal form_refusal (message_reading message.now))) }
+    ensures accepted { IfOk result (λ _. reading_refusal (record {}) form_refusal (message_reading message.now) ≡ None) }
+    ensures refused { IfErr result (RefusesFor (reading_refusal (record {}) form_refusal (message_reading message.now))) }
 {
-    read_normal_form(alloc, &mut FormsReader::new(alloc), message)
+    let forms = read_message(alloc, message, OneMessage)?;
+    form_of(alloc, &forms)
+}
+
+/// The normal form of the message that a text spells, as `normal_form` has it. `Refusal::BadHex` is that of a text that is not pairs of
+/// hexadecimal digits.
+pub fn read_normal_form(
+    alloc: Global,
+    reader: &mut TextReader,
+    text: &[u8],
+) -> Result<Vec<u8>, PrintError<NormalRefusal>>
+    ensures formed { IfOk result (λ form. (rs : List RecordValue) × HasRecords text.now rs × (form.items ≡ normal_form rs)) }
+    ensures accepted { IfOk result (λ _. normal_refusal tt text.now ≡ None) }
+    ensures refused { IfErr result (RefusesFor (normal_refusal tt text.now)) }
+{
+    let forms = reader.read_forms(alloc, text, OneMessage)?;
+    form_of(alloc, forms)
 }

@@ -1,15 +1,25 @@
 //! Why a text has no normal form that is printed.
 
-/// Why a text has no normal form that is printed.
+use dns_command::{OneMessage, Reason, Refusal};
+
+/// Why a valid message has no normal form.
 #[derive(Clone, Copy, Debug, PartialEq, Eq)]
-pub enum Refusal {
-    /// The text is not pairs of hexadecimal digits.
-    BadHex,
-    /// The message has fewer than 12 octets.
-    Short,
-    /// This item is the first of the message that can't be read. Sections are numbered 0 to 3 (question,
-    /// answer, authority, additional), and items from 0 in each.
-    Item { section: u8, index: u16 },
+pub enum NormalReason {
     /// The normal form has more than 65,535 octets.
     TooLarge,
 }
+
+impl Reason for NormalReason {
+    ghost use Rattle.dns_normal.specs.Texts.{reason_words};
+
+    ghost words = { reason_words };
+
+    fn words(&self) -> &'static str {
+        match self {
+            NormalReason::TooLarge => "too large",
+        }
+    }
+}
+
+/// Why a text has no normal form that is printed.
+pub type NormalRefusal = Refusal<OneMessage, NormalReason>;

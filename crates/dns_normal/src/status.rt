@@ -1,7 +1,7 @@
 //! How `normal` ends.
 
-use crate::refusal::Refusal;
-use dns_text::Outcome;
+use crate::refusal::{NormalReason, NormalRefusal};
+use dns_command::{Outcome, Refusal};
 
 /// How `normal` ends.
 #[derive(Clone, Copy, Debug, PartialEq, Eq)]
@@ -29,36 +29,46 @@ pub enum NormalStatus {
     TooLarge,
 }
 
-impl NormalStatus {
+/// The status of a text that is refused.
+impl From<NormalRefusal> for NormalStatus {
     ghost use Rattle.std.specs.Prelude.{◌≡◌};
-    ghost use Rattle.dns_normal.specs.Texts.{code_of, outcome_of};
+    ghost use Rattle.dns_command.specs.declared.outcome.Outcome.TheVariants.{Refused};
+    ghost use Rattle.dns_normal.specs.Texts.{outcome_of};
 
-    /// The status of a text that is refused.
-    fn of_refusal(refusal: Refusal) -> NormalStatus
-        ensures { outcome_of result ≡ Outcome.Refused refusal }
-    {
+    ghost from_gives = { λ refusal status. outcome_of status ≡ Refused refusal };
+
+    fn from(refusal: NormalRefusal) -> NormalStatus {
         match refusal {
             Refusal::BadHex => NormalStatus::BadHex,
-            Refusal::Short => NormalStatus::Short,
-            Refusal::Item { section, index } => NormalStatus::Item { section, index },
-            Refusal::TooLarge => NormalStatus::TooLarge,
+            Refusal::Short { .. } => NormalStatus::Short,
+            Refusal::Item { section, index, .. } => NormalStatus::Item { section, index },
+            Refusal::Own(NormalReason::TooLarge) => NormalStatus::TooLarge,
         }
     }
+}
 
-    /// The status that an outcome is.
-    pub(crate) fn of_outcome(outcome: Outcome<Refusal>) -> NormalStatus
-        ensures { outcome_of result ≡ outcome }
-    {
+impl From<Outcome<NormalRefusal>> for NormalStatus {
+    ghost use Rattle.std.specs.Prelude.{◌≡◌};
+    ghost use Rattle.dns_normal.specs.Texts.{outcome_of};
+
+    ghost from_gives = { λ outcome status. outcome_of status ≡ outcome };
+
+    fn from(outcome: Outcome<NormalRefusal>) -> NormalStatus {
         match outcome {
             Outcome::Done => NormalStatus::Done,
             Outcome::Usage => NormalStatus::Usage,
             Outcome::TooLong => NormalStatus::TooLong,
-            Outcome::Refused(refusal) => NormalStatus::of_refusal(refusal),
+            Outcome::Refused(refusal) => NormalStatus::from(refusal),
             Outcome::ReadFault => NormalStatus::ReadFault,
             Outcome::WriteFault => NormalStatus::WriteFault,
             Outcome::Memory => NormalStatus::Memory,
         }
     }
+}
+
+impl NormalStatus {
+    ghost use Rattle.std.specs.Prelude.{◌≡◌};
+    ghost use Rattle.dns_normal.specs.Texts.{code_of};
 
     /// The code that a process ends with: those of `run` for the same statuses, and 11.
     pub fn code(&self) -> u8

@@ -2,7 +2,7 @@
 
 use crate::fields::words_of;
 use crate::libraries::{Library, ending_of};
-use dns_wire::{TextSink, TextSource};
+use dns_text::{TextSink, TextSource};
 use std::alloc::{AllocError, Global};
 use std::io;
 

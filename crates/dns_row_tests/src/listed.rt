@@ -1,10 +1,11 @@
 //! Rows of the digests of zones by the types of RFC 4034 section 6.2.
 
 use crate::fields::Row;
+use dns_command::PrintError;
 use dns_name::RevNameBuf;
 use dns_record::Formats;
-use dns_text::{PrintError, octets_of};
-use dns_zone::{Refusal, ZoneDigest, zone_digest_by};
+use dns_text::octets_of;
+use dns_zone::{ZoneDigest, ZoneRefusal, zone_digest_by};
 use std::alloc::Global;
 use std::io;
 
@@ -13,10 +14,8 @@ fn listed_digest(
     alloc: Global,
     apex: &RevNameBuf,
     text: &str,
-) -> Result<ZoneDigest, PrintError<Refusal>> {
-    let Ok(message) = octets_of(alloc, text.as_bytes()) else {
-        return Err(PrintError::Refused(Refusal::BadHex));
-    };
+) -> Result<ZoneDigest, PrintError<ZoneRefusal>> {
+    let message = octets_of(alloc, text.as_bytes())?;
     zone_digest_by(alloc, &[&message], apex, Formats::Listed)
 }
 

@@ -1,8 +1,7 @@
 //! Rows of the calls of `dns_text`.
 
 use crate::fields::{Row, number_of, words_of};
-use dns_text::{Args, octets_of, read_text};
-use dns_wire::PlainSource;
+use dns_text::{Args, PlainSource, octets_of, read_text};
 use std::alloc::Global;
 use std::io;
 

@@ -3,7 +3,7 @@ use Rattle.std.proofs.Common.{◌≡◌, ℕ, ◌+◌, ◌*◌, ◌%◌, List, [
 use Rattle.std.specs.Prelude.{MatchResult, Result, Ok, Err}
 use Rattle.hex.specs.Hex.{digit_or_error, decode_pairs, ◌>>=◌}
 use Rattle.hex.specs.declared.error.FromHexError.{FromHexError}
-use Rattle.dns_wire.specs.Hexadecimal.{digit_value, pair_before, spelled}
+use Rattle.dns_text.specs.Hexadecimal.{digit_value, pair_before, spelled}
 
 pair_none : (high low : Option ℕ) → pair_before high low None ≡ None
 pair_none (Some h) (Some l) = refl

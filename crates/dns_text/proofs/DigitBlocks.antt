@@ -10,7 +10,7 @@ use lib.Lanes.{Each1, chunk, mask_l, pick_l, put_chunk, top}
 use Rattle.hex.specs.Hex.{decode_pairs, decode_sized}
 use Rattle.hex.specs.declared.error.FromHexError.{FromHexError}
 use Rattle.hex.proofs.Pairs.{decode_sized-pairs}
-use Rattle.dns_wire.specs.Hexadecimal.{digit_value, spelled, pair_before}
+use Rattle.dns_text.specs.Hexadecimal.{digit_value, spelled, pair_before}
 use Rattle.dns_text.specs.Digits.{value_before, digit_values}
 use Rattle.dns_text.proofs.Decoding.{decoded}
 use Rattle.dns_text.proofs.Lanes.{below, full_mask, less, more}

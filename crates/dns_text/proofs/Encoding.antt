@@ -3,7 +3,7 @@ use Rattle.std.proofs.Common.{◌≡◌, ℕ, ◌*◌, List, [], ◌∷◌, leng
 use Rattle.std.specs.Prelude.{flat_map}
 use Rattle.std.proofs.lemmas.List.Concat.{flat_map-cons}
 use Rattle.hex.specs.Hex.{encode_lower, encode_with}
-use Rattle.dns_wire.specs.Hexadecimal.{shown}
+use Rattle.dns_text.specs.Hexadecimal.{shown}
 
 -- what is encoded is what is shown
 pub encoded : (octets : List ℕ) → encode_lower octets ≡ flat_map shown octets

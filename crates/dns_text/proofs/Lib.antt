@@ -7,3 +7,5 @@ mod ShownBlocks
 pub mod Transfers
 mod Trimming
 pub mod WordLemmas
+pub mod HexadecimalLemmas
+pub mod TrimLemmas

@@ -7,7 +7,7 @@ use Rattle.std.proofs.Math.Seq.{take-add, take-append_seam}
 use Rattle.std.proofs.lemmas.Grind.{flat_map-append}
 use Rattle.std.proofs.lemmas.Simd.{below_from_Fits, length-chunk, length-put_chunk, pick_l_whole, take_more_put_chunk, Each1-get_or}
 use lib.Lanes.{Each1, chunk, pick_l, put_chunk, top}
-use Rattle.dns_wire.specs.Hexadecimal.{shown}
+use Rattle.dns_text.specs.Hexadecimal.{shown}
 use Rattle.dns_text.proofs.Encoding.{shown_long}
 use Rattle.dns_wire.proofs.Lanes.{at_each}
 use Rattle.dns_text.proofs.Lanes.{below, more}

@@ -1,18 +1,15 @@
 -- What several writes do together.
-use Rattle.std.proofs.Common.{◌≡◌, ℕ, ◌+◌, ◌-◌, length, length-take, length-drop, length-append, arith, Result, Err, suc, [], ◌∷◌, ◌<◌, ◌≤◌, ap, ◌∙◌, get_or, flat_map, take-append-drop, append_assoc, drop-cons, take_all, List, ◌++◌, Bool, take, drop, Some, None, IfSome, Ok, sym, subst, refl}
+use Rattle.std.proofs.Common.{◌≡◌, ℕ, ◌+◌, ◌-◌, length, length-take, length-drop, length-append, arith, Result, Err, ◌≤◌, take_all, List, ◌++◌, Bool, take, drop, Some, None, IfSome, Ok, sym, subst, refl}
 use Rattle.std.specs.Prelude.{IsSome}
 use Rattle.std.specs.declared.option.Option.{Option}
 use Rattle.std.proofs.KnownBytes.{Appends-trans, Consumes-trans}
 use Rattle.std.proofs.Math.Seq.{take-add, take-append-add}
 use Rattle.std.proofs.lemmas.List.{take-append-le}
-use Rattle.std.proofs.lemmas.List.Concat.{flat_map-cons}
-use Rattle.std.proofs.lemmas.Grind.{flat_map-append}
-use Rattle.dns_wire.specs.Outside.{WritesPrefix, Puts}
-use Rattle.dns_text.specs.Notes.{spaced, note_line}
+use Rattle.dns_text.specs.Outside.{WritesPrefix, Puts}
 use Rattle.dns_text.specs.Taken.{TakesAtMost}
 use Rattle.std.specs.Io.KnownBytes.{Appends, Consumes}
-use Rattle.dns_wire.specs.Outside.{WriteFlag}
-use Rattle.dns_wire.specs.declared.io.traits.Failed.{Failed}
+use Rattle.dns_text.specs.Outside.{WriteFlag}
+use Rattle.dns_text.specs.declared.io.traits.Failed.{Failed}
 
 -- the rest of a text from i on, as a slice gives it
 rest_of : (text : List ℕ) (i : ℕ) → take (length text - i) (drop i text) ≡ drop i text
@@ -51,30 +48,6 @@ prefix_after a b c x y h j =
 pub puts_after : (a b c : Option (List ℕ)) (x y : List ℕ) (r : Result (Unit {0}) Failed) → Appends a b x → Puts b c y r → Puts a c (x ++ y) r
 puts_after a b c x y (Ok u) h j = Appends-trans a b c x y h j
 puts_after a b c x y (Err e) h j = prefix_after a b c x y h j
-
--- the numbers, around the one at i
-numbers_around : (nums : List ℕ) (i : ℕ) → i < length nums
-    → flat_map spaced nums ≡ flat_map spaced (take i nums) ++ (spaced (get_or nums i 0) ++ flat_map spaced (drop (suc i) nums))
-numbers_around nums i lt =
-    ap (flat_map spaced) (sym (take-append-drop i nums)) ∙ flat_map-append spaced (take i nums) (drop i nums)
-    ∙ ap (λ (l : List ℕ). flat_map spaced (take i nums) ++ l) (ap (flat_map spaced) (drop-cons nums i 0 lt) ∙ flat_map-cons spaced (get_or nums i 0) (drop (suc i) nums))
-
--- a line that stops at a number
-pub prefix_line : (a b c : Option (List ℕ)) (word nums : List ℕ) (i : ℕ) → i < length nums → Appends a b (word ++ flat_map spaced (take i nums))
-    → WritesPrefix b c (spaced (get_or nums i 0)) → WritesPrefix a c (note_line word nums)
-prefix_line a b c word nums i lt h j =
-    let rest = flat_map spaced (drop (suc i) nums) ++ 10 ∷ [] in
-    let whole : (word ++ flat_map spaced (take i nums)) ++ (spaced (get_or nums i 0) ++ rest) ≡ note_line word nums =
-    simp (append_assoc, numbers_around nums i lt) in
-    subst (WritesPrefix a c) whole (prefix_after a b c _ _ h (prefix_longer b c (spaced (get_or nums i 0)) rest j))
-
--- a line to its end
-pub puts_line : (a b c : Option (List ℕ)) (word nums : List ℕ) (i : ℕ) (r : Result (Unit {0}) Failed) → length nums ≤ i → Appends a b (word ++ flat_map spaced (take i nums))
-    → Puts b c (10 ∷ []) r → Puts a c (note_line word nums) r
-puts_line a b c word nums i r le h j =
-    let whole : (word ++ flat_map spaced (take i nums)) ++ 10 ∷ [] ≡ note_line word nums =
-    ap (λ (l : List ℕ). (word ++ flat_map spaced l) ++ 10 ∷ []) (take_all i nums le) ∙ append_assoc word (flat_map spaced nums) (10 ∷ []) in
-    subst (λ (l : List ℕ). Puts a c l r) whole (puts_after a b c _ _ r h j)
 
 -- what was written is a prefix, at `Ok` the whole
 pub prefix_of_puts : (a b : Option (List ℕ)) (x : List ℕ) (r : Result (Unit {0}) Failed) → Puts a b x r → WritesPrefix a b x

@@ -1,7 +1,7 @@
 -- Trimming from the end.
 use Rattle.std.proofs.Common.{◌≡◌, ℕ, ◌+◌, ◌-◌, ◌<◌, ◌≤◌, List, [], ◌∷◌, ◌++◌, true, false, get_or, take, refl, sym, ap, ◌∙◌, arith, length, zero, suc}
 use Rattle.std.proofs.lemmas.List.{take_more}
-use Rattle.dns_wire.specs.Hexadecimal.{trim, trim_cons, is_whitespace}
+use Rattle.dns_text.specs.Hexadecimal.{trim, trim_cons, is_whitespace}
 
 -- whitespace at the end is left out
 trim-blank : (xs : List ℕ) (b : ℕ) → is_whitespace b ≡ true → trim (xs ++ b ∷ []) ≡ trim xs

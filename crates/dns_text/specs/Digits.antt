@@ -1,7 +1,7 @@
 -- The values of hexadecimal digits.
 use Rattle.std.specs.Prelude.{ℕ, [], ◌∷◌, Option, Some, None}
 use Rattle.dns_wire.specs.Octets.{Octets}
-use Rattle.dns_wire.specs.Hexadecimal.{digit_value}
+use Rattle.dns_text.specs.Hexadecimal.{digit_value}
 
 -- the value of a digit, before the values of those after it
 abbrev pub value_before : Option ℕ → Option Octets → Option Octets

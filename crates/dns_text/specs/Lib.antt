@@ -1,8 +1,8 @@
--- What the contracts of whole texts cite.
+-- What the contracts of sources, sinks and whole texts cite.
+pub mod Devices
 pub mod Digits
-pub mod Endings
-pub mod Notes
-pub mod Outcomes
+pub mod Hexadecimal
+pub mod Outside
 pub mod Spelled
 pub mod Taken
 pub mod Words

@@ -1,7 +1,7 @@
 -- The octets that several texts spell.
 use Rattle.std.specs.Prelude.{List, [], ◌∷◌, Option, Some}
 use Rattle.dns_wire.specs.Octets.{Octets}
-use Rattle.dns_wire.specs.Hexadecimal.{spelled, trim}
+use Rattle.dns_text.specs.Hexadecimal.{spelled, trim}
 use Rattle.dns_wire.specs.Steps.{◌>>=◌}
 
 -- the octets that each text spells; `None` if one of them spells none

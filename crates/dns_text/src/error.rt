@@ -2,7 +2,7 @@
 
 ghost use Rattle.std.specs.Prelude.{◌≡◌};
 
-use dns_wire::Failed;
+use crate::io::traits::Failed;
 use std::alloc::AllocError;
 
 /// Why a text was not read.

@@ -1,7 +1,7 @@
 //! Octets as hexadecimal text (RFC 4648 section 8).
 
 ghost use Rattle.std.specs.Prelude.{◌≡◌, ◌+◌, ◌*◌, ◌++◌, length, IfOk, OnOk, OnErr, IsErrOf};
-ghost use Rattle.dns_wire.specs.Hexadecimal.{Spells, SpellsNothing, line, trim, is_whitespace};
+ghost use Rattle.dns_text.specs.Hexadecimal.{Spells, SpellsNothing, line, trim, is_whitespace};
 
 use crate::buffer::zeros;
 use crate::error::HexError;
@@ -56,7 +56,7 @@ pub fn octets_of(alloc: Global, text: &[u8]) -> Result<Vec<u8>, HexError>
 }
 
 /// Puts the digits of octets in lowercase, and LF, into the text.
-fn put_hex_line(octets: &[u8], text: &mut [u8])
+pub fn put_hex_line(octets: &[u8], text: &mut [u8])
     requires { length text.old ≡ 2 * length octets.now + 1 }
     ensures { text.new ≡ line octets.now }
 {

@@ -1,7 +1,7 @@
 //! The octets that hexadecimal digits spell, by blocks of sixteen octets (RFC 4648 section 8).
 
 ghost use Rattle.std.specs.Prelude.{◌≡◌, ◌*◌, ◌++◌, length, Some, None, MatchBool};
-ghost use Rattle.dns_wire.specs.Hexadecimal.{spelled};
+ghost use Rattle.dns_text.specs.Hexadecimal.{spelled};
 ghost use Rattle.dns_text.specs.Digits.{digit_values};
 
 use std::simd::prelude::*;

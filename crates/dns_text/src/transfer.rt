@@ -1,13 +1,11 @@
 //! Whole texts, in and out.
 
 ghost use Rattle.std.specs.Prelude.{◌≡◌, ◌≢◌, ◌+◌, ◌<◌, ◌≤◌, length, Err, true, OnOk, IfOk, IfSome, IsErrOf, IsSome, vec_len};
-ghost use Rattle.dns_wire.specs.Outside.{Rose, HasCause, BecomesFlag, ReadsAll, Puts};
-ghost use Rattle.dns_text.specs.Notes.{spaced, note_line};
+ghost use Rattle.dns_text.specs.Outside.{Rose, HasCause, BecomesFlag, ReadsAll, Puts};
 ghost use Rattle.dns_text.specs.Taken.{TakesAtMost};
 
 use crate::error::TextError;
-use dns_wire::{Failed, Sink, Source};
-use itoa::Buffer;
+use crate::io::traits::{Failed, Sink, Source};
 use std::alloc::Global;
 
 /// The most octets that one read gives.
@@ -64,26 +62,4 @@ pub fn put_text<K: Sink>(sink: &mut K, text: &[u8]) -> Result<(), Failed>
 {
     put_all(sink, text)?;
     sink.flush()
-}
-
-/// Writes a space, and the number in decimal digits.
-fn put_number<K: Sink>(sink: &mut K, number: u32) -> Result<(), Failed>
-    ensures puts { Puts (K.written sink.old) (K.written sink.new) (spaced number) result }
-    ensures cause { HasCause (K.faults sink.old) (K.faults sink.new) result }
-{
-    let mut buffer = Buffer::new();
-    put_all(sink, b" ")?;
-    put_all(sink, buffer.format(number).as_bytes())
-}
-
-/// Writes a word, the numbers in decimal digits after it, and LF. It takes no memory.
-pub fn put_line<K: Sink>(sink: &mut K, word: &[u8], numbers: &[u32]) -> Result<(), Failed>
-    ensures puts { Puts (K.written sink.old) (K.written sink.new) (note_line word.now numbers.now) result }
-    ensures cause { HasCause (K.faults sink.old) (K.faults sink.new) result }
-{
-    put_all(sink, word)?;
-    for number in numbers {
-        put_number(sink, *number)?;
-    }
-    put_all(sink, b"\n")
 }

@@ -1,7 +1,7 @@
 //! The hexadecimal digits of octets, by blocks of sixteen octets (RFC 4648 section 8).
 
 ghost use Rattle.std.specs.Prelude.{◌≡◌, ◌≤◌, ◌<◌, ◌+◌, ◌*◌, length, map, take, drop, codes, slice_index, flat_map, All};
-ghost use Rattle.dns_wire.specs.Hexadecimal.{shown};
+ghost use Rattle.dns_text.specs.Hexadecimal.{shown};
 
 use crate::read_digits::BLOCK;
 use std::simd::prelude::*;

@@ -10,7 +10,7 @@ use Rattle.dns_wire.specs.Names.{labels_wire, wire, IsLabel, IsName, lowered}
 use Rattle.dns_wire.specs.Reversed.{relative_name, relative_labels, reversed_wire, reversed_name, reversed_name_labels}
 use Rattle.dns_wire.proofs.Spelled.{chosen, name_octets, labels_of_wire}
 use Rattle.dns_wire.proofs.Lowered.{lower_wire}
-use Rattle.dns_wire.proofs.Walk.{AllByRecursion-append, labels_wire-append, labels_wire_long, wire_long}
+use Rattle.dns_wire.proofs.Walk.{AllByRecursion-append, labels_wire-append, wire_long}
 
 -- ---- labels the other way
 
@@ -154,9 +154,6 @@ reversed_size bytes labels e =
 pub root_alone : (labels : List (List ℕ)) → length (wire labels) ≡ 1 → labels ≡ []
 root_alone [] e = refl
 root_alone (label ∷ labels) e = absurd (omega (arith, e, wire_long (label ∷ labels)))
-
-pub relative_few : (bytes : List ℕ) (labels : List (List ℕ)) → relative_name bytes ≡ Some labels → length labels ≤ 255
-relative_few bytes labels e = let t = relative_is bytes labels e in omega (arith, t.0.size, wire_long labels, labels_wire_long labels)
 
 -- ---- lowercase letters
 

@@ -5,7 +5,6 @@ pub mod AlikeLabels
 pub mod Backward
 pub mod Cells
 pub mod Cutting
-pub mod HexadecimalLemmas
 pub mod Following
 pub mod LabelEnds
 pub mod Lanes
@@ -27,7 +26,6 @@ pub mod StorageLemmas
 pub mod Successive
 pub mod CompressionLemmas
 pub mod ResultLemmas
-pub mod Trimmed
 pub mod Reversing
 pub mod Utf8
 pub mod Walk

@@ -7,7 +7,7 @@ use Rattle.std.specs.Char.{to_ascii_lowercase}
 use Rattle.std.specs.Str.{str_eq_ignore_ascii_case}
 use Rattle.std.specs.Cmp.Lexicographic.{bytes_decides}
 use Rattle.std.proofs.lemmas.Bool.{le-leb, lt-leb}
-use Rattle.std.proofs.lemmas.List.{length-append, length-take, length-drop, length-map, map_more, get_or-map, take-append-drop}
+use Rattle.std.proofs.lemmas.List.{length-append, length-take, length-drop, get_or-map, take-append-drop}
 use Rattle.std.proofs.Math.Seq.{drop-cons}
 use Rattle.dns_wire.specs.Reading.{all_of}
 use Rattle.dns_wire.specs.declared.name_cursor.LabelType.{LabelType}
@@ -141,16 +141,9 @@ unequal a b differ = by (str_eq_ignore_ascii_case a b) refl where
   by true e = absurd (differ ((bytes_decides (lowercase a) (lowercase b)).0 e))
   by false e = e
 
-pub other_size : (a b : List ℕ) → (length a ≡ length b → ⊥) → false ≡ str_eq_ignore_ascii_case a b
-other_size a b differ = sym (unequal a b (λ e. differ (sym (length-map a to_ascii_lowercase) ∙ ap length e ∙ length-map b to_ascii_lowercase)))
-
 pub other_octet : (a b : List ℕ) (at : ℕ) → length a ≡ length b → at < length a → (to_ascii_lowercase (get_or a at 0) ≡ to_ascii_lowercase (get_or b at 0) → ⊥) → false ≡ str_eq_ignore_ascii_case a b
 other_octet a b at long within differ =
     sym (unequal a b (λ e. differ (sym (get_or-map to_ascii_lowercase a at 0 0 within) ∙ ap (λ (l : List ℕ). get_or l at 0) e ∙ get_or-map to_ascii_lowercase b at 0 0 (omega (arith, long)))))
-
-pub one_octet_more : (a b : List ℕ) (at : ℕ) → length a ≡ length b → at < length a → lowercase (take at a) ≡ lowercase (take at b) → to_ascii_lowercase (get_or a at 0) ≡ to_ascii_lowercase (get_or b at 0) → lowercase (take (at + 1) a) ≡ lowercase (take (at + 1) b)
-one_octet_more a b at long within e same =
-    map_more to_ascii_lowercase a at 0 within ∙ rw (e, same) refl ∙ sym (map_more to_ascii_lowercase b at 0 (omega (arith, long)))
 
 pub all_octets : (a b : List ℕ) (at : ℕ) → length a ≡ length b → length a ≤ at → lowercase (take at a) ≡ lowercase (take at b) → true ≡ str_eq_ignore_ascii_case a b
 all_octets a b at long past e =

@@ -5,7 +5,7 @@ use Rattle.std.specs.List.{AllByRecursion}
 use Rattle.std.proofs.lemmas.Bool.Decides.{nat_tests}
 use Rattle.std.proofs.lemmas.List.{length-append, length-take, take-append-le, take_all, take-append-drop, append-nil}
 use Rattle.std.proofs.Math.Seq.{take-append-add}
-use Rattle.dns_wire.specs.Compression.{Run, RunAt, ArePlaces, FitsIn, Grows, is_label_size, label_places, is_within_reach, with_more, recorded}
+use Rattle.dns_wire.specs.Compression.{Run, RunAt, FitsIn, Grows, is_label_size, label_places, is_within_reach, with_more, recorded}
 use Rattle.dns_wire.specs.declared.sizes.TheConstants.{LAST_PLACE}
 use Rattle.dns_wire.proofs.RisingPlaces.{Rises, all_take, all_append, all_map, rises_take, places_more}
 use Rattle.dns_wire.proofs.RunLemmas.{run_within, run_next, run_wider, runs_wider, runs_before, fits_more}
@@ -81,9 +81,6 @@ more_high now place few high =
 
 pub more_full : (now others : List ℕ) → length now ≡ 128 → now ≡ with_more now others
 more_full now others full = sym (take-append-le 128 now (filter is_within_reach others) (omega arith) ∙ take_all 128 now (omega arith))
-
-pub records_places : (now : List ℕ) (place : ℕ) → ArePlaces now → AllByRecursion (λ recorded. recorded < place) now → length now < 128 → place ≤ LAST_PLACE → ArePlaces (now ++ place ∷ [])
-records_places now place are below few low = places_more now (place ∷ []) place are below (omega arith, tt) (low, tt) (omega (arith, length-append now (place ∷ [])))
 
 filter_both : (at : ℕ) (others : List ℕ) → filter is_within_reach (at ∷ others) ≡ filter is_within_reach (at ∷ []) ++ filter is_within_reach others
 filter_both at others = filter_step at others (is_within_reach at) refl ∙ by (is_within_reach at) ∙ ap (λ (l : List ℕ). l ++ filter is_within_reach others) (sym (filter_step at [] (is_within_reach at) refl)) where

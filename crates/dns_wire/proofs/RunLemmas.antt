@@ -1,8 +1,8 @@
 -- Places that lead to names, as the contents and the list of places grow.
-use Rattle.std.proofs.Common.{◌≡◌, ℕ, ◌+◌, ◌<◌, ◌≤◌, inl, inr, List, [], ◌∷◌, ◌++◌, length, take, drop, sym, ap, subst, ◌∙◌, arith}
+use Rattle.std.proofs.Common.{◌≡◌, ℕ, ◌+◌, ◌<◌, ◌≤◌, inl, inr, List, [], ◌∷◌, ◌++◌, length, take, drop, sym, subst, ◌∙◌, arith}
 use Rattle.std.specs.Prelude.{slice_index}
 use Rattle.std.specs.List.{AllByRecursion}
-use Rattle.std.proofs.lemmas.List.{length-append, take-append-drop, take-take}
+use Rattle.std.proofs.lemmas.List.{length-append, take-append-drop}
 use Rattle.std.proofs.lemmas.List.Elements.{Contains-append_left, Contains-append_cases, All-contains, All-from_recursion}
 use Rattle.dns_wire.specs.Compression.{Run, RunAt, FitsIn}
 use Rattle.dns_wire.specs.Compression.Run.{run_root, run_label, run_pointer}
@@ -90,14 +90,3 @@ fits_prefix contents prefix back fits =
 -- pointers of the places that stay lead to places that stay
 pub fits_take : (contents places : List ℕ) (n : ℕ) → FitsIn places contents → FitsIn (take n places) contents
 fits_take contents places n fits = fits_prefix contents (take n places) (drop n places) (subst (λ (k : List ℕ). FitsIn k contents) (sym (take-append-drop n places)) fits)
-
--- and so do octets between the end and a later place
-pub fits_later : (contents places : List ℕ) (end later : ℕ) → end ≤ later → FitsIn places (take end contents) → FitsIn places (take later contents)
-fits_later contents places end later h fits =
-    let parts : take end contents ++ drop end (take later contents) ≡ take later contents =
-    ap (λ (l : List ℕ). l ++ drop end (take later contents)) (sym (take-take end later contents h)) ∙ take-append-drop end (take later contents) in
-    subst (FitsIn places) parts (fits_more (take end contents) (drop end (take later contents)) places fits)
-
--- no places fit everything
-pub fits_none : (places contents : List ℕ) → places ≡ [] → FitsIn places contents
-fits_none places contents none = rw none (record { places_are = record { rising = λ k within. absurd (omega arith); few = omega arith; low = tt }; runs = tt })

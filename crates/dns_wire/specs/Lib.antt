@@ -2,14 +2,11 @@
 pub mod Agreement
 pub mod Building
 pub mod Compression
-pub mod Devices
-pub mod Hexadecimal
 pub mod InMessage
 pub mod ReadingLemmas
 pub mod Lists
 pub mod Names
 pub mod Octets
-pub mod Outside
 pub mod Layout
 pub mod Pointers
 pub mod Reading

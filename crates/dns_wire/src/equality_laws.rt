@@ -3,7 +3,6 @@
 ghost use Rattle.std.specs.Prelude.{◌≡◌, ◌↔◌, [], IsTrue};
 
 use crate::error::{ParseError, TruncationError};
-use crate::io::traits::Failed;
 use crate::list::ListError;
 use std::hash::Hash;
 
@@ -12,7 +11,6 @@ pub fn equal_errors()
     ensures parse { (a b : _) → IsTrue (⟦<ParseError as PartialEq>⟧.eq a b) ↔ (a ≡ b) }
     ensures truncation { (a b : _) → IsTrue (⟦<TruncationError as PartialEq>⟧.eq a b) ↔ (a ≡ b) }
     ensures list { (a b : _) → IsTrue (⟦<ListError as PartialEq>⟧.eq a b) ↔ (a ≡ b) }
-    ensures failed { (a b : _) → IsTrue (⟦<Failed as PartialEq>⟧.eq a b) ↔ (a ≡ b) }
 {}
 
 /// An error that has one value only feeds a hasher nothing.

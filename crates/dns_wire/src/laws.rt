@@ -2,13 +2,12 @@
 
 ghost use Rattle.std.specs.Prelude.{◌≡◌, ◌≤◌, ◌<◌, ◌↔◌, ◌+◌, ◌-◌, ◌^◌, ◌++◌, ℕ, List, [], ◌∷◌, Some, length, flat_map};
 ghost use Rattle.dns_wire.specs.Agreement.{EndAlike, agreeing_end};
-ghost use Rattle.dns_wire.specs.Hexadecimal.{ArePairs, Trimmed, trim, spelled, shown};
 ghost use Rattle.dns_wire.specs.InMessage.{list_fits, EachFits};
 ghost use Rattle.dns_wire.specs.Names.{IsName, wire, plain_name};
 ghost use Rattle.dns_wire.specs.Layout.{octets_writes, then_writes, list_writes};
 ghost use Rattle.dns_wire.specs.Octets.{Octets, Labels, Places};
 ghost use Rattle.dns_wire.specs.Pointers.{Segment, NameAt, label_type_count, name_at};
-ghost use Rattle.dns_wire.specs.Reading.{AreOctets, plain_at};
+ghost use Rattle.dns_wire.specs.Reading.{plain_at};
 
 use crate::in_message::BuildInMessage;
 use crate::sizes::{HEADER_SIZE, LAST_PLACE, MAX_LABEL_SIZE, MAX_PLACES, POINTER_TAG};
@@ -72,20 +71,6 @@ pub fn added_octets()
         NameAt contents at labels end → NameAt (contents ++ more) at labels end }
     ensures read { (contents more : Octets) (at : ℕ) (labels : Labels) (end : ℕ) →
         name_at contents at ≡ Some (labels, end) → name_at (contents ++ more) at ≡ Some (labels, end) }
-{}
-
-/// Of a text in hexadecimal, the spaces, tabs, CR and LF at its end are left out, and nothing else is.
-pub fn trimmed_text()
-    ensures trims { (text : Octets) → Trimmed text (trim text) }
-    ensures one { (text left : Octets) → Trimmed text left → left ≡ trim text }
-{}
-
-/// A text spells octets exactly if it is pairs of digits, letters in lowercase or capitals (RFC 4648
-/// section 8). What is written in hexadecimal is read back, and what a text spells is octets.
-pub fn hexadecimal_text()
-    ensures back { (octets : Octets) → AreOctets octets → spelled (flat_map shown octets) ≡ Some octets }
-    ensures octets { (text octets : Octets) → spelled text ≡ Some octets → AreOctets octets }
-    ensures pairs { (text octets : Octets) → (spelled text ≡ Some octets) ↔ ArePairs text octets }
 {}
 
 /// Two lists of octets that end alike, ignoring ASCII case (RFC 4343 section 3), agree that far from their ends: the

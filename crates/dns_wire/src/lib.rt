@@ -1,5 +1,5 @@
-//! The wire layer: what it means to read and to write octets, names as lists of labels with and without
-//! pointers, and the sources and sinks through which a program meets the outside.
+//! The wire layer: what it means to read and to write octets, and names as lists of labels with and without
+//! pointers.
 #![tactic(auto)]
 
 mod agreement;
@@ -10,7 +10,6 @@ mod compression;
 mod equality_laws;
 mod error;
 mod in_message;
-mod io;
 mod laws;
 mod list;
 mod lists_in_message;
@@ -32,13 +31,9 @@ pub use compression::{
 pub use equality_laws::{equal_errors, hashed_errors};
 pub use error::{ParseError, TruncationError};
 pub use in_message::{BuildInMessage, build_whole};
-pub use io::adapters::{ReadSource, WriteSink};
-pub use io::memory::{NullSink, PlainSource, TextSink, TextSource};
-pub use io::traits::{Failed, Sink, Source};
 pub use laws::{
-    added_octets, common_suffixes, fixed_numbers, hexadecimal_text, lists_in_messages,
-    lists_of_octets, names_follow_pointers, names_in_messages, plain_names, pointers_lead_back,
-    trimmed_text,
+    added_octets, common_suffixes, fixed_numbers, lists_in_messages, lists_of_octets,
+    names_follow_pointers, names_in_messages, plain_names, pointers_lead_back,
 };
 pub use list::{ListError, split_list};
 pub use lowercase::{build_lowercase, compare_agreed, compare_lowercase};

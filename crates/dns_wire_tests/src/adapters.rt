@@ -4,7 +4,7 @@
 //! for the adapters the tests show it, with a reader and writer that fails.
 
 use crate::holds::all_hold;
-use dns_wire::{ReadSource, Sink, Source, WriteSink};
+use dns_text::{ReadSource, Sink, Source, WriteSink};
 use std::io::{self, ErrorKind, Read, Write};
 
 /// Gives and takes one octet at a call, and fails at the calls whose numbers, from 0, it was given.

@@ -1,7 +1,7 @@
 //! Sources and sinks in memory, which fail at the calls that they are given.
 
 use crate::holds::all_hold;
-use dns_wire::{Sink, Source, TextSink, TextSource};
+use dns_text::{Sink, Source, TextSink, TextSource};
 
 /// Whether a source of three octets a read fails at its second and fourth reads, and loses nothing.
 fn source_fails_where_set() -> bool {

@@ -4,14 +4,13 @@ use Rattle.std.specs.List.{slice_split}
 use Rattle.std.proofs.lemmas.Bool.{eq-eqb}
 use Rattle.std.proofs.lemmas.List.Splits.{length-slice_split}
 use Rattle.std.proofs.lemmas.List.Sums.{count_by-le-length}
-use Rattle.dns_wire.specs.Hexadecimal.{SpellsNothing, is_whitespace, spelled, trim, trim_cons}
+use Rattle.dns_text.specs.Hexadecimal.{SpellsNothing, is_whitespace, spelled, trim, trim_cons}
 use Rattle.dns_wire.specs.Steps.{◌>>=◌}
 use Rattle.dns_text.specs.Spelled.{all_spelled}
-use Rattle.dns_text.specs.Outcomes.{RefusesFor}
-use Rattle.dns_text.specs.declared.outcome.PrintError.{PrintError}
-use Rattle.dns_text.specs.declared.outcome.PrintError.TheVariants as print
-use Rattle.dns_zone.specs.Texts.{lines_of, spelling_refusal}
-use Rattle.dns_zone.specs.declared.refusal.Refusal.{Refusal}
+use Rattle.dns_command.specs.Outcomes.{RefusesFor}
+use Rattle.dns_command.specs.declared.outcome.PrintError.{PrintError}
+use Rattle.dns_command.specs.declared.outcome.PrintError.TheVariants as print
+use Rattle.dns_zone.specs.Texts.{ZoneRefusal, lines_of, lines_refusal}
 
 -- ---- one more text
 
@@ -77,10 +76,10 @@ none_spelled (first ∷ texts) (suc k) text within is nothing = by (spelled (tri
   by (Some m) later = ap (λ (p : Option (List (List ℕ))). p >>= (λ ms. Some (m ∷ ms))) later
 
 -- a line that is refused, of all lines
-pub line_refused : (texts : List (List ℕ)) (k : ℕ) (line : List ℕ) (error : PrintError Refusal) → k < length texts → line ≡ get_or texts k line → RefusesFor (spelling_refusal (all_spelled (line ∷ []))) error
-    → RefusesFor (spelling_refusal (all_spelled texts)) error
+pub line_refused : (texts : List (List ℕ)) (k : ℕ) (line : List ℕ) (error : PrintError ZoneRefusal) → k < length texts → line ≡ get_or texts k line → RefusesFor (lines_refusal (all_spelled (line ∷ []))) error
+    → RefusesFor (lines_refusal (all_spelled texts)) error
 line_refused texts k line print.Memory within is refused = tt
 line_refused texts k line (print.Refused r) within is refused = by (spelled (trim line)) refl refused where
-  by : (o : Option (List ℕ)) → spelled (trim line) ≡ o → spelling_refusal (o >>= (λ m. Some (m ∷ []))) ≡ Some r → spelling_refusal (all_spelled texts) ≡ Some r
-  by None nothing e = ap spelling_refusal (none_spelled texts k line within (sym is) nothing) ∙ e
+  by : (o : Option (List ℕ)) → spelled (trim line) ≡ o → lines_refusal (o >>= (λ m. Some (m ∷ []))) ≡ Some r → lines_refusal (all_spelled texts) ≡ Some r
+  by None nothing e = ap lines_refusal (none_spelled texts k line within (sym is) nothing) ∙ e
   by (Some m) spells e = absurd cc

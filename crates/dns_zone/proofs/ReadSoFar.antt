@@ -3,7 +3,7 @@ use Rattle.std.proofs.Common.{◌≡◌, ◌<◌, ◌≤◌, ◌+◌, ℕ, suc, 
 use Rattle.std.proofs.lemmas.List.{get_or-map, length-map, map-append, take-map, take_all, take_more}
 use Rattle.std.proofs.lemmas.List.Elements.{filter-append}
 use Rattle.std.proofs.lemmas.List.Folds.{list_any-append}
-use Rattle.dns_text.specs.Outcomes.{RefusesFor}
+use Rattle.dns_command.specs.Outcomes.{RefusesFor}
 use Rattle.dns_message.specs.Canonical.{is_not_opt}
 use Rattle.dns_record.specs.FurtherFormats.{DataReading}
 use Rattle.dns_message.specs.Messages.{RecordValue, ValidBy, message_by}
@@ -13,8 +13,9 @@ use Rattle.dns_message.specs.Several.{AreValidBy, all_records_by}
 use Rattle.dns_message.specs.declared.canon_error.CanonError.{CanonError}
 use Rattle.dns_message.specs.declared.canon_error.CanonError.TheVariants.{Short, Item, Memory}
 use Rattle.dns_message.proofs.SeveralMessages.{records_more, refused_reading, valid_before}
-use Rattle.dns_zone.specs.Texts.{first_refusal_by, message_error, on_first}
+use Rattle.dns_command.specs.Refusals.{first_refusal_by, message_error, on_first}
 use Rattle.dns_zone.specs.Zone.{belongs, belongs_form, has_soa, has_soa_form, is_soa_of}
+use Rattle.dns_zone.specs.declared.refusal.ZoneReason.{ZoneReason}
 use Rattle.dns_zone.proofs.MemberForms.{CoversType, members_same, soa_found}
 use Rattle.std.specs.List.{AllByRecursion}
 
@@ -53,14 +54,14 @@ soa_more apex records more all forms old all-is forms-are old-is =
 
 -- a message that is refused after valid ones
 pub refuses_next : (reads : DataReading) (messages before after : List (List ℕ)) (m : List ℕ) (rss : List (List RecordValue)) (n : ℕ) (error : CanonError) → messages ≡ before ++ m ∷ after → length before ≡ n → AreValidBy reads before rss → RefusedByOrMemory reads m error
-    → RefusesFor (first_refusal_by reads messages) (message_error n error)
+    → RefusesFor (first_refusal_by {R = ZoneReason} reads messages) (message_error n error)
 refuses_next reads messages before after m rss n error is place valid refused = by error refused where
   first : (e : CanonError) → RefusedBy reads m e → first_refused 0 (map (message_by reads) messages) ≡ Some (n, e)
   first e why =
       ap (λ (l : List (List ℕ)). first_refused 0 (map (message_by reads) l)) is ∙ valid_before reads before (m ∷ after) rss 0 valid ∙ refused_reading reads m (map (message_by reads) after) e (0 + length before) why
       ∙ ap (λ (k : ℕ). Some (k, e)) (omega (arith, place))
 
-  by : (e : CanonError) → RefusedByOrMemory reads m e → RefusesFor (first_refusal_by reads messages) (message_error n e)
+  by : (e : CanonError) → RefusedByOrMemory reads m e → RefusesFor (first_refusal_by {R = ZoneReason} reads messages) (message_error n e)
   by Short few = ap on_first (first Short few)
   by (Item section index) bad = ap on_first (first (Item section index) bad)
   by Memory none = tt

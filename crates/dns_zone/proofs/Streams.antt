@@ -3,7 +3,7 @@ use Rattle.std.proofs.Common.{◌≡◌, ℕ, List, [], ◌∷◌, ◌++◌, cod
 use Rattle.std.specs.Prelude.{decimal}
 use Rattle.std.specs.List.{concat}
 use Rattle.sha2.specs.Sha512.{sha384}
-use Rattle.dns_wire.specs.Hexadecimal.{shown}
+use Rattle.dns_text.specs.Hexadecimal.{shown}
 use Rattle.dns_message.specs.Canonical.{canonical_wire, is_not_opt}
 use Rattle.dns_message.specs.Messages.{RecordValue}
 use Rattle.dns_message.specs.Order.{collapsed}

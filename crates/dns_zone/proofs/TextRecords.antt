@@ -4,9 +4,9 @@ use Rattle.std.specs.Prelude.{◌↔◌}
 use Rattle.std.specs.List.{All}
 use Rattle.std.proofs.lemmas.List.Concat.{flat_map-cons}
 use Rattle.std.proofs.lemmas.List.Elements.{All-append, All-filter, All-nil}
-use Rattle.dns_wire.specs.Hexadecimal.{spelled, trim}
+use Rattle.dns_text.specs.Hexadecimal.{spelled, trim}
 use Rattle.dns_wire.specs.ReadingLemmas.{then_some}
-use Rattle.dns_wire.proofs.HexadecimalLemmas.{spelled_octets}
+use Rattle.dns_text.proofs.HexadecimalLemmas.{spelled_octets}
 use Rattle.dns_text.specs.Spelled.{all_spelled}
 use Rattle.dns_message.specs.Messages.{RecordValue}
 use Rattle.dns_message.specs.Same.{Same}

@@ -5,14 +5,14 @@ use Rattle.std.specs.List.{Any}
 use Rattle.std.specs.Result.{result_ok}
 use Rattle.std.specs.Cmp.Lexicographic.{bytes_decides}
 use Rattle.std.proofs.lemmas.Bool.{cases_lt, le-ltb, lt-ltb}
-use Rattle.dns_wire.specs.Hexadecimal.{SpellsNothing, spelled, trim}
+use Rattle.dns_text.specs.Hexadecimal.{SpellsNothing, spelled, trim}
 use Rattle.dns_wire.specs.Steps.{◌>>=◌}
-use Rattle.dns_text.specs.Outcomes.{RefusesFor, refused_or_done}
+use Rattle.dns_command.specs.Outcomes.{RefusesFor, refused_or_done}
 use Rattle.dns_text.specs.Spelled.{all_spelled}
-use Rattle.dns_text.specs.declared.outcome.Outcome.{Outcome}
-use Rattle.dns_text.specs.declared.outcome.Outcome.TheVariants.{Done, Usage, TooLong, Refused, ReadFault, WriteFault, Memory}
-use Rattle.dns_text.specs.declared.outcome.PrintError.{PrintError}
-use Rattle.dns_text.specs.declared.outcome.PrintError.TheVariants as print
+use Rattle.dns_command.specs.declared.outcome.Outcome.{Outcome}
+use Rattle.dns_command.specs.declared.outcome.Outcome.TheVariants.{Done, Usage, TooLong, Refused, ReadFault, WriteFault, Memory}
+use Rattle.dns_command.specs.declared.outcome.PrintError.{PrintError}
+use Rattle.dns_command.specs.declared.outcome.PrintError.TheVariants as print
 use Rattle.dns_name.specs.Text.{parsed_name}
 use Rattle.dns_name.specs.declared.text_error.NameParseError.{NameParseError}
 use Rattle.dns_wire.specs.Pointers.{name_at}
@@ -26,41 +26,42 @@ use Rattle.dns_message.specs.declared.canon_error.CanonError.{CanonError}
 use Rattle.dns_message.specs.declared.canon_error.CanonError.TheVariants as canon
 use Rattle.dns_message.proofs.CanonicalListSameness.{canonical_list_from_same}
 use Rattle.dns_message.proofs.SeveralMessages.{first_words, none_valid, valid_none, valid_records}
-use Rattle.dns_zone.specs.Texts.{HasRecords, PrintsZone, RefusesMessage, apex_named, apex_of, first_refusal, first_refusal_by, on_first, on_messages, on_messages_by, on_records, spelling_refusal, texts_in, zone_outcome, zone_refusal}
+use Rattle.dns_command.specs.Refusals.{first_refusal, first_refusal_by, on_first}
+use Rattle.dns_zone.specs.Texts.{HasRecords, PrintsZone, RefusesMessage, ZoneRefusal, apex_named, apex_of, lines_refusal, on_messages, on_messages_by, on_records, texts_in, zone_outcome, zone_refusal}
 use Rattle.dns_zone.specs.Zone.{HasSoa, has_soa, in_zone, zone_output, zone_text}
-use Rattle.dns_zone.specs.declared.refusal.Refusal.{Refusal}
-use Rattle.dns_zone.specs.declared.refusal.Refusal.TheVariants.{BadHex, Short, Item, NoSoa}
+use Rattle.dns_command.specs.declared.refusal.Refusal.TheVariants.{BadHex, Short, Item, Own}
+use Rattle.dns_zone.specs.declared.refusal.ZoneReason.TheVariants.{NoSoa}
 use Rattle.dns_zone.proofs.Lines.{none_spelled}
 use Rattle.dns_zone.proofs.Members.{soa_words}
 
 -- ---- refusals
 
-pub unspelled : (apex : List (List ℕ)) (text : List ℕ) (error : PrintError Refusal) → RefusesFor (spelling_refusal (all_spelled (texts_in text))) error → RefusesFor (zone_refusal apex text) error
+pub unspelled : (apex : List (List ℕ)) (text : List ℕ) (error : PrintError ZoneRefusal) → RefusesFor (lines_refusal (all_spelled (texts_in text))) error → RefusesFor (zone_refusal apex text) error
 unspelled apex text error refuses = by (all_spelled (texts_in text)) error refuses where
-  by : (o : Option (List (List ℕ))) (e : PrintError Refusal) → RefusesFor (spelling_refusal o) e → RefusesFor (on_messages apex o) e
+  by : (o : Option (List (List ℕ))) (e : PrintError ZoneRefusal) → RefusesFor (lines_refusal o) e → RefusesFor (on_messages apex o) e
   by o print.Memory h = tt
   by None (print.Refused r) h = h
   by (Some messages) (print.Refused r) h = absurd cc
 
 -- the refusal of the first message that is not valid
-pub first_refusal_of : (reads : DataReading) (apex : List (List ℕ)) (messages : List (List ℕ)) (error : PrintError Refusal) → RefusesFor (first_refusal_by reads messages) error → RefusesFor (on_messages_by reads apex (Some messages)) error
+pub first_refusal_of : (reads : DataReading) (apex : List (List ℕ)) (messages : List (List ℕ)) (error : PrintError ZoneRefusal) → RefusesFor (first_refusal_by reads messages) error → RefusesFor (on_messages_by reads apex (Some messages)) error
 first_refusal_of reads apex messages (print.Refused r) is = ap (on_records apex (all_records_by reads messages)) is
 first_refusal_of reads apex messages print.Memory is = tt
 
 -- why valid messages are refused
 pub on_valid_records : (reads : DataReading) (apex : List (List ℕ)) (messages : List (List ℕ)) (soa : Bool) → first_refused 0 (map (message_by reads) messages) ≡ None → has_soa apex (all_records_by reads messages) ≡ soa
-    → on_messages_by reads apex (Some messages) ≡ cond soa None (Some NoSoa)
-on_valid_records reads apex messages soa none has = ap (λ (o : Option (ℕ × CanonError)). on_records apex (all_records_by reads messages) (on_first o)) none ∙ ap (λ (b : Bool). cond b None (Some NoSoa)) has
+    → on_messages_by reads apex (Some messages) ≡ cond soa None (Some (Own NoSoa))
+on_valid_records reads apex messages soa none has = ap (λ (o : Option (ℕ × CanonError)). on_records apex (all_records_by reads messages) (on_first o)) none ∙ ap (λ (b : Bool). cond b None (Some (Own NoSoa))) has
 
 module _ (apex : List (List ℕ)) (text : List ℕ) (messages : List (List ℕ)) (spells : all_spelled (texts_in text) ≡ Some messages) where
   -- what messages call for, the text that spells them does
   pub spelled_refusal : zone_refusal apex text ≡ on_messages apex (Some messages)
   spelled_refusal = ap (on_messages apex) spells
 
-  pub first_error : (error : PrintError Refusal) → RefusesFor (first_refusal messages) error → RefusesFor (zone_refusal apex text) error
-  first_error error refuses = subst (λ (o : Option Refusal). RefusesFor o error) (sym spelled_refusal) (first_refusal_of (data_in name_at) apex messages error refuses)
+  pub first_error : (error : PrintError ZoneRefusal) → RefusesFor (first_refusal messages) error → RefusesFor (zone_refusal apex text) error
+  first_error error refuses = subst (λ (o : Option ZoneRefusal). RefusesFor o error) (sym spelled_refusal) (first_refusal_of (data_in name_at) apex messages error refuses)
 
-  pub valid_refusal : (soa : Bool) → first_refused 0 (map message_reading messages) ≡ None → has_soa apex (all_records messages) ≡ soa → zone_refusal apex text ≡ cond soa None (Some NoSoa)
+  pub valid_refusal : (soa : Bool) → first_refused 0 (map message_reading messages) ≡ None → has_soa apex (all_records messages) ≡ soa → zone_refusal apex text ≡ cond soa None (Some (Own NoSoa))
   valid_refusal soa none has = spelled_refusal ∙ on_valid_records (data_in name_at) apex messages soa none has
 
   pub has_records : first_refused 0 (map message_reading messages) ≡ None → HasRecords text (all_records messages)
@@ -105,9 +106,9 @@ none_from_any texts (k, text, within, is, nothing) = none_spelled texts k text w
 -- ---- in words
 
 -- what calls for an outcome
-abbrev pub CallsFor : List (List ℕ) → List ℕ → Outcome Refusal → Type 0
+abbrev pub CallsFor : List (List ℕ) → List ℕ → Outcome ZoneRefusal → Type 0
 CallsFor apex t Done = (length t ≤ 4194304) × ((rs : List RecordValue) × HasRecords t rs × HasSoa apex rs)
-CallsFor apex t (Refused NoSoa) = (length t ≤ 4194304) × ((rs : List RecordValue) × HasRecords t rs × ¬ HasSoa apex rs)
+CallsFor apex t (Refused (Own NoSoa)) = (length t ≤ 4194304) × ((rs : List RecordValue) × HasRecords t rs × ¬ HasSoa apex rs)
 CallsFor apex t (Refused (Short message)) = (length t ≤ 4194304) × RefusesMessage t message canon.Short
 CallsFor apex t (Refused (Item message section index)) = (length t ≤ 4194304) × RefusesMessage t message (canon.Item section index)
 CallsFor apex t (Refused BadHex) = (length t ≤ 4194304) × Any SpellsNothing (texts_in t)
@@ -121,7 +122,7 @@ module _ (apex : List (List ℕ)) (t : List ℕ) where
   within_limit : length t ≤ 4194304 → zone_outcome (Some apex) t ≡ refused_or_done (zone_refusal apex t)
   within_limit within = ap (λ (b : Bool). cond b TooLong (refused_or_done (zone_refusal apex t))) (le-ltb 4194304 (length t) within)
 
-  on_valid : (soa : Bool) (rs : List RecordValue) → HasRecords t rs → has_soa apex rs ≡ soa → zone_refusal apex t ≡ cond soa None (Some NoSoa)
+  on_valid : (soa : Bool) (rs : List RecordValue) → HasRecords t rs → has_soa apex rs ≡ soa → zone_refusal apex t ≡ cond soa None (Some (Own NoSoa))
   on_valid soa rs has is = let p = spelled_records t rs has in valid_refusal apex t p.0 p.1 soa p.2 (ap (has_soa apex) (sym p.3) ∙ is)
 
   no_soa_test : (rs : List RecordValue) → ¬ HasSoa apex rs → has_soa apex rs ≡ false
@@ -130,13 +131,13 @@ module _ (apex : List (List ℕ)) (t : List ℕ) where
     by true e = absurd (none ((soa_words apex rs).0 e))
     by false e = e
 
-  on_refused : (message : ℕ) (error : CanonError) (refusal : Refusal) → RefusesMessage t message error → on_first (Some (message, error)) ≡ Some refusal → zone_refusal apex t ≡ Some refusal
+  on_refused : (message : ℕ) (error : CanonError) (refusal : ZoneRefusal) → RefusesMessage t message error → on_first (Some (message, error)) ≡ Some refusal → zone_refusal apex t ≡ Some refusal
   on_refused message error refusal (messages, spells, first) is =
       first_error apex t messages spells (print.Refused refusal) (ap on_first ((first_words (data_in name_at) messages message error).1 first) ∙ is)
 
-  pub called : (o : Outcome Refusal) → CallsFor apex t o → zone_outcome (Some apex) t ≡ o
+  pub called : (o : Outcome ZoneRefusal) → CallsFor apex t o → zone_outcome (Some apex) t ≡ o
   called Done (within, (rs, has, soa)) = within_limit within ∙ ap refused_or_done (on_valid true rs has ((soa_words apex rs).1 soa))
-  called (Refused NoSoa) (within, (rs, has, none)) = within_limit within ∙ ap refused_or_done (on_valid false rs has (no_soa_test rs none))
+  called (Refused (Own NoSoa)) (within, (rs, has, none)) = within_limit within ∙ ap refused_or_done (on_valid false rs has (no_soa_test rs none))
   called (Refused (Short message)) (within, refuses) = within_limit within ∙ ap refused_or_done (on_refused message canon.Short (Short message) refuses refl)
   called (Refused (Item message section index)) (within, refuses) =
       within_limit within ∙ ap refused_or_done (on_refused message (canon.Item section index) (Item message section index) refuses refl)
@@ -148,24 +149,24 @@ module _ (apex : List (List ℕ)) (t : List ℕ) where
   called Memory none = absurd none
 
   -- each text calls for an outcome
-  some_call : (o : Outcome Refusal) × CallsFor apex t o
+  some_call : (o : Outcome ZoneRefusal) × CallsFor apex t o
   some_call = elim (cases_lt 4194304 (length t)) [ inl long ↦ (TooLong, long) | inr within ↦ on_spelled within (all_spelled (texts_in t)) refl ] where
-    on_soa : length t ≤ 4194304 → (rs : List RecordValue) → HasRecords t rs → (b : Bool) → has_soa apex rs ≡ b → (o : Outcome Refusal) × CallsFor apex t o
+    on_soa : length t ≤ 4194304 → (rs : List RecordValue) → HasRecords t rs → (b : Bool) → has_soa apex rs ≡ b → (o : Outcome ZoneRefusal) × CallsFor apex t o
     on_soa within rs has true e = (Done, (within, (rs, has, (soa_words apex rs).0 e)))
-    on_soa within rs has false e = (Refused NoSoa, (within, (rs, has, λ soa. (let clash = sym e ∙ (soa_words apex rs).1 soa in absurd cc))))
+    on_soa within rs has false e = (Refused (Own NoSoa), (within, (rs, has, λ soa. (let clash = sym e ∙ (soa_words apex rs).1 soa in absurd cc))))
 
-    on_reading : length t ≤ 4194304 → (messages : List (List ℕ)) → all_spelled (texts_in t) ≡ Some messages → (o : Option (ℕ × CanonError)) → first_refused 0 (map message_reading messages) ≡ o → (o : Outcome Refusal) × CallsFor apex t o
+    on_reading : length t ≤ 4194304 → (messages : List (List ℕ)) → all_spelled (texts_in t) ≡ Some messages → (o : Option (ℕ × CanonError)) → first_refused 0 (map message_reading messages) ≡ o → (o : Outcome ZoneRefusal) × CallsFor apex t o
     on_reading within messages spells None none = on_soa within (all_records messages) (has_records apex t messages spells none) (has_soa apex (all_records messages)) refl
     on_reading within messages spells (Some (message, canon.Short)) is = (Refused (Short message), (within, (messages, spells, (first_words (data_in name_at) messages message canon.Short).0 is)))
     on_reading within messages spells (Some (message, canon.Item section index)) is =
         (Refused (Item message section index), (within, (messages, spells, (first_words (data_in name_at) messages message (canon.Item section index)).0 is)))
     on_reading within messages spells (Some (message, canon.Memory)) is = absurd ((first_words (data_in name_at) messages message canon.Memory).0 is).refused
 
-    on_spelled : length t ≤ 4194304 → (o : Option (List (List ℕ))) → all_spelled (texts_in t) ≡ o → (o : Outcome Refusal) × CallsFor apex t o
+    on_spelled : length t ≤ 4194304 → (o : Option (List (List ℕ))) → all_spelled (texts_in t) ≡ o → (o : Outcome ZoneRefusal) × CallsFor apex t o
     on_spelled within None nothing = (Refused BadHex, (within, nothing_among (texts_in t) nothing))
     on_spelled within (Some messages) spells = on_reading within messages spells (first_refused 0 (map message_reading messages)) refl
 
-  pub outcome_words : (o : Outcome Refusal) → (zone_outcome (Some apex) t ≡ o) ↔ CallsFor apex t o
+  pub outcome_words : (o : Outcome ZoneRefusal) → (zone_outcome (Some apex) t ≡ o) ↔ CallsFor apex t o
   outcome_words o = (λ e. let some = some_call in subst (CallsFor apex t) (sym (called some.0 some.1) ∙ e) some.1, called o)
 
 -- ---- words

@@ -1,30 +1,27 @@
 -- The messages of a zone in a text, a line each, and the outcome that a text calls for.
-use Rattle.std.specs.Prelude.{◌≡◌, ◌==◌, ℕ, List, [], ◌∷◌, bytes_eq, codes, flat_map, map, Option, Some, None, if◌then◌else◌, true}
+use Rattle.std.specs.Prelude.{◌≡◌, ◌==◌, ℕ, List, [], ◌∷◌, bytes_eq, codes, flat_map, Option, Some, None, if◌then◌else◌, true}
 use Rattle.std.specs.List.{slice_split}
 use Rattle.std.specs.Result.{result_ok}
 use Rattle.dns_wire.specs.Octets.{Octets, Labels}
-use Rattle.dns_wire.specs.Hexadecimal.{trim}
-use Rattle.dns_text.specs.Notes.{note_line, notice_line}
-use Rattle.dns_text.specs.declared.notice.Notice.TheVariants as notice
-use Rattle.dns_text.specs.Endings.{Rules}
-use Rattle.dns_text.specs.Outcomes.{expected_outcome, text_rules}
+use Rattle.dns_text.specs.Hexadecimal.{trim}
+use Rattle.dns_command.specs.Endings.{Rules}
+use Rattle.dns_command.specs.Outcomes.{expected_outcome, text_rules}
 use Rattle.dns_text.specs.Spelled.{all_spelled}
-use Rattle.dns_text.specs.declared.outcome.Outcome.{Outcome}
-use Rattle.dns_text.specs.declared.outcome.Outcome.TheVariants as outcome
-use Rattle.dns_text.specs.declared.outcome.PrintError.{PrintError}
-use Rattle.dns_text.specs.declared.outcome.PrintError.TheVariants as print
+use Rattle.dns_command.specs.declared.outcome.Outcome.{Outcome}
+use Rattle.dns_command.specs.declared.outcome.Outcome.TheVariants as outcome
+use Rattle.dns_command.specs.Refusals.{first_refusal_by, refusal_note}
+use Rattle.dns_command.specs.declared.refusal.Refusal.{Refusal}
+use Rattle.dns_command.specs.declared.refusal.Refusal.TheVariants.{BadHex, Short, Item, Own}
 use Rattle.dns_name.specs.Text.{parsed_name}
 use Rattle.dns_wire.specs.Pointers.{name_at}
 use Rattle.dns_record.specs.Data.{data_in}
 use Rattle.dns_record.specs.FurtherFormats.{DataReading}
-use Rattle.dns_message.specs.Messages.{RecordValue, message_by}
-use Rattle.dns_message.specs.Refusals.{first_refused}
+use Rattle.dns_message.specs.Messages.{RecordValue}
 use Rattle.dns_message.specs.Several.{AreValid, IsFirstRefused, all_records_by}
 use Rattle.dns_message.specs.declared.canon_error.CanonError.{CanonError}
-use Rattle.dns_message.specs.declared.canon_error.CanonError.TheVariants as canon
 use Rattle.dns_zone.specs.Zone.{has_soa, zone_text}
-use Rattle.dns_zone.specs.declared.refusal.Refusal.{Refusal}
-use Rattle.dns_zone.specs.declared.refusal.Refusal.TheVariants.{BadHex, Short, Item, NoSoa}
+use Rattle.dns_zone.specs.declared.refusal.ZoneReason.{ZoneReason}
+use Rattle.dns_zone.specs.declared.refusal.ZoneReason.TheVariants.{NoSoa}
 use Rattle.dns_zone.specs.declared.refusal.TheConstants.{ZONE_TEXT_LIMIT}
 use Rattle.dns_zone.specs.declared.status.ZoneStatus.{ZoneStatus}
 use Rattle.dns_zone.specs.declared.status.ZoneStatus.TheVariants as status
@@ -55,56 +52,37 @@ texts_in text = lines_of (trim text)
 
 -- ---- the expected outcome
 
+-- why a text of messages is refused
+abbrev pub ZoneRefusal : Type 0
+ZoneRefusal = Refusal ℕ ZoneReason
+
 -- why texts that do or do not spell octets are refused
-abbrev pub spelling_refusal : Option (List Octets) → Option Refusal
-spelling_refusal None = Some BadHex
-spelling_refusal (Some messages) = None
-
--- a refusal of a message by its number
-abbrev pub message_error : ℕ → CanonError → PrintError Refusal
-message_error message canon.Short = print.Refused (Short message)
-message_error message (canon.Item section index) = print.Refused (Item message section index)
-message_error message canon.Memory = print.Memory
-
--- the same, if memory is not refused for
-abbrev pub message_refusal : ℕ → CanonError → Option Refusal
-message_refusal message canon.Short = Some (Short message)
-message_refusal message (canon.Item section index) = Some (Item message section index)
-message_refusal message canon.Memory = None
-
--- the refusal of the first message that is not read whole
-abbrev pub on_first : Option (ℕ × CanonError) → Option Refusal
-on_first None = None
-on_first (Some (message, error)) = message_refusal message error
-
-abbrev pub first_refusal_by : DataReading → List Octets → Option Refusal
-first_refusal_by reads messages = on_first (first_refused 0 (map (message_by reads) messages))
-
-abbrev pub first_refusal : List Octets → Option Refusal
-first_refusal = first_refusal_by (data_in name_at)
+abbrev pub lines_refusal : Option (List Octets) → Option ZoneRefusal
+lines_refusal None = Some BadHex
+lines_refusal (Some messages) = None
 
 -- if all messages are valid, they are refused exactly if they have no SOA record of the apex
-abbrev pub on_records : Labels → List RecordValue → Option Refusal → Option Refusal
+abbrev pub on_records : Labels → List RecordValue → Option ZoneRefusal → Option ZoneRefusal
 on_records apex rs (Some refusal) = Some refusal
-on_records apex rs None = if has_soa apex rs then None else Some NoSoa
+on_records apex rs None = if has_soa apex rs then None else Some (Own NoSoa)
 
 -- texts that are no digits are refused before any message
-abbrev pub on_messages_by : DataReading → Labels → Option (List Octets) → Option Refusal
+abbrev pub on_messages_by : DataReading → Labels → Option (List Octets) → Option ZoneRefusal
 on_messages_by reads apex None = Some BadHex
 on_messages_by reads apex (Some messages) = on_records apex (all_records_by reads messages) (first_refusal_by reads messages)
 
-abbrev pub on_messages : Labels → Option (List Octets) → Option Refusal
+abbrev pub on_messages : Labels → Option (List Octets) → Option ZoneRefusal
 on_messages = on_messages_by (data_in name_at)
 
 -- why a text is refused; `None` if the zone's digest is printed for it
-abbrev pub zone_refusal : Labels → Octets → Option Refusal
+abbrev pub zone_refusal : Labels → Octets → Option ZoneRefusal
 zone_refusal apex text = on_messages apex (all_spelled (texts_in text))
 
 abbrev pub zone_limit : Labels → ℕ
 zone_limit apex = ZONE_TEXT_LIMIT
 
 -- the outcome that a text calls for; `zone_statuses_in_words` says it in other words
-abbrev pub zone_outcome : Option Labels → Octets → Outcome Refusal
+abbrev pub zone_outcome : Option Labels → Octets → Outcome ZoneRefusal
 zone_outcome = expected_outcome zone_limit zone_refusal
 
 -- ---- what is printed
@@ -123,19 +101,20 @@ PrintsZone apex text printed = (rs : List RecordValue) × HasRecords text rs × 
 
 -- ---- lines and statuses
 
+-- what is said of a reason
+abbrev pub reason_words : ZoneReason → Octets
+reason_words NoSoa = codes "no soa"
+
 -- the line that is noted for a refusal
-abbrev pub zone_note : Refusal → Octets
-zone_note BadHex = notice_line notice.BadHex
-zone_note (Short message) = notice_line (notice.Short message)
-zone_note (Item message section index) = notice_line (notice.Item message section index)
-zone_note NoSoa = note_line (codes "no soa") []
+abbrev pub zone_note : ZoneRefusal → Octets
+zone_note = refusal_note (λ message. message) reason_words
 
 -- the rules of the command
-abbrev pub zone_rules : Rules Labels (Outcome Refusal)
+abbrev pub zone_rules : Rules Labels (Outcome ZoneRefusal)
 zone_rules = text_rules (λ command. true) zone_limit zone_refusal PrintsZone
 
 -- a status as an outcome
-abbrev pub outcome_of : ZoneStatus → Outcome Refusal
+abbrev pub outcome_of : ZoneStatus → Outcome ZoneRefusal
 outcome_of status.Done = outcome.Done
 outcome_of (status.Short message) = outcome.Refused (Short message)
 outcome_of (status.Item message section index) = outcome.Refused (Item message section index)
@@ -145,7 +124,7 @@ outcome_of status.Usage = outcome.Usage
 outcome_of status.ReadFault = outcome.ReadFault
 outcome_of status.WriteFault = outcome.WriteFault
 outcome_of status.Memory = outcome.Memory
-outcome_of status.NoSoa = outcome.Refused NoSoa
+outcome_of status.NoSoa = outcome.Refused (Own NoSoa)
 
 abbrev pub code_of : ZoneStatus → ℕ
 code_of status.Done = 0

@@ -4,7 +4,7 @@ use Rattle.std.specs.Cmp.Lexicographic.{pointwise}
 use Rattle.std.specs.List.{concat, ends_with, list_any, starts_with}
 use Rattle.sha2.specs.Sha512.{sha384}
 use Rattle.dns_wire.specs.Octets.{Octets, Labels}
-use Rattle.dns_wire.specs.Hexadecimal.{line}
+use Rattle.dns_text.specs.Hexadecimal.{line}
 use Rattle.dns_wire.specs.Names.{lowered}
 use Rattle.dns_record.specs.Fields.{Field, fields_octets}
 use Rattle.dns_message.specs.Canonical.{is_not_opt}

@@ -1,17 +1,17 @@
 //! The command `zone APEX`.
 
-ghost use Rattle.std.specs.Prelude.{◌≡◌, ◌≤◌, ℕ, true, List, length};
-ghost use Rattle.dns_text.specs.Endings.{Ran};
-ghost use Rattle.dns_text.specs.Outcomes.{RefusesFor, note_of};
+ghost use Rattle.std.specs.Prelude.{◌≡◌, ◌≤◌, true, None, IfOk, IfErr, length};
+ghost use Rattle.dns_command.specs.Endings.{Ran};
+ghost use Rattle.dns_command.specs.Outcomes.{RefusesFor, note_of};
 ghost use Rattle.dns_zone.specs.Texts.{PrintsZone, apex_of, outcome_of, zone_limit, zone_note, zone_refusal, zone_rules};
 
 use crate::digest::{digest_text, zone_digest};
 use crate::messages::{messages_in, slices_of};
-use crate::refusal::{Refusal, ZONE_TEXT_LIMIT};
+use crate::refusal::{ZONE_TEXT_LIMIT, ZoneRefusal};
 use crate::status::ZoneStatus;
+use dns_command::{Notice, PrintError, PutError, TextCommand, put_printed, run_command};
 use dns_name::RevNameBuf;
-use dns_text::{Args, Notice, PrintError, TextCommand, put_line, put_notice, run_command};
-use dns_wire::{Failed, Sink, Source};
+use dns_text::{Args, Sink, Source};
 use std::alloc::Global;
 use std::marker::Model;
 
@@ -29,8 +29,24 @@ impl Model for Zone {
     ghost view = { λ z. z.apex };
 }
 
+impl Zone {
+    /// The text that is printed for the messages in a text.
+    fn print(&self, alloc: Global, text: &[u8]) -> Result<Vec<u8>, PrintError<ZoneRefusal>>
+        requires { length text.now ≤ ZONE_TEXT_LIMIT }
+        ensures printed { IfOk result (λ printed. PrintsZone self.now text.now printed.items) }
+        ensures accepted { IfOk result (λ _. zone_refusal self.now text.now ≡ None) }
+        ensures refused { IfErr result (RefusesFor (zone_refusal self.now text.now)) }
+    {
+        let messages = messages_in(alloc, text)?;
+        let slices = slices_of(alloc, &messages)?;
+        let digest = zone_digest(alloc, &slices, &self.apex)?;
+        let printed = digest_text(alloc, &digest)?;
+        Ok(printed)
+    }
+}
+
 impl TextCommand for Zone {
-    type Refusal = Refusal;
+    type Refusal = ZoneRefusal;
 
     ghost reads = { λ command. true };
 
@@ -50,32 +66,17 @@ impl TextCommand for Zone {
         ZONE_TEXT_LIMIT
     }
 
-    fn print(&self, alloc: Global, text: &[u8]) -> Result<Vec<u8>, PrintError<Refusal>> {
-        let messages = messages_in(alloc, text)?;
-        let slices = slices_of(alloc, &messages)?;
-        let digest = zone_digest(alloc, &slices, &self.apex)?;
-        let printed = digest_text(alloc, &digest)?;
-        Ok(printed)
+    fn put<K: Sink>(
+        &self,
+        alloc: Global,
+        text: &[u8],
+        sink: &mut K,
+    ) -> Result<(), PutError<ZoneRefusal>> {
+        put_printed(self.print(alloc, text), sink)
     }
 
-    fn put_refusal<N: Sink>(refused: Refusal, notes: &mut N) -> Result<(), Failed> {
-        match refused {
-            Refusal::BadHex => put_notice(Notice::BadHex, notes),
-            Refusal::Short { message } => put_notice(Notice::Short { message }, notes),
-            Refusal::Item {
-                message,
-                section,
-                index,
-            } => put_notice(
-                Notice::Item {
-                    message,
-                    section,
-                    index,
-                },
-                notes,
-            ),
-            Refusal::NoSoa => put_line(notes, b"no soa", &[]),
-        }
+    fn notice(refused: ZoneRefusal) -> Notice {
+        refused.notice()
     }
 }
 
@@ -108,5 +109,5 @@ pub fn run_zone<S: Source, K: Sink, N: Sink>(
     ensures { Ran S.Source K.Sink N.Sink zone_rules (note_of zone_note) (apex_of args.now) source.old source.new sink.old sink.new notes.old notes.new (outcome_of result) }
 {
     let outcome = run_command(alloc, &zone_of(args), source, sink, notes);
-    ZoneStatus::of_outcome(outcome)
+    ZoneStatus::from(outcome)
 }

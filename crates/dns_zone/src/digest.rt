@@ -8,18 +8,18 @@ ghost use Rattle.dns_message.specs.Order.{octets_of_key};
 ghost use Rattle.dns_message.specs.Refusals.{first_refused};
 ghost use Rattle.dns_message.specs.Several.{all_records, all_records_by};
 ghost use Rattle.dns_record.specs.FurtherFormats.{data_by};
-ghost use Rattle.dns_text.specs.Outcomes.{RefusesFor};
+ghost use Rattle.dns_command.specs.Outcomes.{RefusesFor};
 ghost use Rattle.dns_wire.specs.Octets.{Octets};
 ghost use Rattle.dns_zone.specs.Digests.{IsDigestOf};
 ghost use Rattle.dns_zone.specs.Texts.{on_messages, on_messages_by};
 ghost use Rattle.dns_zone.specs.Zone.{has_soa, members, zone_output};
 
 use crate::messages::zone_records;
-use crate::refusal::Refusal;
+use crate::refusal::{ZoneReason, ZoneRefusal};
+use dns_command::{PrintError, Refusal};
 use dns_message::CanonicalList;
 use dns_name::RevNameBuf;
 use dns_record::Formats;
-use dns_text::PrintError;
 use sha2::{Digest, Sha384};
 use std::alloc::{AllocError, Global};
 
@@ -57,14 +57,14 @@ fn digest_for(list: &CanonicalList<'_>) -> ZoneDigest
 }
 
 /// The digest of the zone of an apex, for the records that the messages have (RFC 8976, the SIMPLE scheme with SHA-384). The messages'
-/// octets are borrowed and not copied. The refusals are those of the first message that is not valid, and `Refusal::NoSoa`;
+/// octets are borrowed and not copied. The refusals are those of the first message that is not valid, and `ZoneReason::NoSoa`;
 /// `Refusal::BadHex` does not come. The condition is that the messages are fewer than 4,294,967,296, since a refusal has the number of its
 /// message in 32 bits.
 pub fn zone_digest(
     alloc: Global,
     messages: &[&[u8]],
     apex: &RevNameBuf,
-) -> Result<ZoneDigest, PrintError<Refusal>>
+) -> Result<ZoneDigest, PrintError<ZoneRefusal>>
     requires { length messages.now < 2 ^ 32 }
     ensures digest { IfOk result (IsDigestOf (members apex.now (all_records (map (λ m. m.now) messages.now)))) }
     ensures valid { OnOk result (first_refused 0 (map message_reading (map (λ m. m.now) messages.now)) ≡ None) }
@@ -81,7 +81,7 @@ pub fn zone_digest_by(
     messages: &[&[u8]],
     apex: &RevNameBuf,
     formats: Formats,
-) -> Result<ZoneDigest, PrintError<Refusal>>
+) -> Result<ZoneDigest, PrintError<ZoneRefusal>>
     requires { length messages.now < 2 ^ 32 }
     ensures digest { IfOk result (IsDigestOf (members apex.now (all_records_by (data_by formats) (map (λ m. m.now) messages.now)))) }
     ensures valid { OnOk result (first_refused 0 (map (message_by (data_by formats)) (map (λ m. m.now) messages.now)) ≡ None) }
@@ -90,7 +90,7 @@ pub fn zone_digest_by(
 {
     let found = zone_records(alloc, messages, apex, formats)?;
     if !found.has_soa {
-        return Err(PrintError::Refused(Refusal::NoSoa));
+        return Err(PrintError::Refused(Refusal::Own(ZoneReason::NoSoa)));
     }
     let order = found.forms.collapsed(alloc)?;
     Ok(digest_for(&order))

@@ -2,7 +2,7 @@
 
 ghost use Rattle.std.specs.Prelude.{◌≡◌, ◌≤◌, ◌<◌, ◌↔◌, ℕ, true, List, [], ◌∷◌, Some, None, Ok, codes, length, IsTrue};
 ghost use Rattle.std.specs.List.{All, Any};
-ghost use Rattle.dns_wire.specs.Hexadecimal.{SpellsNothing};
+ghost use Rattle.dns_text.specs.Hexadecimal.{SpellsNothing};
 ghost use Rattle.dns_name.specs.Text.{parsed_name};
 ghost use Rattle.dns_message.specs.Messages.{RecordValue};
 ghost use Rattle.dns_message.specs.Same.{Same};
@@ -14,7 +14,7 @@ ghost use Rattle.dns_zone.specs.Zone.{HasSoa, IsInZone, has_soa, in_zone, is_in_
 ghost use Rattle.dns_zone.specs.declared.refusal.TheConstants.{ZONE_TEXT_LIMIT};
 
 use crate::digest::ZoneDigest;
-use crate::refusal::Refusal;
+use crate::refusal::ZoneReason;
 use crate::status::ZoneStatus;
 
 /// A record is a member exactly if it is in the zone: of class IN, of another type than OPT, and at the apex or below it, and at the
@@ -73,10 +73,10 @@ pub fn zone_statuses_in_words()
     ensures usage { (t : Octets) → zone_outcome None t ≡ outcome_of ZoneStatus.Usage }
 {}
 
-/// Statuses are equal exactly if they are the same, and so are refusals and digests.
+/// Statuses are equal exactly if they are the same, and so are reasons and digests.
 pub fn equal_statuses()
     ensures status { (a b : _) → IsTrue (⟦<ZoneStatus as PartialEq>⟧.eq a b) ↔ (a ≡ b) }
-    ensures refusal { (a b : _) → IsTrue (⟦<Refusal as PartialEq>⟧.eq a b) ↔ (a ≡ b) }
+    ensures reason { (a b : _) → IsTrue (⟦<ZoneReason as PartialEq>⟧.eq a b) ↔ (a ≡ b) }
     ensures digest { (a b : _) → IsTrue (⟦<ZoneDigest as PartialEq>⟧.eq a b) ↔ (a ≡ b) }
 {}
 

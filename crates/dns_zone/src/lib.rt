@@ -15,5 +15,5 @@ pub use laws::{
     apex_soas, equal_statuses, equal_streams, equal_zones, limits, members_in_words, same_zones,
     words_of_zones, zone_statuses_in_words,
 };
-pub use refusal::{Refusal, ZONE_TEXT_LIMIT};
+pub use refusal::{ZONE_TEXT_LIMIT, ZoneReason, ZoneRefusal};
 pub use status::ZoneStatus;

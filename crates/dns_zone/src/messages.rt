@@ -1,8 +1,8 @@
 //! The messages in a text, and what they hold of a zone.
 
 ghost use Rattle.std.specs.Prelude.{◌≡◌, ◌≤◌, ◌<◌, ◌+◌, ◌^◌, [], ◌∷◌, ◌++◌, ◌||◌, Some, None, IfOk, IfErr, OnOk, filter, length, map, vec_len};
-ghost use Rattle.dns_wire.specs.Hexadecimal.{Spells, SpellsNothing, spelled, trim};
-ghost use Rattle.dns_text.specs.Outcomes.{RefusesFor};
+ghost use Rattle.dns_text.specs.Hexadecimal.{Spells, spelled};
+ghost use Rattle.dns_command.specs.Outcomes.{RefusesFor};
 ghost use Rattle.dns_text.specs.Spelled.{all_spelled};
 ghost use Rattle.dns_message.specs.Canonical.{is_not_opt};
 ghost use Rattle.dns_message.specs.Messages.{message_by};
@@ -10,34 +10,36 @@ ghost use Rattle.dns_message.specs.Order.{sort_key};
 ghost use Rattle.dns_message.specs.Refusals.{first_refused};
 ghost use Rattle.dns_message.specs.Several.{all_records_by};
 ghost use Rattle.dns_record.specs.FurtherFormats.{data_by};
-ghost use Rattle.dns_zone.specs.Texts.{first_refusal_by, message_error, spelling_refusal, texts_in};
+ghost use Rattle.dns_command.specs.Refusals.{first_refusal_by};
+ghost use Rattle.dns_zone.specs.Texts.{lines_refusal, texts_in};
 ghost use Rattle.dns_zone.specs.Zone.{belongs, belongs_form, has_soa, has_soa_form};
 
 use crate::member::{belongs, has_soa};
-use crate::refusal::Refusal;
-use dns_message::{CanonError, CanonicalForm, CanonicalForms, FormsReader};
+use crate::refusal::ZoneRefusal;
+use dns_command::{PrintError, Refusal};
+use dns_message::{CanonicalForm, CanonicalForms, FormsReader};
 use dns_name::RevNameBuf;
 use dns_record::Formats;
-use dns_text::{HexError, PrintError, octets_of, trimmed};
+use dns_text::{octets_of, trimmed};
 use std::alloc::{AllocError, Global};
 
 /// The octets of the message that a line spells.
-fn message_in(alloc: Global, line: &[u8]) -> Result<Vec<u8>, PrintError<Refusal>>
+fn message_in(alloc: Global, line: &[u8]) -> Result<Vec<u8>, PrintError<ZoneRefusal>>
     ensures spelled { IfOk result (λ octets. Spells line.now octets.items) }
-    ensures refused { IfErr result (RefusesFor (spelling_refusal (all_spelled (line.now ∷ [])))) }
+    ensures refused { IfErr result (RefusesFor (lines_refusal (all_spelled (line.now ∷ [])))) }
 {
-    match octets_of(alloc, line) {
-        Ok(octets) => Ok(octets),
-        Err(HexError::BadHex) => Err(PrintError::Refused(Refusal::BadHex)),
-        Err(HexError::Memory) => Err(PrintError::Memory),
-    }
+    let octets = octets_of(alloc, line)?;
+    Ok(octets)
 }
 
 /// The octets of the messages in a text, a line each; whitespace at the end of the text and of a line does not count.
-pub(crate) fn messages_in(alloc: Global, text: &[u8]) -> Result<Vec<Vec<u8>>, PrintError<Refusal>>
+pub(crate) fn messages_in(
+    alloc: Global,
+    text: &[u8],
+) -> Result<Vec<Vec<u8>>, PrintError<ZoneRefusal>>
     ensures spelled { IfOk result (λ messages. all_spelled (texts_in text.now) ≡ Some (map (λ m. m.items) messages.items)) }
     ensures few { IfOk result (λ messages. vec_len messages ≤ length text.now + 1) }
-    ensures refused { IfErr result (RefusesFor (spelling_refusal (all_spelled (texts_in text.now)))) }
+    ensures refused { IfErr result (RefusesFor (lines_refusal (all_spelled (texts_in text.now)))) }
 {
     let solid = trimmed(text);
     let mut messages = Vec::new(alloc);
@@ -59,21 +61,6 @@ pub(crate) fn slices_of(alloc: Global, messages: &[Vec<u8>]) -> Result<Vec<&[u8]
         slices.push(message.as_slice())?;
     }
     Ok(slices)
-}
-
-/// Why the message of a number is refused.
-fn refused(message: u32, error: CanonError) -> PrintError<Refusal>
-    ensures { result ≡ message_error message error }
-{
-    match error {
-        CanonError::Short => PrintError::Refused(Refusal::Short { message }),
-        CanonError::Item { section, index } => PrintError::Refused(Refusal::Item {
-            message,
-            section,
-            index,
-        }),
-        CanonError::Memory => PrintError::Memory,
-    }
 }
 
 /// What messages hold of a zone.
@@ -125,7 +112,7 @@ pub(crate) fn zone_records(
     messages: &[&[u8]],
     apex: &RevNameBuf,
     formats: Formats,
-) -> Result<ZoneRecords, PrintError<Refusal>>
+) -> Result<ZoneRecords, PrintError<ZoneRefusal>>
     requires { length messages.now < 2 ^ 32 }
     ensures valid { IfOk result (λ _. first_refused 0 (map (message_by (data_by formats)) (map (λ m. m.now) messages.now)) ≡ None) }
     ensures members { IfOk result (λ found. found.forms ≡ map sort_key (filter (belongs apex.now) (filter is_not_opt (all_records_by (data_by formats) (map (λ m. m.now) messages.now))))) }
@@ -140,7 +127,7 @@ pub(crate) fn zone_records(
     for (number, message) in messages.iter().enumerate() {
         match reader.read_by(alloc, message, formats) {
             Ok(forms) => found.add(alloc, forms, apex)?,
-            Err(error) => return Err(refused(number as u32, error)),
+            Err(error) => return Err(Refusal::of(number as u32, error)),
         }
     }
     Ok(found)

@@ -1,23 +1,28 @@
 //! Why messages of a zone are refused.
 
+use dns_command::{Reason, Refusal};
+
 /// The most octets of the text of a zone.
 pub const ZONE_TEXT_LIMIT: usize = 4_194_304;
 
-/// Why a zone that is given as messages has no digest.
+/// Why valid messages have no digest of a zone.
 #[derive(Clone, Copy, Debug, PartialEq, Eq)]
-pub enum Refusal {
-    /// A line is not pairs of hexadecimal digits.
-    BadHex,
-    /// A message has fewer than 12 octets. Messages count from 0.
-    Short {
-        message: u32,
-    },
-    /// This item is the first of a message that can't be read.
-    Item {
-        message: u32,
-        section: u8,
-        index: u16,
-    },
+pub enum ZoneReason {
     /// The messages have no SOA record of the apex.
     NoSoa,
 }
+
+impl Reason for ZoneReason {
+    ghost use Rattle.dns_zone.specs.Texts.{reason_words};
+
+    ghost words = { reason_words };
+
+    fn words(&self) -> &'static str {
+        match self {
+            ZoneReason::NoSoa => "no soa",
+        }
+    }
+}
+
+/// Why a zone that is given as messages has no digest.
+pub type ZoneRefusal = Refusal<u32, ZoneReason>;

@@ -1,7 +1,7 @@
 //! How a run over a zone ends.
 
-use crate::refusal::Refusal;
-use dns_text::Outcome;
+use crate::refusal::{ZoneReason, ZoneRefusal};
+use dns_command::{Outcome, Refusal};
 
 /// How a run over a zone ends.
 #[derive(Clone, Copy, Debug, PartialEq, Eq)]
@@ -35,14 +35,15 @@ pub enum ZoneStatus {
     NoSoa,
 }
 
-impl ZoneStatus {
+/// The status of a text that is refused.
+impl From<ZoneRefusal> for ZoneStatus {
     ghost use Rattle.std.specs.Prelude.{◌≡◌};
-    ghost use Rattle.dns_zone.specs.Texts.{code_of, outcome_of};
+    ghost use Rattle.dns_command.specs.declared.outcome.Outcome.TheVariants.{Refused};
+    ghost use Rattle.dns_zone.specs.Texts.{outcome_of};
 
-    /// The status of a text that is refused.
-    fn of_refusal(refusal: Refusal) -> ZoneStatus
-        ensures { outcome_of result ≡ Outcome.Refused refusal }
-    {
+    ghost from_gives = { λ refusal status. outcome_of status ≡ Refused refusal };
+
+    fn from(refusal: ZoneRefusal) -> ZoneStatus {
         match refusal {
             Refusal::BadHex => ZoneStatus::BadHex,
             Refusal::Short { message } => ZoneStatus::Short { message },
@@ -55,24 +56,33 @@ impl ZoneStatus {
                 section,
                 index,
             },
-            Refusal::NoSoa => ZoneStatus::NoSoa,
+            Refusal::Own(ZoneReason::NoSoa) => ZoneStatus::NoSoa,
         }
     }
+}
 
-    /// The status that an outcome is.
-    pub(crate) fn of_outcome(outcome: Outcome<Refusal>) -> ZoneStatus
-        ensures { outcome_of result ≡ outcome }
-    {
+impl From<Outcome<ZoneRefusal>> for ZoneStatus {
+    ghost use Rattle.std.specs.Prelude.{◌≡◌};
+    ghost use Rattle.dns_zone.specs.Texts.{outcome_of};
+
+    ghost from_gives = { λ outcome status. outcome_of status ≡ outcome };
+
+    fn from(outcome: Outcome<ZoneRefusal>) -> ZoneStatus {
         match outcome {
             Outcome::Done => ZoneStatus::Done,
             Outcome::Usage => ZoneStatus::Usage,
             Outcome::TooLong => ZoneStatus::TooLong,
-            Outcome::Refused(refusal) => ZoneStatus::of_refusal(refusal),
+            Outcome::Refused(refusal) => ZoneStatus::from(refusal),
             Outcome::ReadFault => ZoneStatus::ReadFault,
             Outcome::WriteFault => ZoneStatus::WriteFault,
             Outcome::Memory => ZoneStatus::Memory,
         }
     }
+}
+
+impl ZoneStatus {
+    ghost use Rattle.std.specs.Prelude.{◌≡◌};
+    ghost use Rattle.dns_zone.specs.Texts.{code_of};
 
     /// The code that a process ends with: those of `run` for the same statuses, and 10.
     pub fn code(&self) -> u8

@@ -9,12 +9,13 @@ use Rattle.dns_message.specs.declared.canon_error.CanonError.{CanonError}
 use Rattle.dns_message.specs.declared.canon_error.CanonError.TheVariants.{Short, Item, Memory}
 use Rattle.dns_message.proofs.OneReading.{three_kinds}
 use Rattle.dns_message.proofs.Phrased.{short_reading_by}
-use Rattle.dns_normal.specs.Texts.{form_refusal, reading_refusal}
-use Rattle.dns_normal.specs.declared.refusal.Refusal.{Refusal}
-use Rattle.dns_normal.specs.declared.refusal.Refusal.TheVariants as normal
-use Rattle.dns_text.specs.Outcomes.{RefusesFor}
-use Rattle.dns_text.specs.declared.outcome.PrintError.{PrintError}
-use Rattle.dns_text.specs.declared.outcome.PrintError.TheVariants as print
+use Rattle.dns_normal.specs.Texts.{NormalRefusal, form_refusal}
+use Rattle.dns_command.specs.Refusals.{reading_refusal}
+use Rattle.dns_command.specs.declared.refusal.Refusal.TheVariants as normal
+use Rattle.dns_normal.specs.declared.refusal.NormalReason.TheVariants.{TooLarge}
+use Rattle.dns_command.specs.Outcomes.{RefusesFor}
+use Rattle.dns_command.specs.declared.outcome.PrintError.{PrintError}
+use Rattle.dns_command.specs.declared.outcome.PrintError.TheVariants as print
 use Rattle.nelgvasti.specs.Calls.{AnswersOrMemory, reading_answer}
 use Rattle.nelgvasti.specs.Refused.{answer_of, form_answer, form_position, message_position, position_of}
 use Rattle.nelgvasti.specs.declared.answers.TheConstants.{SHORT, ITEM}
@@ -62,24 +63,24 @@ not_too_short m is = elim (three_kinds m) [
   | inr (inr (s, i, (p, (items, stops)))) ↦ (let clash = sym is ∙ stops in absurd cc)
 ]
 
-short_form : (m : List ℕ) → reading_refusal form_refusal (message_reading m) ≡ Some normal.Short → length m < 12
+short_form : (m : List ℕ) → reading_refusal (record {}) form_refusal (message_reading m) ≡ Some (normal.Short (record {})) → length m < 12
 short_form m e = by (message_reading m) refl e where
-  size : (b : Bool) → cond {A = Option Refusal} b (Some normal.TooLarge) None ≡ Some normal.Short → ⊥
+  size : (b : Bool) → cond {A = Option NormalRefusal} b (Some (normal.Own TooLarge)) None ≡ Some (normal.Short (record {})) → ⊥
   size true e = cc
   size false e = cc
 
-  by : (reading : Reading) → message_reading m ≡ reading → reading_refusal form_refusal reading ≡ Some normal.Short → length m < 12
+  by : (reading : Reading) → message_reading m ≡ reading → reading_refusal (record {}) form_refusal reading ≡ Some (normal.Short (record {})) → length m < 12
   by TooShort is e = not_too_short m is
   by (Stopped items section index place) is e = absurd cc
   by (Whole items end) is e = absurd (size _ e)
 
-bad_form : (m : List ℕ) (section index : ℕ) → reading_refusal form_refusal (message_reading m) ≡ Some (normal.Item section index) → BadAt m section index
+bad_form : (m : List ℕ) (section index : ℕ) → reading_refusal (record {}) form_refusal (message_reading m) ≡ Some (normal.Item (record {}) section index) → BadAt m section index
 bad_form m section index e = by (message_reading m) refl e where
-  size : (b : Bool) → cond {A = Option Refusal} b (Some normal.TooLarge) None ≡ Some (normal.Item section index) → ⊥
+  size : (b : Bool) → cond {A = Option NormalRefusal} b (Some (normal.Own TooLarge)) None ≡ Some (normal.Item (record {}) section index) → ⊥
   size true e = cc
   size false e = cc
 
-  by : (reading : Reading) → message_reading m ≡ reading → reading_refusal form_refusal reading ≡ Some (normal.Item section index) → BadAt m section index
+  by : (reading : Reading) → message_reading m ≡ reading → reading_refusal (record {}) form_refusal reading ≡ Some (normal.Item (record {}) section index) → BadAt m section index
   by TooShort is e = absurd cc
   by (Stopped items s i place) is e =
       let section-is : s ≡ section = cc in
@@ -88,21 +89,21 @@ bad_form m section index e = by (message_reading m) refl e where
   by (Whole items end) is e = absurd (size _ e)
 
 -- what the answer to a refusal says of the message, and the position
-pub form_short : (m : List ℕ) (error : PrintError Refusal) (answer : ℕ) (old new : ItemPosition) → RefusesFor (reading_refusal form_refusal (message_reading m)) error → answer ≡ form_answer error → new ≡ form_position error old
+pub form_short : (m : List ℕ) (error : PrintError NormalRefusal) (answer : ℕ) (old new : ItemPosition) → RefusesFor (reading_refusal (record {}) form_refusal (message_reading m)) error → answer ≡ form_answer error → new ≡ form_position error old
     → answer ≡ SHORT → (length m < 12) × (new ≡ message_position 0)
 form_short m (print.Refused normal.BadHex) answer old new refused answer-is new-is is = absurd (omega (arith, answer-is, is))
-form_short m (print.Refused normal.Short) answer old new refused answer-is new-is is = (short_form m refused, new-is)
-form_short m (print.Refused (normal.Item section index)) answer old new refused answer-is new-is is = absurd (omega (arith, answer-is, is))
-form_short m (print.Refused normal.TooLarge) answer old new refused answer-is new-is is = absurd (omega (arith, answer-is, is))
+form_short m (print.Refused (normal.Short message)) answer old new refused answer-is new-is is = (short_form m refused, new-is)
+form_short m (print.Refused (normal.Item message section index)) answer old new refused answer-is new-is is = absurd (omega (arith, answer-is, is))
+form_short m (print.Refused (normal.Own TooLarge)) answer old new refused answer-is new-is is = absurd (omega (arith, answer-is, is))
 form_short m print.Memory answer old new refused answer-is new-is is = absurd (omega (arith, answer-is, is))
 
-pub form_item : (m : List ℕ) (error : PrintError Refusal) (answer : ℕ) (old new : ItemPosition) → RefusesFor (reading_refusal form_refusal (message_reading m)) error → answer ≡ form_answer error → new ≡ form_position error old
+pub form_item : (m : List ℕ) (error : PrintError NormalRefusal) (answer : ℕ) (old new : ItemPosition) → RefusesFor (reading_refusal (record {}) form_refusal (message_reading m)) error → answer ≡ form_answer error → new ≡ form_position error old
     → answer ≡ ITEM → BadAt m new.section new.index × (new.message ≡ 0)
 form_item m (print.Refused normal.BadHex) answer old new refused answer-is new-is is = absurd (omega (arith, answer-is, is))
-form_item m (print.Refused normal.Short) answer old new refused answer-is new-is is = absurd (omega (arith, answer-is, is))
-form_item m (print.Refused (normal.Item section index)) answer old new refused answer-is new-is is =
+form_item m (print.Refused (normal.Short message)) answer old new refused answer-is new-is is = absurd (omega (arith, answer-is, is))
+form_item m (print.Refused (normal.Item message section index)) answer old new refused answer-is new-is is =
     let section-is : new.section ≡ section = ap (λ (p : ItemPosition). p.section) new-is in
     let index-is : new.index ≡ index = ap (λ (p : ItemPosition). p.index) new-is in
     (rw (section-is, index-is) (bad_form m section index refused), ap (λ (p : ItemPosition). p.message) new-is)
-form_item m (print.Refused normal.TooLarge) answer old new refused answer-is new-is is = absurd (omega (arith, answer-is, is))
+form_item m (print.Refused (normal.Own TooLarge)) answer old new refused answer-is new-is is = absurd (omega (arith, answer-is, is))
 form_item m print.Memory answer old new refused answer-is new-is is = absurd (omega (arith, answer-is, is))

@@ -2,10 +2,11 @@
 use Rattle.std.specs.Prelude.{ℕ}
 use Rattle.dns_message.specs.declared.canon_error.CanonError.{CanonError}
 use Rattle.dns_message.specs.declared.canon_error.CanonError.TheVariants as canon
-use Rattle.dns_normal.specs.declared.refusal.Refusal.{Refusal}
-use Rattle.dns_normal.specs.declared.refusal.Refusal.TheVariants as normal
-use Rattle.dns_text.specs.declared.outcome.PrintError.{PrintError}
-use Rattle.dns_text.specs.declared.outcome.PrintError.TheVariants as print
+use Rattle.dns_command.specs.declared.refusal.Refusal.TheVariants as normal
+use Rattle.dns_normal.specs.Texts.{NormalRefusal}
+use Rattle.dns_normal.specs.declared.refusal.NormalReason.TheVariants.{TooLarge}
+use Rattle.dns_command.specs.declared.outcome.PrintError.{PrintError}
+use Rattle.dns_command.specs.declared.outcome.PrintError.TheVariants as print
 use Rattle.nelgvasti.specs.declared.answers.TheConstants.{SHORT, ITEM, USAGE, MEMORY, TOO_LARGE}
 use Rattle.nelgvasti.specs.declared.item_position.ItemPosition.{ItemPosition}
 
@@ -28,16 +29,16 @@ position_of canon.Memory message old = old
 
 -- ---- normal forms
 
-abbrev pub form_answer : PrintError Refusal → ℕ
+abbrev pub form_answer : PrintError NormalRefusal → ℕ
 form_answer (print.Refused normal.BadHex) = USAGE
-form_answer (print.Refused normal.Short) = SHORT
-form_answer (print.Refused (normal.Item section index)) = ITEM
-form_answer (print.Refused normal.TooLarge) = TOO_LARGE
+form_answer (print.Refused (normal.Short message)) = SHORT
+form_answer (print.Refused (normal.Item message section index)) = ITEM
+form_answer (print.Refused (normal.Own TooLarge)) = TOO_LARGE
 form_answer print.Memory = MEMORY
 
-abbrev pub form_position : PrintError Refusal → ItemPosition → ItemPosition
+abbrev pub form_position : PrintError NormalRefusal → ItemPosition → ItemPosition
 form_position (print.Refused normal.BadHex) old = old
-form_position (print.Refused normal.Short) old = message_position 0
-form_position (print.Refused (normal.Item section index)) old = record { message = 0; section = section; index = index }
-form_position (print.Refused normal.TooLarge) old = old
+form_position (print.Refused (normal.Short message)) old = message_position 0
+form_position (print.Refused (normal.Item message section index)) old = record { message = 0; section = section; index = index }
+form_position (print.Refused (normal.Own TooLarge)) old = old
 form_position print.Memory old = old

@@ -3,10 +3,11 @@ use Rattle.std.specs.Prelude.{◌≡◌, ℕ, ◌-◌, ◌^◌, List, length, ma
 use Rattle.std.specs.List.{concat}
 use Rattle.sha2.specs.Sha512.{sha384}
 use Rattle.dns_wire.specs.Octets.{Octets}
-use Rattle.dns_text.specs.declared.outcome.PrintError.{PrintError}
-use Rattle.dns_text.specs.declared.outcome.PrintError.TheVariants as print
-use Rattle.dns_zone.specs.declared.refusal.Refusal.{Refusal}
-use Rattle.dns_zone.specs.declared.refusal.Refusal.TheVariants.{BadHex, Short, Item, NoSoa}
+use Rattle.dns_command.specs.declared.outcome.PrintError.{PrintError}
+use Rattle.dns_command.specs.declared.outcome.PrintError.TheVariants as print
+use Rattle.dns_command.specs.declared.refusal.Refusal.TheVariants.{BadHex, Short, Item, Own}
+use Rattle.dns_zone.specs.Texts.{ZoneRefusal}
+use Rattle.dns_zone.specs.declared.refusal.ZoneReason.TheVariants.{NoSoa}
 use Rattle.nelgvasti.specs.Refused.{message_position}
 use Rattle.nelgvasti.specs.declared.answers.TheConstants.{DONE, SHORT, ITEM, USAGE, MEMORY, NO_SOA}
 use Rattle.nelgvasti.specs.declared.item_position.ItemPosition.{ItemPosition}
@@ -26,20 +27,20 @@ pub record IsDigest (lists : List Octets) (d : ZoneDigest) : Type 0 where
 -- ---- answers
 
 -- the answer to messages that are refused for a reason, or for none
-abbrev pub zone_answer : Option Refusal → ℕ
+abbrev pub zone_answer : Option ZoneRefusal → ℕ
 zone_answer None = DONE
 zone_answer (Some BadHex) = USAGE
 zone_answer (Some (Short message)) = SHORT
 zone_answer (Some (Item message section index)) = ITEM
-zone_answer (Some NoSoa) = NO_SOA
+zone_answer (Some (Own NoSoa)) = NO_SOA
 
-abbrev pub error_answer : PrintError Refusal → ℕ
+abbrev pub error_answer : PrintError ZoneRefusal → ℕ
 error_answer (print.Refused r) = zone_answer (Some r)
 error_answer print.Memory = MEMORY
 
-abbrev pub zone_position : PrintError Refusal → ItemPosition → ItemPosition
+abbrev pub zone_position : PrintError ZoneRefusal → ItemPosition → ItemPosition
 zone_position (print.Refused BadHex) old = old
 zone_position (print.Refused (Short message)) old = message_position message
 zone_position (print.Refused (Item message section index)) old = record { message = message; section = section; index = index }
-zone_position (print.Refused NoSoa) old = old
+zone_position (print.Refused (Own NoSoa)) old = old
 zone_position print.Memory old = old

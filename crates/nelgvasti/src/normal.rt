@@ -12,22 +12,22 @@ ghost use Rattle.nelgvasti.specs.Refused.{form_answer, form_position, message_po
 use crate::answers::{DONE, ITEM, MEMORY, SHORT, TOO_LARGE, TOO_SMALL, USAGE};
 use crate::item_position::ItemPosition;
 use crate::room::put_octets;
+use dns_command::{PrintError, Refusal};
 use dns_message::CanonError;
-use dns_normal::{Refusal, normal_form};
-use dns_text::PrintError;
+use dns_normal::{NormalReason, NormalRefusal, normal_form};
 use std::alloc::Global;
 
 /// The answer to a message that has no normal form. The position is written if the message can't be read.
-fn refuse_form(position: &mut ItemPosition, error: PrintError<Refusal>) -> u32
+fn refuse_form(position: &mut ItemPosition, error: PrintError<NormalRefusal>) -> u32
     ensures answer { result ≡ form_answer error }
     ensures position { position.new ≡ form_position error position.old }
 {
     match error {
-        PrintError::Refused(Refusal::Short) => position.refuse(0, CanonError::Short),
-        PrintError::Refused(Refusal::Item { section, index }) => {
+        PrintError::Refused(Refusal::Short { .. }) => position.refuse(0, CanonError::Short),
+        PrintError::Refused(Refusal::Item { section, index, .. }) => {
             position.refuse(0, CanonError::Item { section, index })
         }
-        PrintError::Refused(Refusal::TooLarge) => TOO_LARGE,
+        PrintError::Refused(Refusal::Own(NormalReason::TooLarge)) => TOO_LARGE,
         PrintError::Refused(Refusal::BadHex) => USAGE,
         PrintError::Memory => MEMORY,
     }

@@ -17,12 +17,12 @@ ghost use Rattle.nelgvasti.specs.Zones.{AreCut, IsDigest, error_answer, zone_ans
 use crate::answers::{DONE, ITEM, MEMORY, NO_SOA, SHORT, USAGE};
 use crate::formats::formats_of;
 use crate::item_position::ItemPosition;
+use dns_command::{PrintError, Refusal};
 use dns_message::CanonError;
 use dns_name::RevNameBuf;
 use dns_record::Formats;
-use dns_text::PrintError;
 use dns_wire::ParseBytes;
-use dns_zone::{Refusal, ZoneDigest as FoundDigest, zone_digest_by};
+use dns_zone::{ZoneDigest as FoundDigest, ZoneReason, ZoneRefusal, zone_digest_by};
 use std::alloc::{AllocError, Global};
 
 /// The most messages of a call, whose numbers are in 32 bits.
@@ -83,7 +83,7 @@ fn cut<'o>(alloc: Global, octets: &'o [u8], lengths: &[usize]) -> Result<Vec<&'o
 }
 
 /// The answer to messages whose zone has no digest. The position is written if a message can't be read.
-fn refuse_zone(position: &mut ItemPosition, error: PrintError<Refusal>) -> u32
+fn refuse_zone(position: &mut ItemPosition, error: PrintError<ZoneRefusal>) -> u32
     ensures answer { result ≡ error_answer error }
     ensures position { position.new ≡ zone_position error position.old }
 {
@@ -98,7 +98,7 @@ fn refuse_zone(position: &mut ItemPosition, error: PrintError<Refusal>) -> u32
                 index,
             },
         ) => position.refuse(message, CanonError::Item { section, index }),
-        PrintError::Refused(Refusal::NoSoa) => NO_SOA,
+        PrintError::Refused(Refusal::Own(ZoneReason::NoSoa)) => NO_SOA,
         PrintError::Refused(Refusal::BadHex) => USAGE,
         PrintError::Memory => MEMORY,
     }

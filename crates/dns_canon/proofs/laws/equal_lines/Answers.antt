@@ -1,6 +1,6 @@
-use Rattle.dns_wire.specs.Hexadecimal.{trim}
-use Rattle.dns_message.proofs.ListTexts.{message_texts}
-use Rattle.dns_wire.proofs.HexadecimalLemmas.{spelled_octets}
+use Rattle.dns_text.specs.Hexadecimal.{trim}
+use Rattle.dns_command.proofs.ListTexts.{message_texts}
+use Rattle.dns_text.proofs.HexadecimalLemmas.{spelled_octets}
 use Rattle.dns_canon.proofs.laws.equal_lines.Goals as goal
 
 pub returns : goal.returns

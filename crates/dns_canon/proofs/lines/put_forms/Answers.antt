@@ -1,6 +1,6 @@
 use Rattle.std.proofs.Common.{◌∙◌, ◌++◌, ap, arith}
 use Rattle.std.proofs.lemmas.Result.{err_from_is_err_and}
-use Rattle.dns_wire.specs.Hexadecimal.{line}
+use Rattle.dns_text.specs.Hexadecimal.{line}
 use Rattle.dns_message.specs.Order.{octets_of_key}
 use Rattle.dns_canon.proofs.HeldLines.{holds_more, holds_one, lines_prefix, lines_put, still_known}
 use Rattle.dns_canon.proofs.lines.put_forms.Goals as goal

@@ -1,7 +1,7 @@
 use Rattle.std.proofs.Common.{◌≡◌, ◌++◌, List, ℕ, map, take, IfSome}
 use Rattle.std.specs.Prelude.{IsSome}
 use Rattle.std.specs.Io.KnownBytes.{Appends}
-use Rattle.dns_wire.specs.Hexadecimal.{lines}
+use Rattle.dns_text.specs.Hexadecimal.{lines}
 use Rattle.dns_message.specs.Order.{octets_of_key}
 use Rattle.dns_canon.proofs.lines.put_forms.Given as goal
 

@@ -1,7 +1,7 @@
 use Rattle.std.proofs.Common.{◌∙◌, List, ap, subst, sym, ℕ}
 use Rattle.std.specs.Result.{IfErr}
 use Rattle.std.proofs.lemmas.Result.{IfOk-weaker}
-use Rattle.dns_text.specs.Outcomes.{RefusesFor}
+use Rattle.dns_command.specs.Outcomes.{RefusesFor}
 use Rattle.dns_denial.specs.Coverage.{coverage_text}
 use Rattle.dns_denial.specs.Texts.{members_refusal, members_text}
 use Rattle.dns_denial.specs.declared.words.DenialCommand.{DenialCommand}

@@ -1,7 +1,7 @@
 use Rattle.std.proofs.Common.{arith, inl, inr, refl, rules, subst, sym, take, ◌∙◌, ◌≡◌, ℕ}
 use Rattle.std.proofs.KnownBytes.{Consumes-kept}
 use Rattle.std.specs.Io.KnownBytes.{Appends}
-use Rattle.dns_wire.specs.Outside.{Rose, WritesPrefix}
+use Rattle.dns_text.specs.Outside.{Rose, WritesPrefix}
 use Rattle.dns_lines.proofs.LineLemmas.{not_none}
 use Rattle.dns_lines.proofs.PieceLemmas.{ended_so_far, piece_read, progress, progress_next, stopped_prefix, stopped_some}
 use Rattle.dns_lines.proofs.RunLemmas.{cause_done, cause_failed, either_front, ends, flushed_after, fronts_after, holds_if_err, holds_if_ok, never_ended, nothing_begun, out_of_memory, pieces_after, puts_done, puts_failed, read_nothing, sink_failed, source_failed}

@@ -1,6 +1,6 @@
 use Rattle.std.proofs.Common.{subst}
 use Rattle.std.specs.Io.KnownBytes.{Appends}
-use Rattle.dns_wire.specs.Outside.{WritesPrefix}
+use Rattle.dns_text.specs.Outside.{WritesPrefix}
 use Rattle.dns_lines.proofs.filter.end_answers.Goals as goal
 
 pub returns-in-Ok-put_text-clause-ended : goal.returns-in-Ok-put_text-clause-ended

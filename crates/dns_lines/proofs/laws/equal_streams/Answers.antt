@@ -1,5 +1,5 @@
 use Rattle.dns_message.proofs.Streamed.{stream_same}
-use Rattle.dns_message.proofs.TextLemmas.{text_well}
+use Rattle.dns_command.proofs.TextLemmas.{text_well}
 use Rattle.dns_lines.proofs.laws.equal_streams.Goals as goal
 
 pub returns : goal.returns

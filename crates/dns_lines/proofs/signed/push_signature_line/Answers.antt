@@ -1,6 +1,6 @@
 use Rattle.std.proofs.Common.{◌++◌, ◌≡◌, ◌∙◌, List, ap, append_assoc, subst, ℕ}
 use Rattle.std.specs.Result.{OnOk}
-use Rattle.dns_wire.specs.Hexadecimal.{line}
+use Rattle.dns_text.specs.Hexadecimal.{line}
 use Rattle.dns_wire.specs.Names.{wire}
 use Rattle.dns_denial.specs.Signed.{signature_field, signed_octets, signer}
 use Rattle.dns_lines.specs.Signatures.{octets_field, signature_line, signature_numbers}

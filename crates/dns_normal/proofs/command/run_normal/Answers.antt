@@ -1,4 +1,4 @@
 use Rattle.dns_normal.proofs.command.run_normal.Goals as goal
 
 pub returns : goal.returns
-returns g c = rw (c.of_outcome.ensures, ← c.command_of.ensures) c.run_command-outcome.ensures
+returns g c = rw (c.from.ensures, ← c.command_of.ensures) c.run_command-outcome.ensures

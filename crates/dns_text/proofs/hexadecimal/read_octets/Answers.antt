@@ -1,5 +1,5 @@
 use Rattle.std.proofs.Common.{ap, sym, ◌∙◌}
-use Rattle.dns_wire.specs.Hexadecimal.{spelled}
+use Rattle.dns_text.specs.Hexadecimal.{spelled}
 use Rattle.dns_text.proofs.Decoding.{odd_spells_none}
 use Rattle.dns_text.proofs.hexadecimal.read_octets.Goals as goal
 

@@ -1,5 +1,5 @@
 use Rattle.std.proofs.Common.{◌≡◌, ◌≤◌, length, take}
-use Rattle.dns_wire.specs.Hexadecimal.{trim}
+use Rattle.dns_text.specs.Hexadecimal.{trim}
 use Rattle.dns_text.proofs.hexadecimal.trimmed.Given as goal
 
 -- only whitespace has been passed

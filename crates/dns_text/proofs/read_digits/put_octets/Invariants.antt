@@ -1,5 +1,5 @@
 use Rattle.std.proofs.Common.{◌≡◌, ◌≤◌, ◌*◌, ◌-◌, length, take, drop}
-use Rattle.dns_wire.specs.Hexadecimal.{spelled}
+use Rattle.dns_text.specs.Hexadecimal.{spelled}
 use Rattle.dns_text.proofs.DigitBlocks.{joined}
 use Rattle.dns_text.proofs.read_digits.put_octets.Given as goal
 

@@ -1,5 +1,5 @@
 use Rattle.std.proofs.Common.{◌≡◌, ◌≤◌, ◌*◌, ◌-◌, length, take, flat_map}
-use Rattle.dns_wire.specs.Hexadecimal.{shown}
+use Rattle.dns_text.specs.Hexadecimal.{shown}
 use Rattle.dns_text.proofs.write_digits.put_digits.Given as goal
 
 abbrev pub invariant-loop-at : goal.invariant-loop-at

@@ -4,9 +4,9 @@ use Rattle.std.proofs.lemmas.Iterator.Consumers.{YieldsList-at, YieldsList-end, 
 use Rattle.std.proofs.lemmas.Iterator.Splits.{YieldsList-from_slice_split}
 use Rattle.std.proofs.lemmas.Result.{err_from_is_err_and}
 use Rattle.std.specs.List.{slice_split}
-use Rattle.dns_text.specs.Outcomes.{RefusesFor}
+use Rattle.dns_command.specs.Outcomes.{RefusesFor}
 use Rattle.dns_text.specs.Spelled.{all_spelled}
-use Rattle.dns_zone.specs.Texts.{lines_of, spelling_refusal}
+use Rattle.dns_zone.specs.Texts.{lines_of, lines_refusal}
 use Rattle.dns_zone.proofs.Lines.{few_lines, line_refused, lines_of_some, not_none, spelled_long, spelled_more}
 use Rattle.dns_zone.proofs.messages.messages_in.Goals as goal
 
@@ -19,7 +19,7 @@ returns-in_err-message_in-clause-refused c =
     c.loop-line.yielded _ c.loop-line.yielded_by _ _ c.in-Some.line c.in-Some.is c.next.ensures.steps in
     let lines = ap lines_of (sym c.trimmed-solid.ensures) ∙ lines_of_some c.trimmed-solid.result.now (not_none (length c.trimmed-solid.result.now) c.is_empty.result c.is_empty.ensures c.if-is_empty.false) in
     rw (p.1, p.2)
-    (subst (λ (l : List (List ℕ)). RefusesFor (spelling_refusal (all_spelled l)) c.in_err-message_in.field-0.0) (sym lines)
+    (subst (λ (l : List (List ℕ)). RefusesFor (lines_refusal (all_spelled l)) c.in_err-message_in.field-0.0) (sym lines)
     (line_refused (slice_split (λ b. b == 10) c.trimmed-solid.result.now) (length c.loop-line.yielded) c.in-Some.line.now c.in_err-message_in.field-0.0 turn.0 turn.1 c.in_err-message_in.ensures.refused))
 
 pub loop-line-preserved : goal.loop-line-preserved

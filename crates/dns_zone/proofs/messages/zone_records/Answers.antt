@@ -7,8 +7,8 @@ use Rattle.dns_message.specs.Refusals.{RefusedByOrMemory}
 use Rattle.dns_message.specs.Several.{AreValidBy, all_records_by}
 use Rattle.dns_message.proofs.SeveralMessages.{valid_more, valid_none}
 use Rattle.dns_record.specs.FurtherFormats.{data_by}
-use Rattle.dns_text.specs.Outcomes.{RefusesFor}
-use Rattle.dns_zone.specs.Texts.{first_refusal_by}
+use Rattle.dns_command.specs.Outcomes.{RefusesFor}
+use Rattle.dns_command.specs.Refusals.{first_refusal_by}
 use Rattle.dns_zone.specs.Zone.{belongs, has_soa}
 use Rattle.dns_zone.proofs.MemberForms.{read_cover_types}
 use Rattle.dns_zone.proofs.ReadSoFar.{all_taken, kept_more, members_more, next_taken, parted_at, refuses_next, soa_more}
@@ -47,7 +47,7 @@ returns-in-Err-clause-refused c =
     let m : Bor (List ℕ) = get_or c.args.messages.now n (record { ref_ptr = (0, 0); now = [] }) in
     let is : m ≡ get_or c.args.messages.now n m = get_or_default c.args.messages.now n _ m c.loop-number-test.true in
     let refused : RefusedByOrMemory reads m.now c.in-Err.error = c.in-Err.ensures.refused in
-    subst (RefusesFor (first_refusal_by reads ms)) (sym c.refused.ensures)
+    subst (RefusesFor (first_refusal_by reads ms)) (sym c.of.ensures)
     (refuses_next reads ms (take n ms) (drop (suc n) ms) m.now c.loop-number.invariant.records n c.in-Err.error
     (parted_at c.args.messages.now (λ m. m.now) n m c.loop-number-test.true is)
     (length-take-le n ms (omega (arith, c.loop-number-test.true, length-map c.args.messages.now (λ m. m.now)))) c.loop-number.invariant.valid refused)

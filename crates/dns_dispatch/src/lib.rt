@@ -1,0 +1,6 @@
+//! The commands of `dnscanon`, all by one call.
+#![tactic(auto)]
+
+mod answer;
+
+pub use answer::{Answer, dispatch};
