@@ -12,7 +12,7 @@ from refusals import Case, Ended
 
 # The crate that is made of calls.rattle in a copy of the repository, and its line in crates.txt there.
 CALLS = "refused_growths"
-USES = "dns_wire dns_num dns_label dns_name dns_record dns_rdata dns_boxed dns_message dns_canon hex serde_json"
+USES = "dns_wire dns_num dns_label dns_name dns_record dns_rdata dns_boxed dns_message dns_text dns_canon hex serde_json"
 
 # More growths than any case has.
 MOST = 100
