@@ -201,7 +201,8 @@ progress() {
 }
 
 # About how many minutes are left: the seconds of the crates that are not proved, at the pace of those that this run has proved. Of a crate
-# at work that says nothing of its progress, the seconds since it began count, up to nine tenths of it.
+# at work that says nothing of its progress, the seconds since it began count, up to nine tenths of it. Crates that stood already make no pace
+# of less than half of what is expected.
 minutes_left() {
     for name in $waiting $running "$program"; do
         began=$(cat "$rooms/$name.began" 2>/dev/null)
@@ -212,7 +213,11 @@ minutes_left() {
             if (share > 0.9) share = 0.9
             left += $1 * (1 - share); spent += $1 * share
         }
-        END { print int(left * (spent > 60 ? passed / spent : 4 / workers) / 60) + 1 }'
+        END {
+            pace = spent > 60 ? passed / spent : 4 / workers
+            if (pace < 2 / workers) pace = 2 / workers
+            print int(left * pace / 60) + 1
+        }'
 }
 
 # A line with the minutes that are left, which do not rise on the way, and the crates at work, and how many functions of each are checked, of how many. On a
