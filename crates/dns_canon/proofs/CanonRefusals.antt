@@ -1,8 +1,6 @@
 -- Why a text is refused.
-use Rattle.std.proofs.Common.{◌≡◌, ℕ, ◌⊎◌, inl, inr, List, [], ◌∷◌, Option, Some, None, refl, sym, ap, ◌∙◌}
-use Rattle.dns_wire.specs.Steps.{◌>>=◌}
-use Rattle.dns_text.specs.Hexadecimal.{Spells, SpellsNothing, spelled, trim}
-use Rattle.dns_text.specs.Spelled.{all_spelled}
+use Rattle.std.proofs.Common.{◌≡◌, ℕ, List, [], ◌∷◌, Option, Some, None, refl, sym, ap, ◌∙◌}
+use Rattle.dns_text.specs.Hexadecimal.{Spells, spelled, trim}
 use Rattle.dns_message.specs.Messages.{Reading, RecordValue, Valid, message_reading}
 use Rattle.dns_message.specs.Refusals.{RefusedOrMemory, first_refused}
 use Rattle.dns_message.specs.declared.canon_error.CanonError.{CanonError}
@@ -10,8 +8,7 @@ use Rattle.dns_message.specs.declared.canon_error.CanonError.TheVariants as cano
 use Rattle.dns_message.proofs.Phrased.{short_reading}
 use Rattle.dns_command.specs.Outcomes.{RefusesFor}
 use Rattle.dns_command.specs.Refusals.{message_error, on_first}
-use Rattle.dns_command.specs.declared.refusal.Refusal.TheVariants as refusal
-use Rattle.dns_canon.specs.ExpectedStatus.{canon_refusal, texts_refusal}
+use Rattle.dns_canon.specs.ExpectedStatus.{canon_refusal}
 use Rattle.dns_canon.specs.Parts.{first_text, second_text}
 use Rattle.dns_canon.specs.Statuses.{CanonRefusal}
 use Rattle.dns_canon.specs.declared.words.Command.TheVariants.{Canon, Same}
@@ -26,9 +23,6 @@ spelled_there text other m octets is octets-is spells = ap spelled (ap trim (sym
 
 -- ---- one message
 
-pub nothing_refused : (t : List ℕ) → SpellsNothing t → canon_refusal Canon t ≡ Some refusal.BadHex
-nothing_refused t nothing = rw nothing refl
-
 on_one : (t m : List ℕ) → Spells t m → canon_refusal Canon t ≡ of_readings (message_reading m ∷ [])
 on_one t m spells = rw spells refl
 
@@ -37,21 +31,7 @@ one_refused t m canon.Short spells few = on_one t m spells ∙ ap (λ r. of_read
 one_refused t m (canon.Item section index) spells (place, (items, is)) = on_one t m spells ∙ ap (λ r. of_readings (r ∷ [])) is
 one_refused t m canon.Memory spells none = tt
 
-pub one_accepted : (t m : List ℕ) (rs : List RecordValue) → Spells t m → Valid m rs → canon_refusal Canon t ≡ None
-one_accepted t m rs spells (items, end, is, are) = on_one t m spells ∙ ap (λ r. of_readings (r ∷ [])) is
-
 -- ---- two messages
-
--- the second text spells nothing
-second_none : (a b : List ℕ) → spelled (trim b) ≡ None → all_spelled (a ∷ b ∷ []) ≡ None
-second_none a b nothing = by (spelled (trim a)) where
-  by : (o : Option (List ℕ)) → (o >>= (λ m. all_spelled (b ∷ []) >>= (λ ms. Some (m ∷ ms)))) ≡ None
-  by None = refl
-  by (Some m) = rw nothing refl
-
-pub one_of_two_nothing : (t : List ℕ) → SpellsNothing (first_text t) ⊎ SpellsNothing (second_text t) → canon_refusal Same t ≡ Some refusal.BadHex
-one_of_two_nothing t (inl nothing) = rw nothing refl
-one_of_two_nothing t (inr nothing) = ap texts_refusal (second_none (first_text t) (second_text t) nothing)
 
 module _ (t m n : List ℕ) (first : Spells (first_text t) m) (second : Spells (second_text t) n) where
   on_both : canon_refusal Same t ≡ of_readings (message_reading m ∷ message_reading n ∷ [])

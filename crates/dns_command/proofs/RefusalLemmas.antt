@@ -1,9 +1,7 @@
 -- Why the message of a text is refused.
-use Rattle.std.proofs.Common.{◌≡◌, ℕ, List, Option, Some, refl, sym, ap, ◌∙◌}
+use Rattle.std.proofs.Common.{◌≡◌, ℕ, List, Option, Some, sym, ap, ◌∙◌}
 use Rattle.dns_wire.specs.Pointers.{name_at}
-use Rattle.dns_text.specs.Hexadecimal.{SpellsNothing, spelled, trim}
-use Rattle.dns_text.specs.declared.error.HexError.{HexError}
-use Rattle.dns_text.specs.declared.error.HexError.TheVariants as hexadecimal
+use Rattle.dns_text.specs.Hexadecimal.{spelled, trim}
 use Rattle.dns_record.specs.Data.{data_in}
 use Rattle.dns_record.specs.FurtherFormats.{DataReading}
 use Rattle.dns_message.specs.Messages.{RecordValue, Valid, ValidBy, message_by, message_reading}
@@ -12,7 +10,7 @@ use Rattle.dns_message.specs.declared.canon_error.CanonError.{CanonError}
 use Rattle.dns_message.specs.declared.canon_error.CanonError.TheVariants as canon
 use Rattle.dns_message.proofs.Phrased.{short_reading_by}
 use Rattle.dns_command.specs.Outcomes.{RefusesFor}
-use Rattle.dns_command.specs.Refusals.{hex_error, message_error, message_refusal, message_refusal_by, reading_refusal, spelling_refusal_by}
+use Rattle.dns_command.specs.Refusals.{message_error, message_refusal, message_refusal_by, reading_refusal, spelling_refusal_by}
 use Rattle.dns_command.specs.Texts.{HasRecords, HasRecordsBy}
 use Rattle.dns_command.specs.declared.refusal.Refusal.{Refusal}
 
@@ -28,11 +26,6 @@ module _ {M R : Type 0} (reads : DataReading) (number : M) (refusal : List Recor
   message_refused t m canon.Short spells few = ap (spelling_refusal_by reads number refusal) spells ∙ reading_refused m canon.Short few
   message_refused t m (canon.Item section index) spells bad = ap (spelling_refusal_by reads number refusal) spells ∙ reading_refused m (canon.Item section index) bad
   message_refused t m canon.Memory spells none = tt
-
-  -- and one that spells nothing
-  pub spelling_refused : (t : List ℕ) (error : HexError) → (error ≡ hexadecimal.BadHex → SpellsNothing t) → RefusesFor (message_refusal_by reads number refusal t) (hex_error error)
-  spelling_refused t hexadecimal.BadHex nothing = ap (spelling_refusal_by reads number refusal) (nothing refl)
-  spelling_refused t hexadecimal.Memory nothing = tt
 
   -- a valid message is refused by its records
   pub valid_refusal_by : (m : List ℕ) (rs : List RecordValue) → ValidBy reads m rs → reading_refusal number refusal (message_by reads m) ≡ refusal rs

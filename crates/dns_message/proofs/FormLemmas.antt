@@ -1,6 +1,6 @@
 -- Canonical forms of records, one after another.
 use Rattle.std.proofs.Common.{◌≡◌, ℕ, zero, suc, ◌+◌, ◌<◌, ◌≤◌, ◌^◌, List, [], ◌∷◌, ◌++◌, Option, Some, None, length, map, take, drop, take_all, flat_map, get_or, append-nil, refl, sym, ap, ap₂, subst, ◌∙◌, arith}
-use Rattle.std.specs.Prelude.{reverse, unwrap_or}
+use Rattle.std.specs.Prelude.{reverse, slice_get, unwrap_or}
 use Rattle.std.specs.Cmp.Lexicographic.{slice_cmp}
 use Rattle.std.specs.Int.{w16, w32, to_be_bytes}
 use Rattle.std.specs.List.Sorted.{IsPermutation, IsSorted}
@@ -189,6 +189,20 @@ next_form ks keys octets spans i d keys_left octets_left so within keys-are octe
       octets_after = (λ j. drop (size j) (octets-are j)) ∙ after_first octets_of_key ks i k inside itself ∙ ap (λ (n : ℕ). flat_map octets_of_key (drop n ks)) next;
     }
 
+-- what is at the front of a list
+pub front_of : (ks : List SortKey) (k : SortKey) → take (0 + 1) ks ≡ take 0 ks ++ k ∷ [] → ks ≡ k ∷ drop 1 ks
+front_of [] k e = absurd cc
+front_of (x ∷ ks) k e = ap (λ (l : List SortKey). l ++ ks) e
+
+-- the span at the front
+pub front_span : (spans : List FormSpan) (s : FormSpan) → Some s ≡ slice_get spans 0 → (0 < length spans) × (s ≡ get_or spans 0 s)
+front_span [] s e = absurd cc
+front_span (x ∷ spans) s e = (omega arith, cc)
+
+-- the first of the forms
+pub first_form : (ks : List SortKey) (keys octets : List ℕ) (spans : List FormSpan) (d : FormSpan) → AreForms ks keys octets spans → 0 < length spans → NextForm ks 0 (get_or spans 0 d) keys octets
+first_form ks keys octets spans d so some = next_form ks keys octets spans 0 d keys octets so some so.0 so.1
+
 -- ---- the order
 
 -- the keys of owners in lowercase are in the order of the owners
@@ -218,6 +232,11 @@ owner_is_name k is =
     let found = unwrap_or (plain_name (octets_of_key k)) ([], []) in
     let labels : found.0 ≡ reverse k.owner = sym (reverse-reverse found.0) ∙ ap (λ (j : SortKey). reverse j.owner) is.2 in
     subst IsName labels (read_name (plain_name (octets_of_key k)) (octets_of_key k) refl)
+
+-- its key has as many octets
+pub key_short : (k : SortKey) → IsForm k → length (form_owner_key k) ≤ 255
+key_short k is =
+    omega (arith, ap (λ (l : List (List ℕ)). length (labels_key ([] ∷ l))) (sym (reverse-reverse k.owner)) ∙ owner_size (reverse k.owner), (owner_is_name k is).size)
 
 -- the owner's octets come first, as many as its key has
 pub owner_leads : (k : SortKey) (octets owner_key : List ℕ) → octets ≡ octets_of_key k → owner_key ≡ form_owner_key k

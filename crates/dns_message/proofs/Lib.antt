@@ -19,6 +19,7 @@ pub mod Ordering
 pub mod LastOwners
 pub mod OwnerFirst
 pub mod OwnerKeyLemmas
+pub mod OwnerOfKeyLemmas
 pub mod Parsed
 pub mod PartsAdded
 pub mod Phrased

@@ -42,7 +42,8 @@ octet_lowered x = elim (cases_lt x 65) [
   | inr many ↦ high (to_ascii_lowercase x) (omega (arith, past_capitals x many)) ∙ lowercase-lowercase x ∙ sym (high x many)
 ]
 
-some : (x : ℕ) → 0 < key_octet x
+-- no octet of a key is 0
+pub some : (x : ℕ) → 0 < key_octet x
 some x = elim (cases_lt x 65) [
   | inl few ↦ omega (arith, low x few)
   | inr many ↦ omega (arith, high x many, past_capitals x many)

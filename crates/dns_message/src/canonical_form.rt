@@ -5,7 +5,7 @@ ghost use Rattle.std.proofs.Common.{rules};
 ghost use Rattle.std.specs.Cmp.{partial_order_from_own_ties};
 ghost use Rattle.std.specs.Cmp.Rules.{comparing};
 ghost use Rattle.std.specs.Ordering.{as_partial_cmp, eq_by_cmp};
-ghost use Rattle.dns_wire.specs.Names.{lowered, name_labels, plain_name};
+ghost use Rattle.dns_wire.specs.Names.{IsName, lowered, name_labels, plain_name};
 ghost use Rattle.dns_wire.specs.Reading.{Gives};
 ghost use Rattle.dns_record.specs.Data.{data_as};
 ghost use Rattle.dns_record.specs.Fields.{named_by};
@@ -62,9 +62,12 @@ impl<'f> CanonicalForm<'f> {
         }
     }
 
-    /// The key of the owner.
-    pub(crate) fn owner_key(&self) -> &'f [u8]
+    /// The key of the owner, whose order as octets is the order of owners (RFC 4034 section 6.1): its labels from the root on, each after a 0, in
+    /// lowercase, and with octets below `A` one higher. It has at most 255 octets.
+    pub fn owner_key(&self) -> &'f [u8]
         ensures key { result.now ≡ form_owner_key self.now }
+        ensures short { length result.now ≤ 255 }
+        ensures name { IsName (reverse self.now.owner) }
         ensures lowercase { lowered self.now.owner ≡ self.now.owner }
     {
         self.owner_key

@@ -1,19 +1,21 @@
 //! Records as their canonical octets, one after another.
 
-ghost use Rattle.std.specs.Prelude.{◌≡◌, ◌≤◌, ◌<◌, ◌+◌, ◌^◌, ◌↔◌, [], ◌∷◌, ◌++◌, List, IfOk, IsTrue, OnErr, OnOk, drop, length, map};
+ghost use Rattle.std.specs.Prelude.{◌≡◌, ◌≤◌, ◌<◌, ◌+◌, ◌^◌, ◌↔◌, [], ◌∷◌, ◌++◌, List, IfOk, IsTrue, MatchOption, OnErr, OnOk, drop, length, map};
 ghost use Rattle.std.specs.Int.{w16, w32, to_be_bytes};
 ghost use Rattle.dns_name.specs.Order.{key};
 ghost use Rattle.dns_record.specs.Records.{octets_of_parts};
 ghost use Rattle.dns_message.specs.Canonical.{canonical_wire};
 ghost use Rattle.dns_message.specs.Forms.{AreForms, forms_in};
 ghost use Rattle.dns_message.specs.Messages.{RecordValue};
-ghost use Rattle.dns_message.specs.Order.{sort_key, octets_of_key, collapsed};
+ghost use Rattle.dns_message.specs.Order.{SortKey, sort_key, octets_of_key, collapsed};
 
 use crate::canonical_form::CanonicalForm;
 use crate::canonical_list::CanonicalList;
 use crate::canonical_owner::CanonicalOwner;
 use crate::form_order::sorted;
 use crate::form_span::FormSpan;
+use crate::last_owner::LastOwner;
+use dns_name::NameBuf;
 use dns_record::{RClass, RType, TTL};
 use std::alloc::{AllocError, Global};
 use std::marker::Model;
@@ -151,6 +153,47 @@ impl CanonicalForms {
         self.octets.extend_from_slice(first).unwrap();
         self.octets.extend_from_slice(last).unwrap();
         Ok(())
+    }
+
+    /// Takes all forms away, and keeps their memory.
+    pub fn clear(&mut self)
+        ensures { self.new ≡ [] }
+    {
+        self.owner_keys.clear();
+        self.octets.clear();
+        self.spans.clear();
+    }
+
+    /// Puts the form of a record with this owner, in lowercase, and with these type, class, TTL and canonical octets of its data after these.
+    /// `AllocError` is out of memory. The condition is that the data are at most 65,535 octets.
+    pub fn push_parts(
+        &mut self,
+        owner: &NameBuf,
+        rtype: RType,
+        rclass: RClass,
+        ttl: TTL,
+        rdata: &[u8],
+    ) -> Result<(), AllocError>
+        requires { length rdata.now < 2 ^ 16 }
+        ensures { OnOk result (self.new ≡ self.old ++ record { owner = key owner.now; class = rclass.code.value; rtype = rtype.code.value; octets = rdata.now; ttl = ttl.value.value } ∷ []) }
+    {
+        let owner = LastOwner::of(owner);
+        let first = numbers(rtype, rclass, ttl, rdata.len() as u16);
+        self.push_canonical(owner.owner(), rtype, rclass, ttl, &first, rdata)
+    }
+
+    /// The first of the forms; `None` if there are none.
+    pub fn first(&self) -> Option<CanonicalForm<'_>>
+        ensures { MatchOption result (self.now ≡ []) (λ form. (more : List SortKey) × (self.now ≡ form ∷ more)) }
+    {
+        let span = self.spans.first()?;
+        Some(CanonicalForm {
+            owner_key: &self.owner_keys[..span.owner_size],
+            octets: &self.octets[..span.size],
+            class: span.class,
+            rtype: span.rtype,
+            ttl: span.ttl,
+        })
     }
 
     /// The number of forms.

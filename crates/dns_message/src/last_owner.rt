@@ -7,7 +7,8 @@ ghost use Rattle.dns_message.specs.Owners.{HasOwner, IsRepeated, ReadsOwner, Was
 
 use crate::canonical_owner::CanonicalOwner;
 use crate::name_reader::NameReader;
-use dns_name::Name;
+use crate::owner_key::put_owner_key;
+use dns_name::{CanonicalName, Name, NameBuf};
 use std::alloc::{AllocError, Global};
 
 /// The canonical octets and the key of the owner that was read last, and the place where it was read. Owners often repeat that of the record
@@ -32,6 +33,24 @@ impl LastOwner {
             size: 0,
             octets: [0; Name::MAX_SIZE],
             key: [0; Name::MAX_SIZE],
+        }
+    }
+
+    /// A name that was read at no place.
+    pub(crate) fn of(name: &NameBuf) -> LastOwner
+        ensures { HasOwner result name.now }
+    {
+        let size = name.composed_size();
+        let mut octets = [0; Name::MAX_SIZE];
+        name.build_lowercased_at(&mut octets, 0).unwrap();
+        let mut key = [0; Name::MAX_SIZE];
+        put_owner_key(&octets[..size], &mut key);
+        LastOwner {
+            start: 0,
+            end: 0,
+            size,
+            octets,
+            key,
         }
     }
 

@@ -54,6 +54,7 @@ pub use laws::{
     records_that_are_read_are_well_formed, same_formats, same_records, three_kinds_of_messages,
 };
 pub use message::{MAX_MESSAGE_SIZE, Message};
+pub use owner_key::owner_of_key;
 pub use parser::{ItemPosition, MessageParser};
 pub use push_laws::{lists_of_pushes_are_read, results_of_pushes};
 pub use read_again::{

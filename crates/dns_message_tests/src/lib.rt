@@ -21,6 +21,8 @@ mod message_builder;
 #[cfg(test)]
 mod message_parser;
 #[cfg(test)]
+mod owner_keys;
+#[cfg(test)]
 mod rdata_by_type;
 #[cfg(test)]
 mod record_data;

@@ -48,8 +48,3 @@ prefix_after a b c x y h j =
 pub puts_after : (a b c : Option (List ℕ)) (x y : List ℕ) (r : Result (Unit {0}) Failed) → Appends a b x → Puts b c y r → Puts a c (x ++ y) r
 puts_after a b c x y (Ok u) h j = Appends-trans a b c x y h j
 puts_after a b c x y (Err e) h j = prefix_after a b c x y h j
-
--- what was written is a prefix, at `Ok` the whole
-pub prefix_of_puts : (a b : Option (List ℕ)) (x : List ℕ) (r : Result (Unit {0}) Failed) → Puts a b x r → WritesPrefix a b x
-prefix_of_puts a b x (Ok u) h = (length x, omega arith, subst (Appends a b) (sym (take_all (length x) x (omega arith))) h)
-prefix_of_puts a b x (Err e) h = h

@@ -1,7 +1,7 @@
 //! Octets as hexadecimal text (RFC 4648 section 8).
 
-ghost use Rattle.std.specs.Prelude.{◌≡◌, ◌+◌, ◌*◌, ◌++◌, length, IfOk, OnOk, OnErr, IsErrOf};
-ghost use Rattle.dns_text.specs.Hexadecimal.{Spells, SpellsNothing, line, trim, is_whitespace};
+ghost use Rattle.std.specs.Prelude.{◌≡◌, ◌+◌, ◌*◌, ◌++◌, codes, flat_map, length, IfOk, OnOk, OnErr, IsErrOf};
+ghost use Rattle.dns_text.specs.Hexadecimal.{Spells, SpellsNothing, line, shown, trim, is_whitespace};
 
 use crate::buffer::zeros;
 use crate::error::HexError;
@@ -55,6 +55,16 @@ pub fn octets_of(alloc: Global, text: &[u8]) -> Result<Vec<u8>, HexError>
     Ok(octets)
 }
 
+/// Puts the digits of octets in lowercase, and a space, into the text.
+fn put_hex_field(octets: &[u8], text: &mut [u8])
+    requires { length text.old ≡ 2 * length octets.now + 1 }
+    ensures { text.new ≡ flat_map shown octets.now ++ codes " " }
+{
+    let end = 2 * octets.len();
+    put_digits(octets, &mut text[..end]);
+    text[end] = b' ';
+}
+
 /// Puts the digits of octets in lowercase, and LF, into the text.
 pub fn put_hex_line(octets: &[u8], text: &mut [u8])
     requires { length text.old ≡ 2 * length octets.now + 1 }
@@ -73,6 +83,17 @@ pub fn push_hex_line(octets: &[u8], text: &mut Vec<u8>) -> Result<(), AllocError
     let start = text.len();
     text.resize(start.saturating_add(2 * octets.len() + 1), 0)?;
     put_hex_line(octets, &mut text[start..]);
+    Ok(())
+}
+
+/// Adds the digits of octets in lowercase, and a space, to a text. `AllocError` is out of memory, and adds nothing.
+pub fn push_hex_field(octets: &[u8], text: &mut Vec<u8>) -> Result<(), AllocError>
+    ensures added { OnOk result (text.new.items ≡ text.old.items ++ (flat_map shown octets.now ++ codes " ")) }
+    ensures unchanged { OnErr result (text.new.items ≡ text.old.items) }
+{
+    let start = text.len();
+    text.resize(start.saturating_add(2 * octets.len() + 1), 0)?;
+    put_hex_field(octets, &mut text[start..]);
     Ok(())
 }
 

@@ -17,7 +17,9 @@ mod write_digits;
 pub use args::Args;
 pub use buffer::zeros;
 pub use error::{HexError, TextError};
-pub use hexadecimal::{hex_line, octets_of, push_hex_line, put_hex_line, read_octets, trimmed};
+pub use hexadecimal::{
+    hex_line, octets_of, push_hex_field, push_hex_line, put_hex_line, read_octets, trimmed,
+};
 pub use io::adapters::{ReadSource, WriteSink};
 pub use io::memory::{NullSink, PlainSource, TextSink, TextSource};
 pub use io::traits::{Failed, Sink, Source};

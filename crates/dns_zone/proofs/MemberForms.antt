@@ -1,10 +1,10 @@
 -- The tests of membership, of what records are compared by.
 use Rattle.std.proofs.Common.{◌≡◌, ◌==◌, ◌&&◌, ◌||◌, ℕ, Bool, true, false, cond, List, [], ◌∷◌, ◌++◌, filter, map, reverse, refl, sym, ap, ap₂, ◌∙◌}
-use Rattle.std.specs.Prelude.{nat_eq, not, Some}
+use Rattle.std.specs.Prelude.{◌↔◌, nat_eq, not, Some}
 use Rattle.std.specs.Cmp.Lexicographic.{pointwise}
 use Rattle.std.specs.Int.{w16, to_be_bytes}
 use Rattle.std.specs.List.{AllByRecursion, ends_with, starts_with}
-use Rattle.std.proofs.lemmas.Bool.{eqb-true}
+use Rattle.std.proofs.lemmas.Bool.{eq-eqb, eqb-true}
 use Rattle.std.proofs.lemmas.List.{reverse-reverse, take_at}
 use Rattle.std.proofs.lemmas.List.Elements.{All-filter, All-from_recursion, recursion_from_All}
 use Rattle.dns_wire.specs.Names.{lowered}
@@ -23,7 +23,9 @@ use Rattle.dns_message.specs.Messages.{RecordValue, ValidBy}
 use Rattle.dns_message.specs.Order.{sort_key}
 use Rattle.dns_message.proofs.EachRead.{IsReadBy, each_read}
 use Rattle.dns_message.proofs.Whole.{lowered_twice}
-use Rattle.dns_zone.specs.Zone.{belongs, belongs_form, has_soa, has_soa_form, is_apex, is_at_or_below, is_digest_form, is_digest_record, is_soa_form, is_soa_of, labels_eq, signs_zonemd}
+use Rattle.dns_zone.specs.Zone.{IsAtOrBelow, belongs, belongs_form, has_soa, has_soa_form, is_apex, is_at_or_below, is_digest_form, is_digest_record, is_of_zone_form, is_soa_form, is_soa_of, labels_eq, signs_zonemd}
+use Rattle.dns_zone.proofs.Members.{both, both_true}
+use Rattle.dns_zone.proofs.Suffixes.{below_tested}
 
 -- ---- the type that a signature covers
 
@@ -84,6 +86,13 @@ digest_same r covers = by (r.rtype == 46) refl where
 
 pub belongs_same : (apex : List (List ℕ)) (r : RecordValue) → CoversType r → belongs_form apex (sort_key r) ≡ belongs apex r
 belongs_same apex r covers = λ i. r.class == 1 && below_same apex r.owner i && not (apex_same apex r.owner i && digest_same r covers i)
+
+-- in words
+pub of_zone_words : (apex : List (List ℕ)) (r : RecordValue) → (is_of_zone_form apex (sort_key r) ≡ true) ↔ ((r.class ≡ 1) × IsAtOrBelow apex r.owner)
+of_zone_words apex r = (
+  λ e. (let p = both (r.class == 1) (is_at_or_below apex (reverse (key r.owner))) e in (eqb-true r.class 1 p.0, (below_tested apex r.owner).0 (sym (below_same apex r.owner) ∙ p.1))),
+  λ h. both_true (r.class == 1) (is_at_or_below apex (reverse (key r.owner))) (eq-eqb r.class 1 h.0) (below_same apex r.owner ∙ (below_tested apex r.owner).1 h.1),
+)
 
 soa_same : (apex : List (List ℕ)) (r : RecordValue) → is_soa_form apex (sort_key r) ≡ is_soa_of apex r
 soa_same apex r = ap (λ (b : Bool). r.rtype == 6 && r.class == 1 && b) (apex_same apex r.owner)

@@ -78,13 +78,21 @@ has_soa apex rs = list_any (is_soa_of apex) rs
 abbrev pub is_digest_form : SortKey → Bool
 is_digest_form k = k.rtype == zonemd_number || (k.rtype == rrsig_number && starts_with nat_eq k.octets (0 ∷ zonemd_number ∷ []))
 
+-- whether the record is of the zone, one of the zone's own digests or not: of class IN, and at the apex or below it
+abbrev pub is_of_zone_form : Labels → SortKey → Bool
+is_of_zone_form apex k = k.class == internet_number && is_at_or_below apex (reverse k.owner)
+
 -- whether the record is in the zone
 abbrev pub belongs_form : Labels → SortKey → Bool
-belongs_form apex k = k.class == internet_number && is_at_or_below apex (reverse k.owner) && not (is_apex apex (reverse k.owner) && is_digest_form k)
+belongs_form apex k = is_of_zone_form apex k && not (is_apex apex (reverse k.owner) && is_digest_form k)
 
 -- whether it is the SOA record of the apex
 abbrev pub is_soa_form : Labels → SortKey → Bool
 is_soa_form apex k = k.rtype == soa_number && k.class == internet_number && is_apex apex (reverse k.owner)
+
+-- whether it is a ZONEMD record of the apex
+abbrev pub is_zonemd_form : Labels → SortKey → Bool
+is_zonemd_form apex k = k.rtype == zonemd_number && k.class == internet_number && is_apex apex (reverse k.owner)
 
 -- whether one of the records is the apex's SOA
 abbrev pub has_soa_form : Labels → List SortKey → Bool

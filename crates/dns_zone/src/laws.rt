@@ -5,12 +5,13 @@ ghost use Rattle.std.specs.List.{All, Any};
 ghost use Rattle.dns_text.specs.Hexadecimal.{SpellsNothing};
 ghost use Rattle.dns_name.specs.Text.{parsed_name};
 ghost use Rattle.dns_message.specs.Messages.{RecordValue};
+ghost use Rattle.dns_message.specs.Order.{sort_key};
 ghost use Rattle.dns_message.specs.Same.{Same};
 ghost use Rattle.dns_message.specs.WellFormed.{WellFormed};
 ghost use Rattle.dns_message.specs.declared.canon_error.CanonError.TheVariants as canon;
 ghost use Rattle.dns_wire.specs.Octets.{Octets, Labels};
 ghost use Rattle.dns_zone.specs.Texts.{HasRecords, PrintsZone, RefusesMessage, apex_of, outcome_of, texts_in, zone_outcome};
-ghost use Rattle.dns_zone.specs.Zone.{HasSoa, IsInZone, has_soa, in_zone, is_in_zone, stream, zone_text};
+ghost use Rattle.dns_zone.specs.Zone.{HasSoa, IsAtOrBelow, IsInZone, has_soa, in_zone, internet_number, is_in_zone, is_of_zone_form, stream, zone_text};
 ghost use Rattle.dns_zone.specs.declared.refusal.TheConstants.{ZONE_TEXT_LIMIT};
 
 use crate::digest::ZoneDigest;
@@ -21,6 +22,11 @@ use crate::status::ZoneStatus;
 /// apex neither a ZONEMD record nor a signature over one (RFC 8976 section 3.3.1.1).
 pub fn members_in_words()
     ensures { (apex : Labels) (r : RecordValue) → (is_in_zone apex r ≡ true) ↔ IsInZone apex r }
+{}
+
+/// A record is of the zone, one of the zone's own digests or not, exactly if it is of class IN and at the apex or below it.
+pub fn records_of_zones()
+    ensures { (apex : Labels) (r : RecordValue) → (is_of_zone_form apex (sort_key r) ≡ true) ↔ ((r.class ≡ internet_number) × IsAtOrBelow apex r.owner) }
 {}
 
 /// Records have the SOA record of the apex exactly if one of them is.

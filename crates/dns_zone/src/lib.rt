@@ -12,8 +12,9 @@ mod status;
 pub use command::run_zone;
 pub use digest::{ZoneDigest, digest_of, zone_digest, zone_digest_by};
 pub use laws::{
-    apex_soas, equal_statuses, equal_streams, equal_zones, limits, members_in_words, same_zones,
-    words_of_zones, zone_statuses_in_words,
+    apex_soas, equal_statuses, equal_streams, equal_zones, limits, members_in_words,
+    records_of_zones, same_zones, words_of_zones, zone_statuses_in_words,
 };
+pub use member::{belongs, is_of_zone, is_soa_of, is_zonemd_of};
 pub use refusal::{ZONE_TEXT_LIMIT, ZoneReason, ZoneRefusal};
 pub use status::ZoneStatus;

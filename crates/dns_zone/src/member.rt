@@ -1,7 +1,7 @@
 //! Which records are in a zone.
 
 ghost use Rattle.std.specs.Prelude.{◌≡◌, reverse};
-ghost use Rattle.dns_zone.specs.Zone.{belongs_form, has_soa_form, is_apex, is_at_or_below, is_digest_form, is_soa_form};
+ghost use Rattle.dns_zone.specs.Zone.{belongs_form, has_soa_form, is_apex, is_at_or_below, is_digest_form, is_of_zone_form, is_soa_form, is_zonemd_form};
 
 use dns_message::CanonicalForm;
 use dns_name::RevNameBuf;
@@ -44,9 +44,17 @@ fn is_digest_form(form: &CanonicalForm<'_>) -> bool
     rtype == RType::ZONEMD || rtype == RType::RRSIG && form.data().starts_with(&ZONEMD_COVERED)
 }
 
+/// Whether a record of another type than OPT is of the zone of the apex, one of the zone's own digests or not: of class IN, and at the apex or
+/// below it.
+pub fn is_of_zone(form: &CanonicalForm<'_>, apex: &RevNameBuf) -> bool
+    ensures { result ≡ is_of_zone_form apex.now form.now }
+{
+    form.rclass() == RClass::IN && is_at_or_below(&owner_of(form), apex)
+}
+
 /// Whether a record of another type than OPT is in the zone of the apex (RFC 8976 section 3.3.1.1): of class IN, at the apex or below it,
 /// and at the apex neither a ZONEMD record nor a signature over one.
-pub(crate) fn belongs(form: &CanonicalForm<'_>, apex: &RevNameBuf) -> bool
+pub fn belongs(form: &CanonicalForm<'_>, apex: &RevNameBuf) -> bool
     ensures { result ≡ belongs_form apex.now form.now }
 {
     let owner = owner_of(form);
@@ -55,11 +63,18 @@ pub(crate) fn belongs(form: &CanonicalForm<'_>, apex: &RevNameBuf) -> bool
         && !(is_apex(&owner, apex) && is_digest_form(form))
 }
 
-/// Whether a record is the SOA record of the apex.
-fn is_soa_of(form: &CanonicalForm<'_>, apex: &RevNameBuf) -> bool
+/// Whether a record is the SOA record of the apex (RFC 1035 section 3.3.13).
+pub fn is_soa_of(form: &CanonicalForm<'_>, apex: &RevNameBuf) -> bool
     ensures { result ≡ is_soa_form apex.now form.now }
 {
     form.rtype() == RType::SOA && form.rclass() == RClass::IN && is_apex(&owner_of(form), apex)
+}
+
+/// Whether a record is a ZONEMD record of the apex (RFC 8976 section 2).
+pub fn is_zonemd_of(form: &CanonicalForm<'_>, apex: &RevNameBuf) -> bool
+    ensures { result ≡ is_zonemd_form apex.now form.now }
+{
+    form.rtype() == RType::ZONEMD && form.rclass() == RClass::IN && is_apex(&owner_of(form), apex)
 }
 
 /// Whether one of the records is the SOA record of the apex.
