@@ -33,6 +33,25 @@ def answer_of_canon(line):
     return ran.stdout if ran.returncode == 0 else b"! " + ran.stderr
 
 
+def owner_of(key):
+    """The octets of the owner whose key these are."""
+    labels = [bytes(octet - 1 if octet <= 65 else octet for octet in label) for label in key[1:].split(b"\0")[1:]]
+    return b"".join(bytes([len(label)]) + label for label in reversed(labels)) + b"\0"
+
+
+def canonical(text):
+    """The canonical octets of records, a line each, from lines that are sorted as octets; of lines that are equal but for the TTL the first."""
+    found, before = b"", None
+    for line in sorted(text.splitlines()):
+        fields = line.split(b" ")
+        if fields[:3] != before:
+            key, numbers, data, ttl = (bytes.fromhex(field.decode()) for field in fields)
+            octets = owner_of(key) + numbers[2:] + numbers[:2] + ttl + len(data).to_bytes(2, "big") + data
+            found += octets.hex().encode() + b"\n"
+        before = fields[:3]
+    return found
+
+
 def check_samples(report, names):
     text = b"".join(samples.text(name).strip() + b"\n" for name in names)
     forms = b"".join(answer_of_canon(samples.text(name)) for name in names)
@@ -42,6 +61,8 @@ def check_samples(report, names):
         for name in names
     )
     report.add("digests of the samples", f"{len(names)} lines", answers("digest", text) == digests)
+    # Sorted, the lines of a message's records are in canonical order: without alike ones but the first, their octets are what `canon` prints.
+    report.add("records of the samples", f"{len(names)} lines", all(canonical(answers("records", samples.text(name))) == samples.lines(name) for name in names))
     report.add("normal forms of normal forms", f"{len(names)} lines", answers("normal", forms) == forms)
 
 
@@ -61,7 +82,8 @@ def mixed(names, count):
 def check_parts(report, text, word):
     whole = answers(word, text)
     lines = text.splitlines(keepends=True)
-    report.add(f"{word} of {len(lines)} lines", f"{whole.count(10)} answers", whole.count(10) == len(lines))
+    if word != "records":
+        report.add(f"{word} of {len(lines)} lines", f"{whole.count(10)} answers", whole.count(10) == len(lines))
     for count in (2, 3, 7, 50):
         size = -(-len(lines) // count)
         parts = [b"".join(lines[at : at + size]) for at in range(0, len(lines), size)]
@@ -98,7 +120,7 @@ def main():
     names = sorted(path.stem for path in (samples.ROOT / "samples").glob("*.hex"))
     check_samples(report, names)
     check_refusals(report)
-    for word in ("normal", "digest"):
+    for word in ("normal", "digest", "records"):
         check_parts(report, chosen.text.read_bytes() if chosen.text else mixed(names, chosen.lines), word)
     check_devices(report, b"00" * 12 + b"\n")
     sys.exit(report.end())

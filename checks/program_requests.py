@@ -73,6 +73,7 @@ def line_runs():
         ("normal", samples.REPLY, samples.REPLY_NORMAL),
         ("digest", samples.REPLY, samples.REPLY_DIGEST),
         ("signed", samples.SIGNED, b"1 8 1 3 016200 ff " + samples.SIGNED_OCTETS),
+        ("records", samples.REPLY, samples.REPLY_LINES),
     ):
         text = message.strip() + b"\nxyz\n" + message.strip() + b"\n"
         printed = answer + b"! bad hex\n" + answer

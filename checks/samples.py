@@ -69,6 +69,10 @@ REPLY_RECORDS = bytes.fromhex(
     "03777777076578616d706c65036f7267000005000100000e10001103776562076578616d706c65036f726700"
 )
 REPLY_DIGEST = hashlib.sha384(REPLY_RECORDS).hexdigest().encode() + b"\n"
+REPLY_LINES = (
+    b"00006f7267006578616d706c6500777777 00010005 03776562076578616d706c65036f726700 00000e10\n"
+    b"00006f7267006578616d706c6500776562 00010001 c0000201 00000e10\n"
+)
 
 # The hash of `example.` in RFC 5155 appendix A, an NSEC record from `a.` to `c.`, a key whose tag RFC 4034 appendix B gives, and a
 # wildcard's signature with its record and the octets that it is over (RFC 4034 section 3.1.8.1).

@@ -1,5 +1,5 @@
 -- The answers to lines.
-use Rattle.std.proofs.Common.{◌≡◌, ℕ, ◌<◌, ◌≤◌, Bool, cond, List, [], ◌∷◌, ◌++◌, length, length-take, take, take_all, Option, Some, None, refl, sym, ap, subst, ◌∙◌, inl, inr, arith}
+use Rattle.std.proofs.Common.{◌≡◌, ◌≢◌, ℕ, ◌<◌, ◌≤◌, Bool, cond, List, [], ◌∷◌, ◌++◌, length, length-take, take, take_all, Option, Some, None, refl, sym, ap, subst, ◌∙◌, inl, inr, arith}
 use Rattle.std.specs.Option.{option_map}
 use Rattle.std.specs.List.{concat}
 use Rattle.std.proofs.lemmas.Bool.{cases_lt, le-ltb, lt-ltb}
@@ -8,6 +8,8 @@ use Rattle.sha2.specs.Sha512.{sha384}
 use Rattle.dns_text.specs.Hexadecimal.{line}
 use Rattle.dns_command.specs.Notes.{notice_line}
 use Rattle.dns_command.specs.declared.notice.Notice.TheVariants as notice
+use Rattle.dns_wire.specs.Octets.{Labels}
+use Rattle.dns_message.specs.FormsRead.{forms_of}
 use Rattle.dns_message.specs.Messages.{RecordValue}
 use Rattle.dns_message.specs.Order.{canonical_list}
 use Rattle.dns_message.specs.Same.{Same}
@@ -23,9 +25,10 @@ use Rattle.dns_normal.specs.Texts.{NormalRefusal, form_refusal, normal_note, siz
 use Rattle.dns_normal.proofs.NormalForms.{same_normal}
 use Rattle.dns_lines.specs.Answers.{Answers, AreAnswers, IsAnswer, IsAnswerAs, PrintsFor, formats_for, refusal_for, refusal_line}
 use Rattle.dns_lines.specs.Lines.{HasLines, ended}
+use Rattle.dns_lines.specs.Records.{record_lines}
 use Rattle.dns_lines.specs.Signatures.{marked, signature_lines}
 use Rattle.dns_lines.specs.declared.command.LineCommand.{LineCommand}
-use Rattle.dns_lines.specs.declared.command.LineCommand.TheVariants.{Normal, Digest, Signed}
+use Rattle.dns_lines.specs.declared.command.LineCommand.TheVariants.{Normal, Digest, Signed, Records}
 use Rattle.dns_lines.proofs.LineLemmas.{ended_lines, lines_on, one_lines}
 
 -- ---- the answer to a line
@@ -60,18 +63,19 @@ kept_answer command text answer is = elim (cases_lt 131072 (length text)) [
 
 -- ---- one answer
 
--- what is printed for one of two texts with the same records is printed for the other
-same_printed : (command : LineCommand) (t u printed other : List ℕ) (rs ss : List RecordValue) → HasRecordsBy (data_by (formats_for command)) t rs → HasRecordsBy (data_by (formats_for command)) u ss → Same rs ss
+-- what is printed for one of two texts with the same records is printed for the other, unless their lines are in the order of the messages
+same_printed : (command : LineCommand) (t u printed other : List ℕ) (rs ss : List RecordValue) → ((apex : Option Labels) → command ≢ Records apex) → HasRecordsBy (data_by (formats_for command)) t rs → HasRecordsBy (data_by (formats_for command)) u ss → Same rs ss
     → PrintsFor command t printed → PrintsFor command u other → printed ≡ other
-same_printed Normal t u printed other rs ss first second same (rs', has, is) (ss', also, js) =
+same_printed Normal t u printed other rs ss unlike first second same (rs', has, is) (ss', also, js) =
     is ∙ ap (λ (l : List RecordValue). line (normal_form l)) (one_records t rs' rs has first) ∙ ap line (same_normal rs ss (text_well t rs first) (text_well u ss second) same)
     ∙ ap (λ (l : List RecordValue). line (normal_form l)) (one_records u ss ss' second also) ∙ sym js
-same_printed Digest t u printed other rs ss first second same (rs', has, is) (ss', also, js) =
+same_printed Digest t u printed other rs ss unlike first second same (rs', has, is) (ss', also, js) =
     is ∙ ap (λ (l : List RecordValue). line (sha384 (concat (canonical_list l)))) (one_records t rs' rs has first) ∙ ap (λ (l : List (List ℕ)). line (sha384 (concat l))) (canonical_list_from_same rs ss same)
     ∙ ap (λ (l : List RecordValue). line (sha384 (concat (canonical_list l)))) (one_records u ss ss' second also) ∙ sym js
-same_printed Signed t u printed other rs ss first second same (rs', has, is) (ss', also, js) =
+same_printed Signed t u printed other rs ss unlike first second same (rs', has, is) (ss', also, js) =
     is ∙ ap (λ (l : List RecordValue). signature_lines (members l)) (one_records_by (data_by Listed) t rs' rs has first) ∙ ap signature_lines (keys_from_same rs ss same)
     ∙ ap (λ (l : List RecordValue). signature_lines (members l)) (one_records_by (data_by Listed) u ss ss' second also) ∙ sym js
+same_printed (Records apex) t u printed other rs ss unlike first second same is also = absurd (unlike apex refl)
 
 one_printed : (command : LineCommand) (t printed other : List ℕ) → PrintsFor command t printed → PrintsFor command t other → printed ≡ other
 one_printed Normal t printed other (rs, has, is) (ss, also, js) = is ∙ ap (λ (l : List RecordValue). line (normal_form l)) (one_records t rs ss has also) ∙ sym js
@@ -79,6 +83,8 @@ one_printed Digest t printed other (rs, has, is) (ss, also, js) =
     is ∙ ap (λ (l : List RecordValue). line (sha384 (concat (canonical_list l)))) (one_records t rs ss has also) ∙ sym js
 one_printed Signed t printed other (rs, has, is) (ss, also, js) =
     is ∙ ap (λ (l : List RecordValue). signature_lines (members l)) (one_records_by (data_by Listed) t rs ss has also) ∙ sym js
+one_printed (Records apex) t printed other (rs, has, is) (ss, also, js) =
+    is ∙ ap (λ (l : List RecordValue). record_lines apex (forms_of l)) (one_records_by (data_by Listed) t rs ss has also) ∙ sym js
 
 pub one_answer : (command : LineCommand) (text answer other : List ℕ) → IsAnswer command text answer → IsAnswer command text other → answer ≡ other
 one_answer command text answer other is also = on_refusal (refusal_line command text) is also where
@@ -128,24 +134,27 @@ abbrev pub refusal_of : LineCommand → List RecordValue → Option NormalRefusa
 refusal_of Normal rs = form_refusal rs
 refusal_of Digest rs = None
 refusal_of Signed rs = None
+refusal_of (Records apex) rs = None
 
 pub records_refusal : (command : LineCommand) (t : List ℕ) (rs : List RecordValue) → HasRecordsBy (data_by (formats_for command)) t rs → refusal_for command t ≡ refusal_of command rs
 records_refusal Normal t rs has = text_refusal (record {}) form_refusal t rs has
 records_refusal Digest t rs has = text_refusal (record {}) (λ rs. None) t rs has
 records_refusal Signed t rs has = text_refusal_by (data_by Listed) (record {}) (λ rs. None) t rs has
+records_refusal (Records apex) t rs has = text_refusal_by (data_by Listed) (record {}) (λ rs. None) t rs has
 
 same_refusal : (command : LineCommand) (t u : List ℕ) (rs ss : List RecordValue) → HasRecordsBy (data_by (formats_for command)) t rs → HasRecordsBy (data_by (formats_for command)) u ss → Same rs ss → refusal_of command rs ≡ refusal_of command ss
 same_refusal Normal t u rs ss first second same = ap (λ (m : List ℕ). size_refusal m) (same_normal rs ss (text_well t rs first) (text_well u ss second) same)
 same_refusal Digest t u rs ss first second same = refl
 same_refusal Signed t u rs ss first second same = refl
+same_refusal (Records apex) t u rs ss first second same = refl
 
-pub equal_answers : (command : LineCommand) (t u answer reply : List ℕ) (rs ss : List RecordValue) → HasRecordsBy (data_by (formats_for command)) t rs → HasRecordsBy (data_by (formats_for command)) u ss → Same rs ss → length t ≤ 131072 → length u ≤ 131072
+pub equal_answers : (command : LineCommand) (t u answer reply : List ℕ) (rs ss : List RecordValue) → ((apex : Option Labels) → command ≢ Records apex) → HasRecordsBy (data_by (formats_for command)) t rs → HasRecordsBy (data_by (formats_for command)) u ss → Same rs ss → length t ≤ 131072 → length u ≤ 131072
     → IsAnswer command t answer → IsAnswer command u reply → answer ≡ reply
-equal_answers command t u answer reply rs ss first second same short few is also =
+equal_answers command t u answer reply rs ss unlike first second same short few is also =
     let e = short_line command t short ∙ ap (option_map normal_note) (records_refusal command t rs first) in
     let f = short_line command u few ∙ ap (option_map normal_note) (records_refusal command u ss second ∙ sym (same_refusal command t u rs ss first second same)) in
     on_refusal (option_map normal_note (refusal_of command rs)) e f
   where
     on_refusal : (o : Option (List ℕ)) → refusal_line command t ≡ o → refusal_line command u ≡ o → answer ≡ reply
-    on_refusal None e f = same_printed command t u answer reply rs ss first second same (answer_printed command t answer e is) (answer_printed command u reply f also)
+    on_refusal None e f = same_printed command t u answer reply rs ss unlike first second same (answer_printed command t answer e is) (answer_printed command u reply f also)
     on_refusal (Some note) e f = answer_refused command t note answer e is ∙ sym (answer_refused command u note reply f also)

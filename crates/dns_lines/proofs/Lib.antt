@@ -1,5 +1,6 @@
 -- The crate's own lemmas.
 pub mod AnswerLemmas
+pub mod CommandWords
 pub mod LineLemmas
 pub mod PieceLemmas
 pub mod RunLemmas

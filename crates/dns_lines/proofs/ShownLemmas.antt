@@ -1,6 +1,7 @@
 -- Answers are lines, and digits are no marked line.
 use Rattle.std.proofs.Common.{◌≡◌, ◌≢◌, eqb, ℕ, zero, suc, ◌+◌, ◌/◌, ◌%◌, ◌≤◌, Bool, true, false, cond, List, [], ◌∷◌, ◌++◌, length, flat_map, codes, slice_index, nat_lt, Option, Some, None, refl, sym, ap, subst, ◌∙◌, ◌⊎◌, inl, inr, append-nil, append_assoc, arith, decimal, drop, get_or}
 use Rattle.std.specs.Fmt.{digit_glyph, digits, digits_onto}
+use Rattle.std.specs.Int.{w32, to_be_bytes}
 use Rattle.std.specs.Option.{option_map}
 use Rattle.std.specs.List.{All, AllByRecursion, concat, list_any}
 use Rattle.sha2.specs.Sha512.{sha384}
@@ -11,6 +12,9 @@ use Rattle.std.proofs.lemmas.List.Concat.{flat_map-cons}
 use Rattle.dns_text.specs.Hexadecimal.{line, shown, spelled, trim}
 use Rattle.dns_command.specs.Notes.{note_line, notice_line, spaced}
 use Rattle.dns_command.specs.declared.notice.Notice.TheVariants as notice
+use Rattle.dns_wire.specs.Octets.{Labels}
+use Rattle.dns_message.specs.Forms.{form_owner_key}
+use Rattle.dns_message.specs.FormsRead.{forms_of}
 use Rattle.dns_message.specs.Messages.{RecordValue}
 use Rattle.dns_message.specs.Same.{Same}
 use Rattle.dns_command.specs.Texts.{HasRecords}
@@ -28,10 +32,12 @@ use Rattle.dns_normal.proofs.NormalForms.{normal_octets, other_normal}
 use Rattle.dns_normal.proofs.NormalOutcomes.{accepted_size}
 use Rattle.dns_normal.proofs.NormalTexts.{line_back}
 use Rattle.dns_lines.specs.Answers.{IsAnswer, PrintsFor, refusal_for, refusal_line}
+use Rattle.dns_record_lines.specs.RecordLines.{class_and_type, field, record_line}
+use Rattle.dns_lines.specs.Records.{has_line, record_lines, record_part}
 use Rattle.dns_lines.specs.Signatures.{marked, number_field, octets_field, signature_answer, signature_line, signature_numbers, signature_part}
 use Rattle.dns_lines.specs.Lines.{IsLine, ended}
 use Rattle.dns_lines.specs.declared.command.LineCommand.{LineCommand}
-use Rattle.dns_lines.specs.declared.command.LineCommand.TheVariants.{Normal, Digest, Signed}
+use Rattle.dns_lines.specs.declared.command.LineCommand.TheVariants.{Normal, Digest, Signed, Records}
 use Rattle.dns_lines.proofs.LineLemmas.{all_append}
 use Rattle.dns_lines.proofs.AnswerLemmas.{answer_printed, answer_refused, long_line, records_refusal, short_line}
 
@@ -105,10 +111,11 @@ refusal_is_line (Own TooLarge) = note_is_line (codes "too large") [] refl
 
 -- ---- answers
 
-printed_line : (command : LineCommand) (t printed : List ℕ) → command ≢ Signed → PrintsFor command t printed → IsOneLine printed
-printed_line Normal t printed other (rs, has, is) = (flat_map shown (normal_form rs), shown_line (normal_form rs), is)
-printed_line Digest t printed other (rs, has, is) = let octets = sha384 (concat (canonical_list rs)) in (flat_map shown octets, shown_line octets, is)
-printed_line Signed t printed other prints = absurd (other refl)
+printed_line : (command : LineCommand) (t printed : List ℕ) → command ≢ Signed → ((apex : Option Labels) → command ≢ Records apex) → PrintsFor command t printed → IsOneLine printed
+printed_line Normal t printed other unlike (rs, has, is) = (flat_map shown (normal_form rs), shown_line (normal_form rs), is)
+printed_line Digest t printed other unlike (rs, has, is) = let octets = sha384 (concat (canonical_list rs)) in (flat_map shown octets, shown_line octets, is)
+printed_line Signed t printed other unlike prints = absurd (other refl)
+printed_line (Records apex) t printed other unlike prints = absurd (unlike apex refl)
 
 -- an answer is a marked line, or what is printed
 marked_or_printed : (command : LineCommand) (t answer : List ℕ) → IsAnswer command t answer → IsOneLine answer ⊎ PrintsFor command t answer
@@ -120,8 +127,8 @@ marked_or_printed command t answer is = elim (cases_lt 131072 (length t)) [
   on_refusal e None f = inr (answer_printed command t answer (e ∙ ap (option_map normal_note) f) is)
   on_refusal e (Some r) f = inl (subst IsOneLine (sym (answer_refused command t (normal_note r) answer (e ∙ ap (option_map normal_note) f) is)) (refusal_is_line r))
 
-pub answer_is_line : (command : LineCommand) (t answer : List ℕ) → command ≢ Signed → IsAnswer command t answer → IsOneLine answer
-answer_is_line command t answer other is = elim (marked_or_printed command t answer is) [ inl one ↦ one | inr prints ↦ printed_line command t answer other prints ]
+pub answer_is_line : (command : LineCommand) (t answer : List ℕ) → command ≢ Signed → ((apex : Option Labels) → command ≢ Records apex) → IsAnswer command t answer → IsOneLine answer
+answer_is_line command t answer other unlike is = elim (marked_or_printed command t answer is) [ inl one ↦ one | inr prints ↦ printed_line command t answer other unlike prints ]
 
 -- ---- the lines of signatures
 
@@ -169,10 +176,36 @@ parts_are_lines records [] = ([], tt, refl)
 parts_are_lines records (k ∷ ks) =
     subst AreLines (sym (flat_map-cons (signature_part records) k ks)) (part_before records k (flat_map (signature_part records) ks) (is_signature k) (parts_are_lines records ks))
 
-pub answer_is_lines : (t answer : List ℕ) → IsAnswer Signed t answer → AreLines answer
-answer_is_lines t answer is = elim (marked_or_printed Signed t answer is) [
+-- ---- the lines of records
+
+field_line : (octets rest : List ℕ) → IsLine rest → IsLine (field octets rest)
+field_line octets rest is = both_lines (flat_map shown octets) (32 ∷ rest) (shown_line octets) ((λ e. absurd cc), is)
+
+record_is_line : (k : SortKey) → IsLine (record_line k)
+unfolding record_line
+record_is_line k =
+    field_line (form_owner_key k) _ (field_line (class_and_type k) _ (field_line k.octets _ (shown_line (to_be_bytes w32 k.ttl))))
+
+record_before : (k : SortKey) (rest : List ℕ) (b : Bool) → AreLines rest → AreLines (cond {A = List ℕ} b (ended (record_line k)) [] ++ rest)
+record_before k rest false are = are
+record_before k rest true (shown, are, rest-is) = (record_line k ∷ shown, (record_is_line k, are), ap (λ (l : List ℕ). ended (record_line k) ++ l) rest-is ∙ sym (flat_map-cons ended (record_line k) shown))
+
+records_are_lines : (apex : Option Labels) (ks : List SortKey) → AreLines (record_lines apex ks)
+records_are_lines apex [] = ([], tt, refl)
+records_are_lines apex (k ∷ ks) = subst AreLines (sym (flat_map-cons (record_part apex) k ks)) (record_before k (record_lines apex ks) (has_line apex k) (records_are_lines apex ks))
+
+-- ---- each answer
+
+printed_lines : (command : LineCommand) (t printed : List ℕ) → PrintsFor command t printed → AreLines printed
+printed_lines Normal t printed (rs, has, is) = (flat_map shown (normal_form rs) ∷ [], (shown_line (normal_form rs), tt), is ∙ sym (append-nil (line (normal_form rs))))
+printed_lines Digest t printed (rs, has, is) = let octets = sha384 (concat (canonical_list rs)) in (flat_map shown octets ∷ [], (shown_line octets, tt), is ∙ sym (append-nil (line octets)))
+printed_lines Signed t printed (rs, has, is) = subst AreLines (sym is) (parts_are_lines (members rs) (members rs))
+printed_lines (Records apex) t printed (rs, has, is) = subst AreLines (sym is) (records_are_lines apex (forms_of rs))
+
+pub answer_is_lines : (command : LineCommand) (t answer : List ℕ) → IsAnswer command t answer → AreLines answer
+answer_is_lines command t answer is = elim (marked_or_printed command t answer is) [
   | inl one ↦ (one.0 ∷ [], (one.1, tt), one.2 ∙ sym (append-nil (ended one.0)))
-  | inr prints ↦ subst AreLines (sym prints.2) (parts_are_lines (members prints.0) (members prints.0))
+  | inr prints ↦ printed_lines command t answer prints
 ]
 
 -- ---- equal answers to lines with other records

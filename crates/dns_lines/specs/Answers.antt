@@ -4,9 +4,10 @@ use Rattle.std.specs.List.{concat}
 use Rattle.std.specs.Option.{option_map}
 use Rattle.sha2.specs.Sha512.{sha384}
 use Rattle.dns_text.specs.Hexadecimal.{line}
-use Rattle.dns_wire.specs.Octets.{Octets}
+use Rattle.dns_wire.specs.Octets.{Octets, Labels}
 use Rattle.dns_command.specs.Notes.{notice_line}
 use Rattle.dns_command.specs.declared.notice.Notice.TheVariants.{TooLong}
+use Rattle.dns_message.specs.FormsRead.{forms_of}
 use Rattle.dns_message.specs.Messages.{RecordValue}
 use Rattle.dns_message.specs.Order.{canonical_list}
 use Rattle.dns_command.specs.Texts.{HasRecords, HasRecordsBy}
@@ -17,9 +18,10 @@ use Rattle.dns_denial.specs.Texts.{members}
 use Rattle.dns_command.specs.Refusals.{message_refusal, message_refusal_by}
 use Rattle.dns_normal.specs.Texts.{NormalRefusal, PrintsNormal, normal_note, normal_refusal}
 use Rattle.dns_lines.specs.Lines.{HasLines}
+use Rattle.dns_lines.specs.Records.{record_lines}
 use Rattle.dns_lines.specs.Signatures.{marked, signature_lines}
 use Rattle.dns_lines.specs.declared.command.LineCommand.{LineCommand}
-use Rattle.dns_lines.specs.declared.command.LineCommand.TheVariants.{Normal, Digest, Signed}
+use Rattle.dns_lines.specs.declared.command.LineCommand.TheVariants.{Normal, Digest, Signed, Records}
 use Rattle.dns_lines.specs.declared.line.TheConstants.{LINE_LIMIT}
 
 -- ---- the digest of a message
@@ -32,15 +34,19 @@ digest_refusal text = message_refusal (record {}) (λ rs. None) text
 abbrev pub PrintsDigest : Octets → Octets → Type 0
 PrintsDigest text printed = (rs : List RecordValue) × HasRecords text rs × (printed ≡ line (sha384 (concat (canonical_list rs))))
 
--- ---- the signatures of a message
+-- ---- the signatures and the records of a message
 
--- why the text of a message is refused whose signatures are asked for, by the formats of all types that RFC 4034 section 6.2 lists
-abbrev pub signatures_refusal : Octets → Option NormalRefusal
-signatures_refusal text = message_refusal_by (data_by Listed) (record {}) (λ rs. None) text
+-- why the text of a message is refused whose signatures or records are asked for, by the formats of all types that RFC 4034 section 6.2 lists
+abbrev pub listed_refusal : Octets → Option NormalRefusal
+listed_refusal text = message_refusal_by (data_by Listed) (record {}) (λ rs. None) text
 
 -- what is printed: the lines that answer the signatures among the message's records, in canonical order
 abbrev pub PrintsSignatures : Octets → Octets → Type 0
 PrintsSignatures text printed = (rs : List RecordValue) × HasRecordsBy (data_by Listed) text rs × (printed ≡ signature_lines (members rs))
+
+-- what is printed: the lines of the message's records other than OPT, in the message's order
+abbrev pub PrintsRecords : Option Labels → Octets → Octets → Type 0
+PrintsRecords apex text printed = (rs : List RecordValue) × HasRecordsBy (data_by Listed) text rs × (printed ≡ record_lines apex (forms_of rs))
 
 -- ---- by command
 
@@ -49,18 +55,21 @@ abbrev pub formats_for : LineCommand → Formats
 formats_for Normal = Usual
 formats_for Digest = Usual
 formats_for Signed = Listed
+formats_for (Records apex) = Listed
 
 -- why the text of a message is refused; `None` if a text is printed for it
 abbrev pub refusal_for : LineCommand → Octets → Option NormalRefusal
 refusal_for Normal text = normal_refusal tt text
 refusal_for Digest text = digest_refusal text
-refusal_for Signed text = signatures_refusal text
+refusal_for Signed text = listed_refusal text
+refusal_for (Records apex) text = listed_refusal text
 
 -- what is printed for the text of a message
 abbrev pub PrintsFor : LineCommand → Octets → Octets → Type 0
 PrintsFor Normal text printed = PrintsNormal tt text printed
 PrintsFor Digest text printed = PrintsDigest text printed
 PrintsFor Signed text printed = PrintsSignatures text printed
+PrintsFor (Records apex) text printed = PrintsRecords apex text printed
 
 -- ---- answers
 

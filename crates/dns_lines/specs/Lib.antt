@@ -2,6 +2,7 @@
 pub mod Answers
 pub mod Lines
 pub mod Pieces
+pub mod Records
 pub mod Runs
 pub mod Signatures
 pub mod Words

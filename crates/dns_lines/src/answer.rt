@@ -9,6 +9,7 @@ ghost use Rattle.dns_lines.specs.Signatures.{marked};
 use crate::command::LineCommand;
 use crate::digest::add_digest;
 use crate::line::LINE_LIMIT;
+use crate::records::add_records;
 use crate::signed::add_signed;
 use dns_command::{Notice, PrintError, TextReader};
 use dns_normal::{NormalRefusal, read_normal_form};
@@ -35,20 +36,21 @@ fn add_normal_form(
 /// Adds what the command prints for the message in a line to answers.
 fn add_printed(
     alloc: Global,
-    command: LineCommand,
+    command: &LineCommand,
     reader: &mut TextReader,
     line: &[u8],
     answers: &mut Vec<u8>,
 ) -> Result<(), PrintError<NormalRefusal>>
-    ensures added { OnOk result (AddsPrinted command line.now answers.old.items answers.new.items) }
-    ensures accepted { OnOk result (refusal_for command line.now ≡ None) }
-    ensures refused { IfErr result (RefusesFor (refusal_for command line.now)) }
+    ensures added { OnOk result (AddsPrinted command.now line.now answers.old.items answers.new.items) }
+    ensures accepted { OnOk result (refusal_for command.now line.now ≡ None) }
+    ensures refused { IfErr result (RefusesFor (refusal_for command.now line.now)) }
     ensures unchanged { OnErr result (answers.new.items ≡ answers.old.items) }
 {
     match command {
         LineCommand::Normal => add_normal_form(alloc, reader, line, answers),
         LineCommand::Digest => add_digest(alloc, reader, line, answers),
         LineCommand::Signed => add_signed(alloc, reader, line, answers),
+        LineCommand::Records(apex) => add_records(alloc, reader, line, apex, answers),
     }
 }
 
@@ -68,12 +70,12 @@ pub(crate) fn push_marked(
 /// Adds the answer to a line to others. `AllocError` is out of memory, and adds nothing.
 pub(crate) fn add_answer(
     alloc: Global,
-    command: LineCommand,
+    command: &LineCommand,
     reader: &mut TextReader,
     line: &[u8],
     answers: &mut Vec<u8>,
 ) -> Result<(), AllocError>
-    ensures added { OnOk result (AddsAnswer command line.now answers.old.items answers.new.items) }
+    ensures added { OnOk result (AddsAnswer command.now line.now answers.old.items answers.new.items) }
     ensures unchanged { OnErr result (answers.new.items ≡ answers.old.items) }
 {
     if line.len() > LINE_LIMIT {

@@ -22,7 +22,7 @@ const READ_SIZE: usize = 65_536;
 /// the last LF. `AllocError` is out of memory; the answers to some of the lines are then added.
 fn answer_piece(
     alloc: Global,
-    command: LineCommand,
+    command: &LineCommand,
     reader: &mut TextReader,
     piece: &[u8],
     line: &mut Vec<u8>,
@@ -30,9 +30,9 @@ fn answer_piece(
 ) -> Result<(), AllocError>
     requires { vec_len line.old ≤ KEPT_OCTETS }
     ensures answered { OnOk result ((begun : Octets) → IsLine begun → line.old.items ≡ take KEPT_OCTETS begun
-        → AnswersPiece command (begun ++ piece.now) answers.old.items answers.new.items line.new.items) }
+        → AnswersPiece command.now (begun ++ piece.now) answers.old.items answers.new.items line.new.items) }
     ensures stopped { OnErr result ((begun : Octets) → IsLine begun → line.old.items ≡ take KEPT_OCTETS begun
-        → AnswersFront command (begun ++ piece.now) answers.old.items answers.new.items) }
+        → AnswersFront command.now (begun ++ piece.now) answers.old.items answers.new.items) }
     ensures room { OnOk result (vec_len line.new ≤ KEPT_OCTETS) }
 {
     let mut rest = piece;
@@ -48,11 +48,11 @@ fn answer_piece(
 /// The answer to what comes after the last LF, if that is a line. `AllocError` is out of memory.
 fn last_answer(
     alloc: Global,
-    command: LineCommand,
+    command: &LineCommand,
     reader: &mut TextReader,
     line: &[u8],
 ) -> Result<Vec<u8>, AllocError>
-    ensures { (rest : Octets) → line.now ≡ take KEPT_OCTETS rest → IfOk result (λ answer. IsLastAnswer command rest answer.items) }
+    ensures { (rest : Octets) → line.now ≡ take KEPT_OCTETS rest → IfOk result (λ answer. IsLastAnswer command.now rest answer.items) }
 {
     let mut answer = Vec::new(alloc);
     if line.is_empty() {
@@ -65,12 +65,12 @@ fn last_answer(
 /// Writes the answer to what comes after the last LF, if that is a line.
 fn end_answers<K: Sink>(
     alloc: Global,
-    command: LineCommand,
+    command: &LineCommand,
     reader: &mut TextReader,
     line: &[u8],
     sink: &mut K,
 ) -> LinesStatus
-    ensures ended { (rest : Octets) → line.now ≡ take KEPT_OCTETS rest → EndsWith command rest (K.written sink.old) (K.written sink.new) result }
+    ensures ended { (rest : Octets) → line.now ≡ take KEPT_OCTETS rest → EndsWith command.now rest (K.written sink.old) (K.written sink.new) result }
     ensures write_fault { result ≡ LinesStatus.WriteFault → Rose (K.faults sink.old) (K.faults sink.new) }
     ensures write_steady { (result ≢ LinesStatus.WriteFault) → K.faults sink.new ≡ K.faults sink.old }
     ensures flushed { result ≡ LinesStatus.Done → BecomesFlag (K.is_flushed sink.old) (K.is_flushed sink.new) true }
@@ -88,11 +88,11 @@ fn end_answers<K: Sink>(
 /// Answers each line of the source's text. The answers to the lines that a read has ended are written and flushed before the next read.
 pub(crate) fn answer_lines<S: Source, K: Sink>(
     alloc: Global,
-    command: LineCommand,
+    command: &LineCommand,
     source: &mut S,
     sink: &mut K,
 ) -> LinesStatus
-    ensures { Ended S.Source K.Sink command source.old source.new sink.old sink.new result }
+    ensures { Ended S.Source K.Sink command.now source.old source.new sink.old sink.new result }
 {
     let mut piece = [0u8; READ_SIZE];
     let mut reader = TextReader::new(alloc);

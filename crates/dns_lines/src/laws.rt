@@ -1,8 +1,9 @@
 //! What follows from the definitions.
 
-ghost use Rattle.std.specs.Prelude.{◌≡◌, ◌≢◌, ◌≤◌, ◌↔◌, ◌++◌, ◌∷◌, [], List, Some, codes, flat_map, length, IsTrue};
+ghost use Rattle.std.specs.Prelude.{◌≡◌, ◌≢◌, ◌≤◌, ◌↔◌, ◌++◌, ◌∷◌, [], List, None, Ok, Option, Some, codes, flat_map, length, IsTrue};
 ghost use Rattle.std.specs.List.{AllByRecursion, concat};
-ghost use Rattle.dns_wire.specs.Octets.{Octets};
+ghost use Rattle.dns_wire.specs.Octets.{Labels, Octets};
+ghost use Rattle.dns_name.specs.Text.{parsed_name};
 ghost use Rattle.dns_message.specs.Messages.{RecordValue};
 ghost use Rattle.dns_message.specs.Order.{canonical_list};
 ghost use Rattle.dns_message.specs.Same.{Same};
@@ -36,15 +37,17 @@ pub fn answers_of_parts()
         → Answers command (ended t ++ u) (written ++ other) }
 {}
 
-/// Each answer of `normal` and `digest` is one line, and each of `signed` is some whole lines.
+/// Each answer is some whole lines, and each of `normal` and `digest` is one line.
 pub fn answers_are_lines()
-    ensures one { (command : LineCommand) (line answer : Octets) → command ≢ LineCommand.Signed → IsAnswer command line answer → (shown : Octets) × IsLine shown × (answer ≡ ended shown) }
-    ensures some { (line answer : Octets) → IsAnswer LineCommand.Signed line answer → (shown : List Octets) × AllByRecursion IsLine shown × (answer ≡ flat_map ended shown) }
+    ensures one { (command : LineCommand) (line answer : Octets) → command ≢ LineCommand.Signed → ((apex : Option Labels) → command ≢ LineCommand.Records apex) → IsAnswer command line answer
+        → (shown : Octets) × IsLine shown × (answer ≡ ended shown) }
+    ensures some { (command : LineCommand) (line answer : Octets) → IsAnswer command line answer → (shown : List Octets) × AllByRecursion IsLine shown × (answer ≡ flat_map ended shown) }
 {}
 
-/// Lines with messages that have the same records, by the formats of the command, have equal answers.
+/// Lines with messages that have the same records, by the formats of the command, have equal answers, but for those of `records`, which are in
+/// the order of the message.
 pub fn equal_records()
-    ensures { (command : LineCommand) (line other answer reply : Octets) (rs ss : List RecordValue) → HasRecordsBy (data_by (formats_for command)) line rs → HasRecordsBy (data_by (formats_for command)) other ss → Same rs ss
+    ensures { (command : LineCommand) (line other answer reply : Octets) (rs ss : List RecordValue) → ((apex : Option Labels) → command ≢ LineCommand.Records apex) → HasRecordsBy (data_by (formats_for command)) line rs → HasRecordsBy (data_by (formats_for command)) other ss → Same rs ss
         → length line ≤ LINE_LIMIT → length other ≤ LINE_LIMIT → IsAnswer command line answer → IsAnswer command other reply → answer ≡ reply }
 {}
 
@@ -60,17 +63,19 @@ pub fn equal_streams()
     ensures { (line other : Octets) (rs ss : List RecordValue) → HasRecords line rs → HasRecords other ss → (concat (canonical_list rs) ≡ concat (canonical_list ss)) ↔ Same rs ss }
 {}
 
-/// The words of the commands are `normal`, `digest` or `signed`, alone.
+/// The words of the commands are `normal`, `digest`, `signed` or `records`, alone, or `records` and the text of a name.
 pub fn words_of_lines()
     ensures normal { (words : List Octets) → (command_of words ≡ Some LineCommand.Normal) ↔ (words ≡ codes "normal" ∷ []) }
     ensures digest { (words : List Octets) → (command_of words ≡ Some LineCommand.Digest) ↔ (words ≡ codes "digest" ∷ []) }
     ensures signed { (words : List Octets) → (command_of words ≡ Some LineCommand.Signed) ↔ (words ≡ codes "signed" ∷ []) }
+    ensures records { (words : List Octets) → (command_of words ≡ Some (LineCommand.Records None)) ↔ (words ≡ codes "records" ∷ []) }
+    ensures zone { (words : List Octets) (apex : Labels) → (command_of words ≡ Some (LineCommand.Records (Some apex)))
+        ↔ ((text : Octets) × (words ≡ codes "records" ∷ text ∷ []) × (parsed_name text ≡ Ok apex)) }
 {}
 
-/// Statuses are equal exactly if they are the same, and so are commands.
-pub fn equal_values()
-    ensures status { (a b : _) → IsTrue (⟦<LinesStatus as PartialEq>⟧.eq a b) ↔ (a ≡ b) }
-    ensures command { (a b : _) → IsTrue (⟦<LineCommand as PartialEq>⟧.eq a b) ↔ (a ≡ b) }
+/// Statuses are equal exactly if they are the same.
+pub fn equal_statuses()
+    ensures { (a b : _) → IsTrue (⟦<LinesStatus as PartialEq>⟧.eq a b) ↔ (a ≡ b) }
 {}
 
 /// A line has at most 131,072 octets, unless it is too long.

@@ -1,10 +1,9 @@
 //! The signatures of a message.
 
-ghost use Rattle.std.specs.Prelude.{◌≡◌, ◌≤◌, ◌+◌, ◌*◌, ◌++◌, None, IfOk, IfErr, OnOk, OnErr, codes, flat_map, length};
-ghost use Rattle.dns_text.specs.Hexadecimal.{shown};
+ghost use Rattle.std.specs.Prelude.{◌≡◌, ◌≤◌, ◌++◌, None, IfOk, IfErr, OnOk, OnErr, length};
 ghost use Rattle.dns_command.specs.Outcomes.{RefusesFor};
 ghost use Rattle.dns_denial.specs.Signed.{labels_field};
-ghost use Rattle.dns_lines.specs.Answers.{AddsPrinted, signatures_refusal};
+ghost use Rattle.dns_lines.specs.Answers.{AddsPrinted, listed_refusal};
 ghost use Rattle.dns_lines.specs.Signatures.{number_field, octets_field, signature_answer, signature_line, signature_lines, signature_numbers, signature_part};
 
 use crate::answer::push_marked;
@@ -14,18 +13,8 @@ use dns_denial::{DenialReason, Signature, signed_octets};
 use dns_message::CanonicalForm;
 use dns_normal::NormalRefusal;
 use dns_record::Formats;
-use dns_text::{push_hex_line, put_digits};
+use dns_text::{push_hex_field, push_hex_line};
 use std::alloc::{AllocError, Global};
-
-/// Writes the digits of octets in lowercase, and a space.
-fn put_field(octets: &[u8], text: &mut [u8])
-    requires { length text.old ≡ 2 * length octets.now + 1 }
-    ensures { text.new ≡ flat_map shown octets.now ++ codes " " }
-{
-    let end = 2 * octets.len();
-    put_digits(octets, &mut text[..end]);
-    text[end] = b' ';
-}
 
 /// Adds octets in hexadecimal digits, or `-` if there are none, and a space to a text.
 fn push_octets(octets: &[u8], text: &mut Vec<u8>) -> Result<(), AllocError>
@@ -34,10 +23,7 @@ fn push_octets(octets: &[u8], text: &mut Vec<u8>) -> Result<(), AllocError>
     if octets.is_empty() {
         return text.extend_from_slice(b"- ");
     }
-    let start = text.len();
-    text.resize(start.saturating_add(2 * octets.len() + 1), 0)?;
-    put_field(octets, &mut text[start..]);
-    Ok(())
+    push_hex_field(octets, text)
 }
 
 /// Adds a number in decimal digits, and a space to a text.
@@ -134,8 +120,8 @@ pub(crate) fn add_signed(
     answers: &mut Vec<u8>,
 ) -> Result<(), PrintError<NormalRefusal>>
     ensures added { OnOk result (AddsPrinted LineCommand.Signed line.now answers.old.items answers.new.items) }
-    ensures accepted { OnOk result (signatures_refusal line.now ≡ None) }
-    ensures refused { IfErr result (RefusesFor (signatures_refusal line.now)) }
+    ensures accepted { OnOk result (listed_refusal line.now ≡ None) }
+    ensures refused { IfErr result (RefusesFor (listed_refusal line.now)) }
     ensures unchanged { OnErr result (answers.new.items ≡ answers.old.items) }
 {
     let forms = reader.read_forms_by(alloc, line, OneMessage, Formats::Listed)?;

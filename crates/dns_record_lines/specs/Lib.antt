@@ -1,0 +1,3 @@
+-- What the contracts of lines of records cite.
+pub mod LineFields
+pub mod RecordLines
