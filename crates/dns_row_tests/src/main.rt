@@ -11,6 +11,7 @@ mod hostile;
 mod libraries;
 mod listed;
 mod longer;
+mod sorted;
 mod texts;
 
 use answers::{Faults, SOUND, answer_over, answer_to, show};
@@ -19,6 +20,7 @@ use fields::{Row, number_of, octets_of};
 use libraries::Library;
 use listed::show_listed;
 use longer::{show_classes, show_longer, show_padded, show_types};
+use sorted::show_sorted;
 use std::alloc::Global;
 use std::io::{self, BufRead, BufReader};
 use texts::show_call;
@@ -96,6 +98,7 @@ fn show_row(rt: &impl Print, alloc: Global, row: Row<'_>) -> io::Result<()> {
         "zeros" => show_longer(rt, alloc, row, b'0'),
         "padded" => show_padded(rt, alloc, row),
         "listed" => show_listed(rt, alloc, row),
+        "sorted" => show_sorted(rt, alloc, row),
         "shortest-types" => show_types(rt, alloc, row),
         "shortest-classes" => show_classes(rt, alloc, row),
         "read" | "digits" | "words" => show_call(rt, alloc, row),

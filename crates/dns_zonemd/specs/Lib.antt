@@ -1,0 +1,5 @@
+-- What the contracts of digests over sorted records cite.
+pub mod SortedZone
+pub mod States
+pub mod Sums
+pub mod Verdicts
